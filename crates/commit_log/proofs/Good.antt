@@ -1,0 +1,40 @@
+-- What owning a log or a row by value says of it: the lengths of its arrays and the ranges of its numbers.
+use Prim.Native.Nat.{ℕ, suc, zero, _<_}
+use mathlib.Core.List.{List, [], map, _∷_}
+use mathlib.Core.Path.{_≡_}
+use native.Mathlib.Omega.{arith}
+use denote.Array.{each}
+use denote.Laws.{Is}
+use denote.Shadow.{shadow}
+use denote.Struct.Declared.{row}
+use denote.Struct.Field.{Field}
+use lib.ListN.{getD, length, length-map}
+use mir.Val.{Val}
+use Rattle.commit_log.specs.declared.Log.{Log}
+use Rattle.commit_log.specs.declared.Row.{Row}
+use Rattle.commit_log.proofs.Log.{the-type as log-type}
+use Rattle.commit_log.proofs.Row.{the-field as row-field, the-type as row-type}
+
+-- what each element of an array is known to be, by index
+pub each-at : (F : Field) (P : F .Value → Type 0) → ((x : F .Value) (vs : List Val) → Is (F .row) (F .into x) vs → P x)
+    → (xs : List (F .Value)) (us : List Val) → shadow (each (F .row .Denot) (F .row .own) (map (F .into) xs) us) → (d : F .Value) (i : ℕ)
+    → i < length xs → P (getD xs i d)
+each-at F P one [] us s d i h = absurd (let z : ⊥ = omega arith in z)
+each-at F P one (x ∷ xs) [] s d i h = absurd s
+each-at F P one (x ∷ xs) (u ∷ us) s d zero h = one x (u ∷ []) (s .0)
+each-at F P one (x ∷ xs) (u ∷ us) s d (suc i) h = each-at F P one xs us (s .1) d i (omega arith)
+
+pub votes-length : (r : Row) (vs : List Val) → Is (row row-type) r vs → length (r .votes) ≡ 8
+votes-length r vs g = simp length-map at (g .1 .1 .0 .1 .0 .1)
+
+pub rows-length : (l : Log) (vs : List Val) → Is (row log-type) l vs → length (l .rows) ≡ 32
+rows-length l vs g = simp length-map at (g .1 .1 .0 .1 .0 .1)
+
+pub holders-length : (l : Log) (vs : List Val) → Is (row log-type) l vs → length (l .holders) ≡ 8
+holders-length l vs g = simp length-map at (g .1 .1 .1 .0 .1 .0 .1)
+
+pub past-length : (l : Log) (vs : List Val) → Is (row log-type) l vs → length (l .past) ≡ 8
+past-length l vs g = simp length-map at (g .1 .1 .1 .1 .0 .1 .0 .1)
+
+pub remembered-length : (l : Log) (vs : List Val) → Is (row log-type) l vs → length (l .remembered) ≡ 32
+remembered-length l vs g = simp length-map at (g .1 .1 .1 .1 .1 .1 .0 .1 .0 .1)

@@ -1,0 +1,82 @@
+use borrow.Author.Needs.{needs}
+use mathlib.Core.Path.{_≡_, ap, sym, _∙_}
+use native.Mathlib.Omega.{arith}
+use mathlib.Core.Bool.{false}
+use Prim.Native.Nat.{ℕ, _<_}
+use Rattle.entry.specs.Entry.{outside}
+use Rattle.entry.specs.Refusal.{accepted}
+use Rattle.entry.proofs.InsideLaws.{inside-store, inside-vote}
+use Rattle.commit_log.specs.declared.Log.{Log}
+use Rattle.commit_log.specs.Enter.{answered, refusalOf}
+use Rattle.commit_log.proofs.EnterLaws.{refused-with, vote-entered}
+use Rattle.commit_log.proofs.RefusalLaws.{outside-refused, vote-checked}
+use Rattle.commit_log.proofs.Log.vote_entry.Statement.{statement}
+use Rattle.commit_log.proofs.Log.vote_entry.Tie as tie
+
+inside : (c : tie.Else1) → outside (c .before .before .args .e) ≡ false
+inside c = sym (c .before .outside .ensures) ∙ c .if1 .left
+
+-- the answer is the log's own
+asked : (c : tie.After-vote-refusal) → let a = c .before .before .before .before .before .before .before .args in c .vote-refusal .result ≡ refusalOf (a .t1) (a .e)
+asked c = c .vote-refusal .ensures ∙ sym (vote-checked (c .before .before .before .before .before .before .before .args .t1) (c .before .before .before .before .before .before .before .args .e) (c .before .before .before .before .before .before .before .pre))
+
+outside-requires : tie.Need-outside-requires
+outside-requires c κs = search needs
+
+returns : tie.Need-returns
+returns c = let a = c .before .before .args in refused-with (a .t1) (a .e) 2 (sym (outside-refused (a .t1) (a .e) (sym (c .before .outside .ensures) ∙ c .if1 .taken))) (λ z. omega arith)
+
+cast-by : tie.Need-cast-by
+cast-by c = search needs
+
+cast-tx : tie.Need-cast-tx
+cast-tx c = search needs
+
+mul-row : tie.Need-mul-row
+mul-row c = search needs
+
+element-copy-out-row : tie.Need-element-copy-out-row
+element-copy-out-row c = inside-vote (c .before .before .before .before .args .e) (inside (c .before .before)) (c .before .before .before .before .pre) .tx
+
+element-copy-out-vote-refusal : tie.Need-element-copy-out-vote-refusal
+element-copy-out-vote-refusal c = inside-vote (c .before .before .before .before .before .args .e) (inside (c .before .before .before)) (c .before .before .before .before .before .pre) .by
+
+vote-refusal-requires : tie.Need-vote-refusal-requires
+vote-refusal-requires c κs = search needs
+
+returns-2 : tie.Need-returns-2
+returns-2 c = let a = c .before .before .before .before .before .before .before .before .args in refused-with (a .t1) (a .e) (c .before .vote-refusal .result) (asked (c .before)) (c .if2 .taken)
+
+cast-store : tie.Need-cast-store
+cast-store c = search needs
+
+mul-t11 : tie.Need-mul-t11
+mul-t11 c = search needs
+
+element-set-from-row : tie.Need-element-set-from-row
+element-set-from-row c = inside-store (c .before .before .before .before .before .before .before .before .before .args .e) (inside (c .before .before .before .before .before .before .before))
+
+voted-requires : tie.Need-voted-requires
+voted-requires c κs = inside-vote (c .before .before .before .before .before .before .before .before .before .args .e) (inside (c .before .before .before .before .before .before .before)) (c .before .before .before .before .before .before .before .before .before .pre) .tx
+
+returns-3 : tie.Need-returns-3
+returns-3 c = let a = c .before .before .before .before .before .before .before .before .before .before .args in ap (λ (m : Log). answered m accepted) (c .voted .ensures) ∙ vote-entered (a .t1) (a .e) (c .before .before .before .before .before .before .before .before .before .before .pre) (sym (asked (c .before .before .before)) ∙ c .before .before .if2 .left)
+
+pub vote-entry-spec : {M : Type 1} → statement M
+vote-entry-spec =
+    tie.close
+    (tie.spec
+    outside-requires
+    returns
+    cast-by
+    cast-tx
+    mul-row
+    element-copy-out-row
+    element-copy-out-vote-refusal
+    vote-refusal-requires
+    returns-2
+    cast-store
+    mul-t11
+    element-set-from-row
+    voted-requires
+    returns-3)

@@ -1,0 +1,86 @@
+// Why an entry is refused.
+ghost use mathlib.Core.Path.{_≡_};
+ghost use Rattle.entry.specs.Entry.{takeEntry};
+ghost use Rattle.commit_log.specs.Enter.{refusalOf};
+ghost use Rattle.commit_log.specs.Refusal.{anyClash, holdsAny, voteRefusal};
+use crate::Log;
+use crate::Row;
+use entry::Entry;
+use entry::limits::STORE_PLACES;
+use entry::refusal;
+use entry::sets;
+
+impl Row {
+    // Whether the vote clashes with the list of a kept commit vote.
+    pub fn any_clash(self, e: Entry) -> bool
+        ensures { λ r. ⌜ r ≡ anyClash e (self .votes) ⌝ }
+    {
+        let mut i: usize = 0;
+        while i < STORE_PLACES {
+            let v = self.votes[i];
+            if v.clashes(e) {
+                return true;
+            }
+            i += 1;
+        }
+        false
+    }
+
+    // The answer to a vote on the transaction, where `holder` holds the store in `by`.
+    pub fn vote_refusal(self, holder: u8, e: Entry) -> u8
+        ensures { λ r. ⌜ r ≡ voteRefusal self holder e ⌝ }
+    {
+        if e.outside() {
+            return refusal::OUTSIDE_LIMITS;
+        }
+        if e.ill_formed() {
+            return refusal::ILL_FORMED_VOTE;
+        }
+        if holder != e.process {
+            return refusal::NOT_HOLDER;
+        }
+        if self.any_clash(e) {
+            return refusal::OTHER_LIST;
+        }
+        let store = e.store as usize;
+        let v = self.votes[store];
+        if v.kept {
+            return refusal::KEPT_ALREADY;
+        }
+        refusal::ACCEPTED
+    }
+}
+
+impl Log {
+    // Whether the process holds some store.
+    pub fn holds_any(self, process: u8) -> bool
+        ensures { λ r. ⌜ r ≡ holdsAny (self .holders) process ⌝ }
+    {
+        let mut i: usize = 0;
+        while i < STORE_PLACES {
+            if self.holders[i] == process {
+                return true;
+            }
+            i += 1;
+        }
+        false
+    }
+
+    // The answer to a take.
+    pub fn take_refusal(self, process: u8, store: u8) -> u8
+        ensures { λ r. ⌜ r ≡ refusalOf self (takeEntry process store) ⌝ }
+    {
+        let e = Entry::take_of(process, store);
+        if e.outside() {
+            return refusal::OUTSIDE_LIMITS;
+        }
+        if self.holds_any(process) {
+            return refusal::HOLDS_OR_HELD;
+        }
+        let s = store as usize;
+        if sets::has16(self.past[s], process) {
+            return refusal::HOLDS_OR_HELD;
+        }
+        refusal::ACCEPTED
+    }
+}

@@ -1,0 +1,62 @@
+// Tests of one kept vote.
+ghost use mathlib.Core.Path.{_≡_};
+ghost use mathlib.Core.Bool.{_&&_, _||_, not};
+ghost use Rattle.entry.specs.Bits.{has};
+ghost use Rattle.commit_log.specs.Outcome.{isAbort, isCommit};
+ghost use Rattle.commit_log.specs.Refusal.{clashes};
+use crate::Vote;
+use entry::Entry;
+use entry::sets;
+
+impl Vote {
+    pub fn is_commit(self) -> bool
+        ensures { λ r. ⌜ r ≡ (self .kept && self .commit) ⌝ }
+    {
+        if self.kept {
+            return self.commit;
+        }
+        false
+    }
+
+    pub fn is_abort(self) -> bool
+        ensures { λ r. ⌜ r ≡ (self .kept && not (self .commit)) ⌝ }
+    {
+        if self.kept {
+            return !self.commit;
+        }
+        false
+    }
+
+    // Whether the vote is kept and lists the store.
+    pub fn lists(self, store: u8) -> bool
+        ensures { λ r. ⌜ r ≡ (self .kept && has (self .participants) store) ⌝ }
+    {
+        if self.kept {
+            return sets::has8(self.participants, store);
+        }
+        false
+    }
+
+    // Whether this vote of the store is what the list wants of it.
+    pub fn covers(self, list: u8, store: u8) -> bool
+        ensures { λ r. ⌜ r ≡ (not (has list store) || self .kept && self .commit) ⌝ }
+    {
+        if sets::has8(list, store) {
+            return self.is_commit();
+        }
+        true
+    }
+
+    // Whether this is a kept commit vote with whose list the entry clashes.
+    pub fn clashes(self, e: Entry) -> bool
+        ensures { λ r. ⌜ r ≡ (self .kept && self .commit && clashes e (self .participants)) ⌝ }
+    {
+        if !self.is_commit() {
+            return false;
+        }
+        if e.commit {
+            return self.participants != e.participants;
+        }
+        !sets::within8(e.participants, self.participants)
+    }
+}

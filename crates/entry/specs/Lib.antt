@@ -1,0 +1,4 @@
+pub mod Bits
+pub mod Entry
+pub mod Limits
+pub mod Refusal

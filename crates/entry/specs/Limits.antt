@@ -1,0 +1,22 @@
+-- Document 01, "Numbers in use": the limits of what an entry names. `src/limits.rt` has the same numbers for the code.
+use Prim.Native.Nat.{ℕ, _^_}
+
+-- stores are 0 to 7
+abbrev pub stores : ℕ
+stores = 8
+
+-- transactions are 0 to 31
+abbrev pub transactions : ℕ
+transactions = 32
+
+-- processes are 1 to 15; 0 means no holder
+abbrev pub processes : ℕ
+processes = 15
+
+-- a list is two hexadecimal digits, bit s for store s
+abbrev pub lists : ℕ
+lists = 2 ^ 8
+
+-- an update is 32 bits
+abbrev pub updates : ℕ
+updates = 2 ^ 32

@@ -1,0 +1,96 @@
+-- What is known of an entry that is accepted.
+use Prim.Native.Nat.{ℕ, _<_}
+use mathlib.Core.Path.{_≡_, refl, sym, ap, _∙_}
+use mathlib.Core.Bool.{Bool, true, false, not, _||_, cond}
+use mathlib.Core.Logic.{_≢_}
+use lib.Dec.{eqb, leb, ltb}
+use lib.ListN.{getD}
+use borrow.Author.Tests.{eqb-false, leb-false, not-false}
+use Rattle.entry.specs.declared.Entry.{Entry}
+use Rattle.entry.specs.Bits.{has}
+use Rattle.entry.specs.Entry.{illFormed, noProcess, outside}
+use Rattle.entry.specs.Limits.{lists, processes, stores, transactions, updates}
+use Rattle.entry.specs.Refusal.{accepted, firstRefusal}
+use Rattle.commit_log.specs.declared.Log.{Log}
+use Rattle.commit_log.specs.declared.Row.{Row}
+use Rattle.commit_log.specs.Enter.{refusalOf}
+use Rattle.commit_log.specs.Log.{heldBefore, holderOf, noVote, rowOf}
+use Rattle.commit_log.specs.Refusal.{anyClash, holdsAny, takeChecks, voteChecks}
+use Rattle.log_laws.specs.Answers.{None}
+use Rattle.log_laws.proofs.Answers.{conditions, none-applies}
+use Rattle.log_laws.proofs.Tests.{and-false, neither-left, neither-right}
+
+-- no condition against the take holds
+pub record TakeOk (l : Log) (e : Entry) : Type 0 where
+  pub is-take : e .take ≡ true
+  pub in-limits : outside e ≡ false
+  pub not-held : (holdsAny (l .holders) (e .process) || heldBefore l (e .process) (e .store)) ≡ false
+
+-- no condition against the vote holds
+pub record VoteOk (r : Row) (holder : ℕ) (e : Entry) : Type 0 where
+  pub is-vote : e .take ≡ false
+  pub in-limits : outside e ≡ false
+  pub well-formed : illFormed e ≡ false
+  pub holds : not (eqb holder (e .process)) ≡ false
+  pub no-clash : anyClash e (r .votes) ≡ false
+  pub free : getD (r .votes) (e .store) noVote .kept ≡ false
+
+pub take-refusal : (l : Log) (e : Entry) → e .take ≡ true → refusalOf l e ≡ firstRefusal (takeChecks l e)
+unfolding refusalOf
+take-refusal l e t =
+    ap (λ (b : Bool). firstRefusal (cond b (takeChecks l e) (voteChecks (rowOf l (e .tx)) (holderOf l (e .by)) e))) t
+
+pub vote-refusal : (l : Log) (e : Entry) → e .take ≡ false → refusalOf l e ≡ firstRefusal (voteChecks (rowOf l (e .tx)) (holderOf l (e .by)) e)
+unfolding refusalOf
+vote-refusal l e t =
+    ap (λ (b : Bool). firstRefusal (cond b (takeChecks l e) (voteChecks (rowOf l (e .tx)) (holderOf l (e .by)) e))) t
+
+pub take-ok : (l : Log) (e : Entry) → e .take ≡ true → refusalOf l e ≡ accepted → TakeOk l e
+take-ok l e t h = record { is-take = t; in-limits = n .0; not-held = n .1 .0 }
+  where
+    n : None (conditions (takeChecks l e))
+    n = none-applies (takeChecks l e) refl (sym (take-refusal l e t) ∙ h)
+
+pub vote-ok : (l : Log) (e : Entry) → e .take ≡ false → refusalOf l e ≡ accepted → VoteOk (rowOf l (e .tx)) (holderOf l (e .by)) e
+vote-ok l e t h =
+    record { is-vote = t; in-limits = n .0; well-formed = n .1 .0; holds = n .1 .1 .0; no-clash = n .1 .1 .1 .0; free = n .1 .1 .1 .1 .0 }
+  where
+    n : None (conditions (voteChecks (rowOf l (e .tx)) (holderOf l (e .by)) e))
+    n = none-applies (voteChecks (rowOf l (e .tx)) (holderOf l (e .by)) e) refl (sym (vote-refusal l e t) ∙ h)
+
+-- the limits
+module _ (e : Entry) (h : outside e ≡ false) where
+  small : (noProcess (e .process) || leb stores (e .store)) ≡ false
+  unfolding outside
+  small = neither-left (noProcess (e .process) || leb stores (e .store)) _ h
+
+  pub process-from-1 : e .process ≢ 0
+  process-from-1 =
+      eqb-false (e .process) 0
+      (neither-left (eqb (e .process) 0) (ltb processes (e .process)) (neither-left (noProcess (e .process)) (leb stores (e .store)) small))
+
+  pub store-in : e .store < stores
+  store-in = leb-false stores (e .store) (neither-right (noProcess (e .process)) (leb stores (e .store)) small)
+
+  module _ (t : e .take ≡ false) where
+    large : (leb stores (e .by) || leb transactions (e .tx) || leb lists (e .participants) || leb updates (e .update)) ≡ false
+    unfolding outside
+    large = and-false (not (e .take)) _ (neither-right (noProcess (e .process) || leb stores (e .store)) _ h) (ap not t)
+
+    pub tx-in : e .tx < transactions
+    tx-in =
+        leb-false transactions (e .tx)
+        (neither-right (leb stores (e .by)) (leb transactions (e .tx))
+        (neither-left (leb stores (e .by) || leb transactions (e .tx)) (leb lists (e .participants)) (neither-left _ (leb updates (e .update)) large)))
+
+    pub list-in : e .participants < lists
+    list-in =
+        leb-false lists (e .participants)
+        (neither-right (leb stores (e .by) || leb transactions (e .tx)) (leb lists (e .participants)) (neither-left _ (leb updates (e .update)) large))
+
+-- the vote's list has its store
+pub lists-store : (e : Entry) → illFormed e ≡ false → has (e .participants) (e .store) ≡ true
+unfolding illFormed
+lists-store e h =
+    not-false (has (e .participants) (e .store))
+    (neither-left (not (has (e .participants) (e .store))) (not (has (e .participants) (e .by))) (neither-left _ _ h))

@@ -1,0 +1,43 @@
+-- What an accepted entry leaves in the log.
+use Prim.Native.Nat.{ℕ, _<_}
+use mathlib.Core.Bool.{false, true}
+use mathlib.Core.List.{List}
+use mathlib.Core.Path.{_≡_, ap, refl, sym, _∙_}
+use native.Mathlib.Omega.{arith}
+use lib.ListN.{getD, length, set}
+use lib.Seq.{getD-set-same}
+use Rattle.entry.proofs.InsideLaws.{inside-store, inside-vote}
+use Rattle.entry.specs.declared.Entry.{Entry}
+use Rattle.entry.specs.Refusal.{accepted}
+use Rattle.commit_log.proofs.EnterLaws.{take-entered}
+use Rattle.commit_log.proofs.RefusalLaws.{accepted-inside}
+use Rattle.commit_log.specs.declared.Entered.{Entered}
+use Rattle.commit_log.specs.declared.Log.{Log}
+use Rattle.commit_log.specs.declared.Row.{Row}
+use Rattle.commit_log.specs.declared.Vote.{Vote}
+use Rattle.commit_log.specs.Enter.{enter, refusalOf}
+use Rattle.commit_log.specs.Log.{holderOf, inGroup, keeping, noRow, noVote, rowOf, voteAt, voteOfEntry}
+use Rattle.log_laws.specs.Holders.{AcceptedTakeHolds}
+use Rattle.log_laws.specs.Reached.{reached}
+use Rattle.log_laws.specs.Votes.{AcceptedVoteIsKept}
+use Rattle.log_laws.proofs.Replicated.{holders-length, rows-length, votes-length}
+use Rattle.log_laws.proofs.Steps.{answer-is, groupAfter, vote-entered, voted-rows}
+
+pub vote-is-kept : AcceptedVoteIsKept
+vote-is-kept es e vote ok =
+    let l = reached es in
+    let is : refusalOf l e ≡ accepted = sym (answer-is l e) ∙ ok in
+    let inside = accepted-inside l e is in
+    let r = keeping (rowOf l (e .tx)) e in
+    let tx : e .tx < length (l .rows) = omega (arith, rows-length es, inside-vote e inside vote .tx) in
+    ap (λ (m : Log). voteAt m (e .tx) (e .store)) (vote-entered l e is vote)
+    ∙ ap (λ (rows : List Row). getD (getD rows (e .tx) noRow .votes) (e .store) noVote) (voted-rows l (e .tx) r)
+    ∙ ap (λ (x : Row). getD (x .votes) (e .store) noVote) (getD-set-same (l .rows) (e .tx) (inGroup r (groupAfter l (e .tx) r)) noRow tx)
+    ∙ getD-set-same (rowOf l (e .tx) .votes) (e .store) (voteOfEntry e) noVote (omega (arith, votes-length es (e .tx) (omega (arith, inside-vote e inside vote .tx)), inside-store e inside))
+
+pub take-holds : AcceptedTakeHolds
+take-holds es e take ok =
+    let l = reached es in
+    let is : refusalOf l e ≡ accepted = sym (answer-is l e) ∙ ok in
+    ap (λ (x : Entered). holderOf (x .log) (e .store)) (sym (take-entered l e take is))
+    ∙ getD-set-same (l .holders) (e .store) (e .process) 0 (omega (arith, holders-length es, inside-store e (accepted-inside l e is)))

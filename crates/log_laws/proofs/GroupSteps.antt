@@ -1,0 +1,125 @@
+-- What an entry does to the groups of a log and to what they remember.
+use Prim.Native.Nat.{ℕ, _+_, _-_, _≤_, _<_}
+use mathlib.Core.Path.{_≡_, refl, sym, ap, subst, subst₂, _∙_}
+use mathlib.Core.Bool.{Bool, true, false, cond}
+use mathlib.Core.List.{List}
+use mathlib.Core.Logic.{_≢_, _⊎_, inl, inr, ⊎-elim}
+use native.Mathlib.Omega.{arith}
+use lib.Dec.{eqb}
+use lib.ListN.{getD, length}
+use lib.Seq.{getD-set-other, getD-set-same}
+use borrow.Author.Tests.{eqb-false, ne-eqb}
+use Rattle.entry.specs.declared.Entry.{Entry}
+use Rattle.entry.specs.Limits.{transactions}
+use Rattle.commit_log.specs.declared.Log.{Log}
+use Rattle.commit_log.specs.declared.Row.{Row}
+use Rattle.commit_log.specs.Enter.{enter, voted}
+use Rattle.commit_log.specs.Group.{committing, nextGroup, remembered, runningSet}
+use Rattle.commit_log.specs.Log.{emptyLog, groupOf, holderOf, inGroup, keeping, noRow, rowOf}
+use Rattle.log_laws.proofs.Accepted.{VoteOk, tx-in}
+use Rattle.log_laws.proofs.EmptyRows.{empty-rows}
+use Rattle.log_laws.proofs.Grouping.{Grouping, group-room, grouping-set}
+use Rattle.log_laws.proofs.RowSteps.{no-group}
+use Rattle.log_laws.proofs.Rows.{RowWf, committed}
+use Rattle.log_laws.proofs.Sizes.{Sized}
+use Rattle.log_laws.proofs.Steps.{enter-cases, groupAfter, groupsAfter, joins, voted-groups, voted-remembered, voted-rows}
+use Rattle.log_laws.proofs.Tests.{by-test}
+
+-- an accepted vote, and the row with it
+module _ (l : Log) (e : Entry) (z : Sized l) (rows : (tx : ℕ) → RowWf (rowOf l tx)) (w : Grouping (l .rows) (l .groups))
+    (ok : VoteOk (rowOf l (e .tx)) (holderOf l (e .by)) e) where
+  abbrev after : Row
+  after = keeping (rowOf l (e .tx)) e
+
+  pub in-rows : e .tx < length (l .rows)
+  in-rows = subst (λ (n : ℕ). e .tx < n) (sym (z .rows-size)) (tx-in e (ok .in-limits) (ok .is-vote))
+
+  ungrouped : groupOf l (e .tx) ≡ 0
+  ungrouped = no-group (rowOf l (e .tx)) (holderOf l (e .by)) e (rows (e .tx)) ok
+
+  pub room : l .groups < transactions
+  room = omega (arith, group-room (l .rows) (l .groups) (e .tx) w in-rows ungrouped, z .rows-size)
+
+  -- so a new group has the next number
+  pub next-is : nextGroup l ≡ l .groups + 1
+  next-is = omega (arith, room)
+
+  grown : ((groupsAfter l (e .tx) after ≡ l .groups) × (groupAfter l (e .tx) after ≤ l .groups))
+      ⊎ ((groupsAfter l (e .tx) after ≡ l .groups + 1) × (groupAfter l (e .tx) after ≡ l .groups + 1))
+  grown = split (committed after) (joins l (e .tx) after)
+    where
+      split : (c j : Bool)
+          → ((cond c (cond j (l .groups) (nextGroup l)) (l .groups) ≡ l .groups) × (cond c (cond j (l .groups) (nextGroup l)) (groupOf l (e .tx)) ≤ l .groups))
+          ⊎ ((cond c (cond j (l .groups) (nextGroup l)) (l .groups) ≡ l .groups + 1) × (cond c (cond j (l .groups) (nextGroup l)) (groupOf l (e .tx)) ≡ l .groups + 1))
+      split true true = inl (refl, omega arith)
+      split true false = inr (next-is, next-is)
+      split false j = inl (refl, omega (arith, ungrouped))
+
+  begun : (voted l (e .tx) after .groups ≡ l .groups) ⊎ (voted l (e .tx) after .groups ≡ l .groups + 1)
+  begun =
+      ⊎-elim
+      (λ (g : (groupsAfter l (e .tx) after ≡ l .groups) × (groupAfter l (e .tx) after ≤ l .groups)). inl (voted-groups l (e .tx) after ∙ g .0))
+      (λ g. inr (voted-groups l (e .tx) after ∙ g .0))
+      grown
+
+  pub groups-grow : l .groups ≤ voted l (e .tx) after .groups
+  groups-grow = ⊎-elim (λ (g : voted l (e .tx) after .groups ≡ l .groups). omega arith) (λ g. omega (arith, g)) begun
+
+  -- the row with the vote stands in the log after it
+  pub row-after : rowOf (voted l (e .tx) after) (e .tx) ≡ inGroup after (groupAfter l (e .tx) after)
+  row-after =
+      ap (λ (rs : List Row). getD rs (e .tx) noRow) (voted-rows l (e .tx) after)
+      ∙ getD-set-same (l .rows) (e .tx) (inGroup after (groupAfter l (e .tx) after)) noRow in-rows
+
+  pub grouping-vote : Grouping (voted l (e .tx) after .rows) (voted l (e .tx) after .groups)
+  grouping-vote =
+      subst₂ Grouping (sym (voted-rows l (e .tx) after)) (sym (voted-groups l (e .tx) after))
+      (grouping-set (l .rows) (l .groups) (e .tx) (inGroup after (groupAfter l (e .tx) after)) (groupsAfter l (e .tx) after) w in-rows ungrouped grown)
+
+  -- what a group remembers stays
+  pub remembered-vote : (g : ℕ) → g ≤ l .groups → remembered (voted l (e .tx) after) g ≡ remembered l g
+  unfolding remembered
+  remembered-vote g h = split (eqb g 0) refl
+    where
+      same : g ≢ 0 → getD (voted l (e .tx) after .remembered) (g - 1) 0 ≡ getD (l .remembered) (g - 1) 0
+      same n =
+          ap (λ (xs : List ℕ). getD xs (g - 1) 0) (voted-remembered l (e .tx) after)
+          ∙ by-test (λ (xs : List ℕ). getD xs (g - 1) 0 ≡ getD (l .remembered) (g - 1) 0) (committed after) _ _
+          (λ c. by-test (λ (xs : List ℕ). getD xs (g - 1) 0 ≡ getD (l .remembered) (g - 1) 0) (joins l (e .tx) after) _ _ (λ j. refl)
+          (λ j. getD-set-other (l .remembered) (nextGroup l - 1) (g - 1) (runningSet (l .rows)) 0 (omega (arith, next-is))))
+          (λ c. refl)
+
+      split : (b : Bool) → eqb g 0 ≡ b → cond b 0 (getD (voted l (e .tx) after .remembered) (g - 1) 0) ≡ cond b 0 (getD (l .remembered) (g - 1) 0)
+      split true k = refl
+      split false k = same (eqb-false g 0 k)
+
+  -- a group that is begun remembers the transactions that ran before
+  pub remembered-begun : voted l (e .tx) after .groups ≡ l .groups + 1
+      → remembered (voted l (e .tx) after) (voted l (e .tx) after .groups) ≡ runningSet (l .rows)
+  unfolding voted committing remembered
+  remembered-begun =
+      by-test (λ (x : Log). x .groups ≡ l .groups + 1 → cond (eqb (x .groups) 0) 0 (getD (x .remembered) (x .groups - 1) 0) ≡ runningSet (l .rows)) (committed after) _ _
+      (λ c. by-test (λ (x : Log). x .groups ≡ l .groups + 1 → cond (eqb (x .groups) 0) 0 (getD (x .remembered) (x .groups - 1) 0) ≡ runningSet (l .rows)) (joins l (e .tx) after) _ _
+      (λ j h. absurd (let y : ⊥ = omega arith in y))
+      (λ j h. rw (ne-eqb (nextGroup l) 0 (omega arith))
+      (getD-set-same (l .remembered) (nextGroup l - 1) (runningSet (l .rows)) 0 (omega (arith, next-is, room, z .remembered-size)))))
+      (λ c h. absurd (let y : ⊥ = omega arith in y))
+
+pub grouping-enter : (l : Log) (e : Entry) → Sized l → ((tx : ℕ) → RowWf (rowOf l tx)) → Grouping (l .rows) (l .groups)
+    → Grouping (enter l e .log .rows) (enter l e .log .groups)
+grouping-enter l e z rows w =
+    enter-cases (λ (x : Log). Grouping (x .rows) (x .groups)) l e w (λ ok. w) (λ ok. grouping-vote l e z rows w ok)
+
+-- an entry begins one group or none
+pub one-group : (l : Log) (e : Entry) → Sized l → ((tx : ℕ) → RowWf (rowOf l tx)) → Grouping (l .rows) (l .groups)
+    → (enter l e .log .groups ≡ l .groups) ⊎ (enter l e .log .groups ≡ l .groups + 1)
+one-group l e z rows w =
+    enter-cases (λ (x : Log). (x .groups ≡ l .groups) ⊎ (x .groups ≡ l .groups + 1)) l e (inl refl) (λ ok. inl refl) (λ ok. begun l e z rows w ok)
+
+pub grouping-empty : Grouping (emptyLog .rows) (emptyLog .groups)
+unfolding emptyLog
+grouping-empty = record {
+  group-le = λ tx. empty-rows (λ (r : Row). r .group ≤ 0) tx (omega arith) (omega arith);
+  group-of = λ g n h. absurd (n (omega arith));
+  counted = omega arith;
+}

@@ -1,0 +1,57 @@
+-- The arrays of a log keep their lengths.
+use Prim.Native.Nat.{ℕ, _<_}
+use mathlib.Core.Path.{_≡_, refl, ap, _∙_}
+use mathlib.Core.List.{List}
+use lib.ListN.{getD-replicate, length, length-set, replicate}
+use Rattle.entry.specs.declared.Entry.{Entry}
+use Rattle.entry.specs.Limits.{stores, transactions}
+use Rattle.commit_log.specs.declared.Log.{Log}
+use Rattle.commit_log.specs.declared.Row.{Row}
+use Rattle.commit_log.specs.Enter.{enter}
+use Rattle.commit_log.specs.Log.{emptyLog, keeping, noRow, noVote, rowOf, voteOfEntry}
+use Rattle.log_laws.proofs.Rows.{committed}
+use Rattle.log_laws.proofs.Steps.{enter-cases, joins, row-cases, voted-holders, voted-past, voted-remembered, voted-rows}
+use Rattle.log_laws.proofs.Tests.{by-test}
+
+pub record Sized (l : Log) : Type 0 where
+  pub rows-size : length (l .rows) ≡ transactions
+  pub votes-size : (tx : ℕ) → tx < transactions → length (rowOf l tx .votes) ≡ stores
+  pub holders-size : length (l .holders) ≡ stores
+  pub past-size : length (l .past) ≡ stores
+  pub remembered-size : length (l .remembered) ≡ transactions
+
+pub sized-empty : Sized emptyLog
+unfolding emptyLog
+sized-empty = record {
+  rows-size = refl;
+  votes-size = λ tx h. ap (λ (r : Row). length (r .votes)) (getD-replicate transactions tx (record { votes = replicate stores noVote; group = 0 }) noRow h);
+  holders-size = refl;
+  past-size = refl;
+  remembered-size = refl;
+}
+
+pub sized-enter : (l : Log) (e : Entry) → Sized l → Sized (enter l e .log)
+sized-enter l e w = record {
+  rows-size =
+      enter-cases (λ (x : Log). length (x .rows) ≡ transactions) l e (w .rows-size) (λ ok. w .rows-size)
+      (λ ok. ap length (voted-rows l (e .tx) after) ∙ length-set (l .rows) (e .tx) _ ∙ w .rows-size);
+  votes-size = λ tx h.
+      row-cases (λ (r : Row). length (r .votes) ≡ stores) l e tx (w .votes-size tx h)
+      (λ ok k. length-set (rowOf l tx .votes) (e .store) (voteOfEntry e) ∙ w .votes-size tx h);
+  holders-size =
+      enter-cases (λ (x : Log). length (x .holders) ≡ stores) l e (w .holders-size) (λ ok. length-set (l .holders) (e .store) (e .process) ∙ w .holders-size)
+      (λ ok. ap length (voted-holders l (e .tx) after) ∙ w .holders-size);
+  past-size =
+      enter-cases (λ (x : Log). length (x .past) ≡ stores) l e (w .past-size) (λ ok. length-set (l .past) (e .store) _ ∙ w .past-size)
+      (λ ok. ap length (voted-past l (e .tx) after) ∙ w .past-size);
+  remembered-size =
+      enter-cases (λ (x : Log). length (x .remembered) ≡ transactions) l e (w .remembered-size) (λ ok. w .remembered-size)
+      (λ ok. ap length (voted-remembered l (e .tx) after)
+      ∙ by-test (λ (xs : List ℕ). length xs ≡ transactions) (committed after) _ _
+      (λ c. by-test (λ (xs : List ℕ). length xs ≡ transactions) (joins l (e .tx) after) _ _ (λ j. w .remembered-size)
+      (λ j. length-set (l .remembered) _ _ ∙ w .remembered-size))
+      (λ c. w .remembered-size));
+}
+  where
+    after : Row
+    after = keeping (rowOf l (e .tx)) e

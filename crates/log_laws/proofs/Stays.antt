@@ -1,0 +1,91 @@
+-- What is kept stays: a kept vote, the row of a committed transaction, an outcome that is not open.
+use Prim.Native.Nat.{ℕ}
+use mathlib.Core.Path.{_≡_, refl, sym, ap, _∙_}
+use mathlib.Core.Bool.{true, not}
+use mathlib.Core.List.{List}
+use mathlib.Core.Logic.{_≢_}
+use Rattle.entry.specs.declared.Entry.{Entry}
+use Rattle.commit_log.specs.declared.Log.{Log}
+use Rattle.commit_log.specs.declared.Outcome.{Outcome}
+use Rattle.commit_log.specs.declared.Outcome.the-variants.{Open, Commit, Abort}
+use Rattle.commit_log.specs.declared.Row.{Row}
+use Rattle.commit_log.specs.declared.Vote.{Vote}
+use Rattle.commit_log.specs.Enter.{enter, feed}
+use Rattle.commit_log.specs.Log.{emptyLog, holderOf, rowOf, voteAt}
+use Rattle.commit_log.specs.Outcome.{isAbort, isCommitted, outcomeOf, outcomeOfVotes}
+use Rattle.commit_log.specs.Replay.{voteOfStore}
+use Rattle.log_laws.specs.Reached.{reached}
+use Rattle.log_laws.specs.Votes.{CommitVotesNameOneList, CommittedKeepsNoVote, CommittedRowStays, KeptVoteStays, OutcomeNeverChanges}
+use Rattle.log_laws.proofs.Accepted.{vote-ok}
+use Rattle.log_laws.proofs.Feed.{feed-append, later, wf-reached}
+use Rattle.log_laws.proofs.Outcomes.{aborted-by, aborted-of}
+use Rattle.log_laws.proofs.Rows.{committed-refuses, kept-cases}
+use Rattle.log_laws.proofs.Steps.{answer-is, row-cases}
+use Rattle.log_laws.proofs.Tests.{and-left, both, opposed}
+use Rattle.log_laws.proofs.Wf.{Wf, feed-keeps}
+
+-- this vote is kept there
+abbrev Stands : ℕ → ℕ → Vote → Log → Type 0
+Stands tx s v l = (v .kept ≡ true) × (voteAt l tx s ≡ v)
+
+stands-enter : (tx s : ℕ) (v : Vote) (l : Log) (e : Entry) → Wf l → Stands tx s v l → Stands tx s v (enter l e .log)
+stands-enter tx s v l e w h = (
+  h .0,
+  row-cases (λ (r : Row). voteOfStore s r ≡ v) l e tx (h .1)
+      (λ ok k. kept-cases (λ (x : Vote). x ≡ v) (rowOf l tx) e s
+      (λ m. absurd (opposed (h .0) (ap (λ (x : Vote). x .kept) (sym (h .1) ∙ ap (λ (n : ℕ). voteAt l tx n) m) ∙ ok .free)))
+      (h .1)),
+)
+
+pub vote-stays : KeptVoteStays
+vote-stays es more tx s k = later (Stands tx s (voteAt (reached es) tx s)) (stands-enter tx s (voteAt (reached es) tx s)) es more (k, refl) .1
+
+-- this row is committed
+abbrev Settled : ℕ → Row → Log → Type 0
+Settled tx r l = (isCommitted (outcomeOfVotes (r .votes)) ≡ true) × (rowOf l tx ≡ r)
+
+settled-enter : (tx : ℕ) (r : Row) (l : Log) (e : Entry) → Wf l → Settled tx r l → Settled tx r (enter l e .log)
+settled-enter tx r l e w h = (
+  h .0,
+  row-cases (λ (x : Row). x ≡ r) l e tx (h .1)
+      (λ ok k. absurd (committed-refuses (rowOf l tx) (w .row tx)
+      (ap (λ (x : Row). isCommitted (outcomeOfVotes (x .votes))) (h .1) ∙ h .0) (holderOf l (e .by)) e ok)),
+)
+
+pub row-stays : CommittedRowStays
+row-stays es more tx h = later (Settled tx (rowOf (reached es) tx)) (settled-enter tx (rowOf (reached es) tx)) es more (ap isCommitted h, refl) .1
+
+pub no-vote-kept : CommittedKeepsNoVote
+no-vote-kept es e t h a =
+    committed-refuses (rowOf (reached es) (e .tx)) (wf-reached es .row (e .tx)) (ap isCommitted h) (holderOf (reached es) (e .by)) e (vote-ok (reached es) e t (sym (answer-is (reached es) e) ∙ a))
+
+-- from any log in order, so also from one of a replicated service
+pub decided-stays : (l : Log) (es : List Entry) (tx : ℕ) → Wf l → outcomeOf l tx ≢ Open → outcomeOf (feed l es) tx ≡ outcomeOf l tx
+decided-stays l es tx w n = split (outcomeOf l tx) refl
+  where
+    committed-stays : outcomeOf l tx ≡ Commit → outcomeOf (feed l es) tx ≡ outcomeOf l tx
+    committed-stays h =
+        ap (λ (r : Row). outcomeOfVotes (r .votes))
+        (feed-keeps (Settled tx (rowOf l tx)) (settled-enter tx (rowOf l tx)) l es w (ap isCommitted h, refl) .1)
+
+    aborted-stays : outcomeOf l tx ≡ Abort → outcomeOf (feed l es) tx ≡ outcomeOf l tx
+    aborted-stays h =
+        let a = aborted-of (rowOf l tx .votes) h in
+        let v = voteAt l tx (a .0) in
+        let k = feed-keeps (Stands tx (a .0) v) (stands-enter tx (a .0) v) l es w (and-left (v .kept) (not (v .commit)) (a .2), refl) in
+        aborted-by (rowOf (feed l es) tx .votes) (a .0) (ap (isAbort (a .0)) (k .1) ∙ a .2) ∙ sym h
+
+    split : (o : Outcome) → outcomeOf l tx ≡ o → outcomeOf (feed l es) tx ≡ outcomeOf l tx
+    split Open h = absurd (n h)
+    split Commit h = committed-stays h
+    split Abort h = aborted-stays h
+
+pub outcome-stays : OutcomeNeverChanges
+outcome-stays es more tx h =
+    ap (λ (l : Log). outcomeOf l tx) (feed-append emptyLog es more) ∙ decided-stays (reached es) more tx (wf-reached es) h
+
+pub one-list-named : CommitVotesNameOneList
+one-list-named es tx s t h k =
+    wf-reached es .row tx .one-list s t
+    (both (voteAt (reached es) tx s .kept) (voteAt (reached es) tx s .commit) (h .0) (h .1))
+    (both (voteAt (reached es) tx t .kept) (voteAt (reached es) tx t .commit) (k .0) (k .1))

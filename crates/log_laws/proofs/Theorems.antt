@@ -1,0 +1,98 @@
+-- The theorems about the definitions of the commit log; specs/ has what each claims.
+use Rattle.log_laws.specs.Answers.{RefusedEntryChangesNothing, TakeAnswerExactly, VoteAnswerExactly}
+use Rattle.log_laws.specs.Cases.{CasesHold}
+use Rattle.log_laws.specs.Groups.{BegunByCommit, FirstCommitBegins, GroupAtCommit, GroupIffCommitted, GroupNeverChanges, GroupsWithoutGaps, JoinsIfRunningWhenBegun, LastGroupWasBegun, RememberedNeverChanges, GroupRemembersRunning}
+use Rattle.log_laws.specs.Holders.{AcceptedTakeHolds, HoldsAtMostOneStore, LostStoreNeverAgain}
+use Rattle.log_laws.specs.Replays.{ReplayListsExactly, ReplayListsOnce, ReplayOrdered}
+use Rattle.log_laws.specs.Votes.{AcceptedVoteIsKept, CommitVotesNameOneList, CommittedKeepsNoVote, CommittedRowStays, KeptVoteStays, OutcomeCommitIff, OutcomeNeverChanges}
+use Rattle.log_laws.proofs.AcceptedClaims.{take-holds, vote-is-kept}
+use Rattle.log_laws.proofs.AnswerClaims.{refused-same, take-exactly, vote-exactly}
+use Rattle.log_laws.proofs.CaseTable.{table-holds}
+use Rattle.log_laws.proofs.CommitIff.{commit-iff}
+use Rattle.log_laws.proofs.GroupClaims.{at-commit, by-commit, first-begins, iff-committed, joins-if-running, never-changes, without-gaps}
+use Rattle.log_laws.proofs.LastGroup.{was-begun}
+use Rattle.log_laws.proofs.Lost.{never-again, one-store}
+use Rattle.log_laws.proofs.Remembered.{remembered-stays, remembers-running}
+use Rattle.log_laws.proofs.ReplayClaims.{lists-exactly, lists-once, ordered}
+use Rattle.log_laws.proofs.Stays.{no-vote-kept, one-list-named, outcome-stays, row-stays, vote-stays}
+
+pub outcome-commit-iff : OutcomeCommitIff
+outcome-commit-iff = commit-iff
+
+pub accepted-vote-is-kept : AcceptedVoteIsKept
+accepted-vote-is-kept = vote-is-kept
+
+pub kept-vote-stays : KeptVoteStays
+kept-vote-stays = vote-stays
+
+pub outcome-never-changes : OutcomeNeverChanges
+outcome-never-changes = outcome-stays
+
+pub committed-keeps-no-vote : CommittedKeepsNoVote
+committed-keeps-no-vote = no-vote-kept
+
+pub committed-row-stays : CommittedRowStays
+committed-row-stays = row-stays
+
+pub commit-votes-name-one-list : CommitVotesNameOneList
+commit-votes-name-one-list = one-list-named
+
+pub accepted-take-holds : AcceptedTakeHolds
+accepted-take-holds = take-holds
+
+pub holds-at-most-one-store : HoldsAtMostOneStore
+holds-at-most-one-store = one-store
+
+pub lost-store-never-again : LostStoreNeverAgain
+lost-store-never-again = never-again
+
+pub group-iff-committed : GroupIffCommitted
+group-iff-committed = iff-committed
+
+pub groups-without-gaps : GroupsWithoutGaps
+groups-without-gaps = without-gaps
+
+pub group-at-commit : GroupAtCommit
+group-at-commit = at-commit
+
+pub joins-if-running-when-begun : JoinsIfRunningWhenBegun
+joins-if-running-when-begun = joins-if-running
+
+pub last-group-was-begun : LastGroupWasBegun
+last-group-was-begun = was-begun
+
+pub first-commit-begins : FirstCommitBegins
+first-commit-begins = first-begins
+
+pub begun-by-commit : BegunByCommit
+begun-by-commit = by-commit
+
+pub group-remembers-running : GroupRemembersRunning
+group-remembers-running = remembers-running
+
+pub remembered-never-changes : RememberedNeverChanges
+remembered-never-changes = remembered-stays
+
+pub group-never-changes : GroupNeverChanges
+group-never-changes = never-changes
+
+pub replay-lists-exactly : ReplayListsExactly
+replay-lists-exactly = lists-exactly
+
+pub replay-ordered : ReplayOrdered
+replay-ordered = ordered
+
+pub replay-lists-once : ReplayListsOnce
+replay-lists-once = lists-once
+
+pub vote-answer-exactly : VoteAnswerExactly
+vote-answer-exactly = vote-exactly
+
+pub take-answer-exactly : TakeAnswerExactly
+take-answer-exactly = take-exactly
+
+pub refused-entry-changes-nothing : RefusedEntryChangesNothing
+refused-entry-changes-nothing = refused-same
+
+pub cases-hold : CasesHold
+cases-hold = table-holds

@@ -1,0 +1,64 @@
+-- The claims on answers: "The lowest number that applies is given. State and buffers stay unchanged." They hold of every log.
+use mathlib.Core.Path.{_≡_}
+use mathlib.Core.Bool.{Bool, true, false, _||_, not}
+use mathlib.Core.List.{List, [], _∷_}
+use mathlib.Core.Logic.{_↔_, _≢_}
+use lib.Dec.{eqb}
+use Rattle.entry.specs.declared.Entry.{Entry}
+use Rattle.entry.specs.Entry.{illFormed, outside}
+use Rattle.entry.specs.Refusal.{accepted, holdsOrHeld, illFormedVote, keptAlready, notHolder, otherList, outsideLimits}
+use Rattle.commit_log.specs.declared.Log.{Log}
+use Rattle.commit_log.specs.Enter.{enter}
+use Rattle.commit_log.specs.Log.{heldBefore, holderOf, rowOf, voteAt}
+use Rattle.commit_log.specs.Refusal.{anyClash, holdsAny}
+
+-- no condition holds
+abbrev pub None : List Bool → Type 0
+None [] = Unit {0}
+None (b ∷ bs) = (b ≡ false) × None bs
+
+-- this condition holds, and none of those tried before it
+abbrev pub First : List Bool → Bool → Type 0
+First [] this = this ≡ true
+First (b ∷ bs) this = (b ≡ false) × First bs this
+
+-- 8: process does not hold `by`
+abbrev pub holdsNot : Log → Entry → Bool
+holdsNot l e = not (eqb (holderOf l (e .by)) (e .process))
+
+-- 9: a commit vote with list L is kept, and this is a commit with another list or an abort whose list is not within L
+abbrev pub clash : Log → Entry → Bool
+clash l e = anyClash e (rowOf l (e .tx) .votes)
+
+-- 10: this store's vote is kept already
+abbrev pub kept : Log → Entry → Bool
+kept l e = voteAt l (e .tx) (e .store) .kept
+
+-- 11: it holds some store, or held this one before
+abbrev pub held : Log → Entry → Bool
+held l e = holdsAny (l .holders) (e .process) || heldBefore l (e .process) (e .store)
+
+-- a vote's answer is n if and only if condition n holds and none before it does; 0 if and only if none holds
+pub record VoteAnswers (l : Log) (e : Entry) : Type 0 where
+  pub is-2 : (enter l e .answer ≡ outsideLimits) ↔ First [] (outside e)
+  pub is-7 : (enter l e .answer ≡ illFormedVote) ↔ First (outside e ∷ []) (illFormed e)
+  pub is-8 : (enter l e .answer ≡ notHolder) ↔ First (outside e ∷ illFormed e ∷ []) (holdsNot l e)
+  pub is-9 : (enter l e .answer ≡ otherList) ↔ First (outside e ∷ illFormed e ∷ holdsNot l e ∷ []) (clash l e)
+  pub is-10 : (enter l e .answer ≡ keptAlready) ↔ First (outside e ∷ illFormed e ∷ holdsNot l e ∷ clash l e ∷ []) (kept l e)
+  pub is-0 : (enter l e .answer ≡ accepted) ↔ None (outside e ∷ illFormed e ∷ holdsNot l e ∷ clash l e ∷ kept l e ∷ [])
+
+-- a take's likewise
+pub record TakeAnswers (l : Log) (e : Entry) : Type 0 where
+  pub is-2 : (enter l e .answer ≡ outsideLimits) ↔ First [] (outside e)
+  pub is-11 : (enter l e .answer ≡ holdsOrHeld) ↔ First (outside e ∷ []) (held l e)
+  pub is-0 : (enter l e .answer ≡ accepted) ↔ None (outside e ∷ held l e ∷ [])
+
+abbrev pub VoteAnswerExactly : Type 0
+VoteAnswerExactly = (l : Log) (e : Entry) → e .take ≡ false → VoteAnswers l e
+
+abbrev pub TakeAnswerExactly : Type 0
+TakeAnswerExactly = (l : Log) (e : Entry) → e .take ≡ true → TakeAnswers l e
+
+-- a refused entry leaves the log as it was
+abbrev pub RefusedEntryChangesNothing : Type 0
+RefusedEntryChangesNothing = (l : Log) (e : Entry) → enter l e .answer ≢ accepted → enter l e .log ≡ l

@@ -1,0 +1,51 @@
+-- The claims on a store's replay: "by group, then tx, the (tx, update) of each committed tx with a kept commit vote of that store."
+use Prim.Native.Nat.{ℕ, _<_}
+use mathlib.Core.Path.{_≡_}
+use mathlib.Core.List.{List}
+use mathlib.Core.Logic.{_↔_, _⊎_}
+use lib.ListN.{getD, length}
+use Rattle.entry.specs.declared.Entry.{Entry}
+use Rattle.commit_log.specs.declared.Log.{Log}
+use Rattle.commit_log.specs.declared.Outcome.the-variants.{Commit}
+use Rattle.commit_log.specs.declared.Replayed.{Replayed}
+use Rattle.commit_log.specs.Log.{groupOf, voteAt}
+use Rattle.commit_log.specs.Outcome.{outcomeOf}
+use Rattle.commit_log.specs.Replay.{noReplayed, replayRows}
+use Rattle.log_laws.specs.Reached.{reached}
+use Rattle.log_laws.specs.Votes.{KeptCommit}
+
+-- row i of the store's replay
+abbrev pub replayed : Log → ℕ → ℕ → Replayed
+replayed l store i = getD (replayRows l store) i noReplayed
+
+-- the replay has the row
+abbrev pub InReplay : Log → ℕ → Replayed → Type 0
+InReplay l store r = (i : ℕ) × (i < length (replayRows l store)) × (replayed l store i ≡ r)
+
+-- tx is committed, in this group, with a kept commit vote of the store that has this update
+pub record Replays (l : Log) (store : ℕ) (r : Replayed) : Type 0 where
+  pub committed : outcomeOf l (r .tx) ≡ Commit
+  pub kept-commit : KeptCommit l (r .tx) store
+  pub update : voteAt l (r .tx) store .update ≡ r .update
+  pub group : groupOf l (r .tx) ≡ r .group
+
+abbrev pub ReplayListsExactly : Type 0
+ReplayListsExactly = (es : List Entry) (store : ℕ) (r : Replayed) → InReplay (reached es) store r ↔ Replays (reached es) store r
+
+-- "by group, then tx"
+abbrev pub Before : Replayed → Replayed → Type 0
+Before a b = (a .group < b .group) ⊎ ((a .group ≡ b .group) × (a .tx < b .tx))
+
+abbrev pub ReplayOrdered : Type 0
+ReplayOrdered =
+    (es : List Entry) (store i j : ℕ) → i < j → j < length (replayRows (reached es) store)
+    → Before (replayed (reached es) store i) (replayed (reached es) store j)
+
+-- each transaction once
+abbrev pub ReplayListsOnce : Type 0
+ReplayListsOnce =
+    (es : List Entry) (store i j : ℕ)
+    → i < length (replayRows (reached es) store)
+    → j < length (replayRows (reached es) store)
+    → replayed (reached es) store i .tx ≡ replayed (reached es) store j .tx
+    → i ≡ j
