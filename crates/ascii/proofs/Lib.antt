@@ -1,0 +1,4 @@
+pub mod Decimals
+pub mod Hexes
+pub mod Words
+pub mod Writing

@@ -1,0 +1,4 @@
+pub mod Answers
+pub mod Feed
+pub mod Line
+pub mod Lines

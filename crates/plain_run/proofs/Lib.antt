@@ -1,0 +1,4 @@
+pub mod Answers
+pub mod Entering
+pub mod Meaning
+pub mod Sessions

@@ -1,0 +1,119 @@
+-- However the input is cut into pieces, what the functions under `main` print is what `plain` says.
+use Rattle.entry.specs.Refusal.{noPlace, unreadable}
+use Prim.Native.Nat.{ℕ, suc, _≤_, _<_, _+_}
+use native.Mathlib.Omega.{arith}
+use native.Mathlib.Decide.{decLt}
+use native.Mathlib.Numerals.{add-one}
+use mathlib.Core.Bool.{Bool, true, false, cond}
+use mathlib.Core.List.{List, [], _∷_, _++_}
+use mathlib.Core.Path.{_≡_, refl, sym, _∙_, ap, subst}
+use lib.Dec.{leb, ltb}
+use lib.ListN.{length, take, set, length-set, length-take}
+use lib.Seq.{take-suc-set, length-take-le}
+use borrow.Author.Tests.{lt-ltb, le-ltb, ltb-false}
+use Rattle.commit_log.specs.declared.Entered.{Entered}
+use Rattle.commit_log.specs.declared.Log.{Log}
+use Rattle.commit_log.specs.Enter.{answered}
+use Rattle.lines.specs.declared.Answers.{Answers}
+use Rattle.lines.specs.declared.Line.{Line}
+use Rattle.lines.specs.Answers.{answersOf, noted as Answers·noted}
+use Rattle.lines.specs.Feed.{Fed, fed, fedLines, finished, fresh}
+use Rattle.lines.specs.Line.{bytesOf, tooLong}
+use Rattle.lines.specs.Lines.{lines, longest, most}
+use Rattle.lines.proofs.Stream.{Holds, fed-in-pieces, stream-is-lines}
+use Rattle.plain_run.specs.declared.Session.{Session}
+use Rattle.plain_run.specs.Plain.{Run, afterLine, enterLine, entering, noLines, noted as Plain·noted, over, plain, printed}
+use Rattle.plain_run.specs.Session.{answerLine, enterHeld, freshSession, isOver, noted, output, runOf}
+use Rattle.step_text.specs.Entry.{readEntry}
+
+-- ---- a line by its bytes
+
+held-is-line : (l : Log) (line : Line) (b : List ℕ) → Holds line b → enterHeld l line ≡ enterLine l b
+unfolding enterHeld enterLine
+held-is-line l line b h = elim (decLt longest (length b)) [
+  | yes k ↦ rw (lt-ltb longest (length b) k, lt-ltb longest (line .length) (omega (arith, h .long k)))
+  | no k ↦
+      let n : line .length ≡ length b = h .count (omega arith) in
+      let e : bytesOf line ≡ b = ap (λ (m : ℕ). take m (line .bytes)) n ∙ h .bytes (omega arith) in
+      rw (le-ltb longest (length b) (omega arith), le-ltb longest (line .length) (omega arith)) (ap (λ (s : List ℕ). entering l (readEntry s)) e)
+]
+
+-- what a line's bytes do to a session
+answerBytes : Session → List ℕ → Session
+answerBytes s b = noted s (cond (leb most (s .answers .count)) (answered (s .log) noPlace) (enterLine (s .log) b))
+
+meets : (s : Session) (line : Line) (b : List ℕ) → Holds line b → answerLine s line ≡ answerBytes s b
+unfolding answerLine answerBytes
+meets s line b h = ap (λ (e : Entered). noted s (cond (leb most (s .answers .count)) (answered (s .log) noPlace) e)) (held-is-line (s .log) line b h)
+
+-- ---- a session stands for a run
+
+-- there is room for the answers that are counted
+record Sound (a : Answers) : Type 0 where
+  pub room : length (a .answers) ≡ most + 1
+  pub count : a .count ≤ most + 1
+
+counts : (a : Answers) → Sound a → length (answersOf a) ≡ a .count
+counts a h = length-take-le (a .count) (a .answers) (omega (arith, h .room, h .count))
+
+noted-answers : (a : Answers) (n : ℕ) → Sound a → a .count ≤ most → answersOf (Answers·noted a n) ≡ answersOf a ++ n ∷ []
+unfolding Answers·noted
+noted-answers a n h k =
+    rw (le-ltb most (a .count) k)
+    (ap (λ (m : ℕ). take m (set (a .answers) (a .count) n)) (add-one (a .count)) ∙ take-suc-set (a .answers) (a .count) n (omega (arith, h .room)))
+
+noted-sound : (a : Answers) (n : ℕ) → Sound a → a .count ≤ most → Sound (Answers·noted a n)
+unfolding Answers·noted
+noted-sound a n h k =
+    rw (le-ltb most (a .count) k) (record { room = length-set (a .answers) (a .count) n ∙ h .room; count = omega arith })
+
+over-is : (s : Session) → Sound (s .answers) → over (runOf s) ≡ isOver s
+over-is s h = ap (ltb most) (counts (s .answers) h)
+
+line-is : (s : Session) (b : List ℕ) → Sound (s .answers) → s .answers .count ≤ most → runOf (answerBytes s b) ≡ afterLine (runOf s) b
+unfolding answerBytes afterLine
+line-is s b h k =
+    let e : Entered = cond (leb most (s .answers .count)) (answered (s .log) noPlace) (enterLine (s .log) b) in
+    let p : runOf (noted s e) ≡ record { log = e .log; answers = answersOf (s .answers) ++ e .answer ∷ [] } = (λ i. record { log = e .log; answers = noted-answers (s .answers) (e .answer) h k i }) in
+    p ∙ ap (λ (n : ℕ). Plain·noted (runOf s) (cond (leb most n) (answered (s .log) noPlace) (enterLine (s .log) b))) (sym (counts (s .answers) h))
+
+lines-are : (s : Session) (ls : List (List ℕ)) → Sound (s .answers) → runOf (fedLines isOver answerBytes s ls) ≡ fedLines over afterLine (runOf s) ls
+unfolding fedLines answerBytes
+lines-are s [] h = refl
+lines-are s (l ∷ ls) h = go (isOver s) refl (over-is s h) (lines-are (answerBytes s l) ls)
+  where
+    go : (o : Bool) → isOver s ≡ o → over (runOf s) ≡ isOver s
+        → (Sound (answerBytes s l .answers) → runOf (fedLines isOver answerBytes (answerBytes s l) ls) ≡ fedLines over afterLine (runOf (answerBytes s l)) ls)
+        → runOf (cond o s (fedLines isOver answerBytes (answerBytes s l) ls)) ≡ cond (over (runOf s)) (runOf s) (fedLines over afterLine (afterLine (runOf s) l) ls)
+    go true k e ih = rw (e ∙ k)
+    go false k e ih =
+        let m : s .answers .count ≤ most = ltb-false most (s .answers .count) k in
+        rw (e ∙ k) (ih (noted-sound (s .answers) _ h m) ∙ ap (λ (r : Run). fedLines over afterLine r ls) (line-is s l h m))
+
+-- ---- the whole
+
+-- What is printed of an input's bytes is what `plain` says of them.
+pub output-is-plain : (input : List ℕ) → output (finished isOver answerLine (fed isOver answerLine (fresh freshSession) input)) ≡ plain input
+unfolding plain
+output-is-plain input =
+    ap output (stream-is-lines isOver answerLine answerBytes meets freshSession input)
+    ∙ ap printed (lines-are freshSession (lines input) (record { room = refl; count = omega arith }))
+
+-- fed piece by piece
+abbrev pub fedAll : Fed Session → List (List ℕ) → Fed Session
+fedAll f [] = f
+fedAll f (p ∷ ps) = fedAll (fed isOver answerLine f p) ps
+
+abbrev pub joined : List (List ℕ) → List ℕ
+joined [] = []
+joined (p ∷ ps) = p ++ joined ps
+
+all-is-joined : (f : Fed Session) (ps : List (List ℕ)) → fedAll f ps ≡ fed isOver answerLine f (joined ps)
+unfolding fed
+all-is-joined f [] = refl
+all-is-joined f (p ∷ ps) = all-is-joined (fed isOver answerLine f p) ps ∙ sym (fed-in-pieces isOver answerLine f p (joined ps))
+
+-- However the input was cut into pieces, the same is printed.
+pub pieces-are-plain : (pieces : List (List ℕ)) → output (finished isOver answerLine (fedAll (fresh freshSession) pieces)) ≡ plain (joined pieces)
+pieces-are-plain pieces =
+    ap (λ (f : Fed Session). output (finished isOver answerLine f)) (all-is-joined (fresh freshSession) pieces) ∙ output-is-plain (joined pieces)

@@ -1,0 +1,48 @@
+-- What the functions under `main` do: the session that they keep, and how it stands for a run.
+use Rattle.entry.specs.Refusal.{noPlace, unreadable}
+use Prim.Native.Nat.{ℕ}
+use mathlib.Core.Bool.{Bool, cond}
+use mathlib.Core.List.{List, _++_}
+use lib.Dec.{leb, ltb}
+use Rattle.commit_log.specs.declared.Entered.{Entered}
+use Rattle.commit_log.specs.declared.Log.{Log}
+use Rattle.commit_log.specs.Enter.{answered}
+use Rattle.commit_log.specs.Log.{emptyLog}
+use Rattle.step_text.specs.Entry.{readEntry}
+use Rattle.lines.specs.declared.Line.{Line}
+use Rattle.lines.specs.Answers.{answersOf, noAnswers, noted as Answers·noted}
+use Rattle.lines.specs.Feed.{Fed}
+use Rattle.lines.specs.Line.{bytesOf, tooLong}
+use Rattle.lines.specs.Lines.{most}
+use Rattle.plain_run.specs.declared.Input.{Input}
+use Rattle.plain_run.specs.declared.Session.{Session}
+use Rattle.plain_run.specs.Plain.{Run, entering, printed}
+
+-- the line's entry is entered
+unfoldable pub enterHeld : Log → Line → Entered
+enterHeld l line = cond (tooLong line) (answered l unreadable) (entering l (readEntry (bytesOf line)))
+
+abbrev pub freshSession : Session
+freshSession = record { log = emptyLog; answers = noAnswers }
+
+abbrev pub isOver : Session → Bool
+isOver s = ltb most (s .answers .count)
+
+abbrev pub noted : Session → Entered → Session
+noted s e = record { log = e .log; answers = Answers·noted (s .answers) (e .answer) }
+
+-- the session after a line
+unfoldable pub answerLine : Session → Line → Session
+answerLine s line = noted s (cond (leb most (s .answers .count)) (answered (s .log) noPlace) (enterHeld (s .log) line))
+
+-- an input as a machine that is fed
+abbrev pub stateOf : Input → Fed Session
+stateOf i = record { state = i .session; line = i .line }
+
+-- the run that a session stands for
+abbrev pub runOf : Session → Run
+runOf s = record { log = s .log; answers = answersOf (s .answers) }
+
+-- what a session prints
+abbrev pub output : Session → List ℕ
+output s = printed (runOf s)

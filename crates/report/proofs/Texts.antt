@@ -1,0 +1,37 @@
+-- When a transaction or a store has its line.
+use Prim.Native.Nat.{ℕ, suc, _<_, min}
+use native.Mathlib.Omega.{arith}
+use mathlib.Core.Bool.{true, false}
+use mathlib.Core.List.{List, []}
+use mathlib.Core.Path.{_≡_, refl, sym, _∙_, ap}
+use lib.ListN.{length, getD, take, length-take}
+use lib.Seq.{getD-take}
+use borrow.Author.Tests.{eq-eqb, ne-eqb}
+use Rattle.commit_log.specs.declared.Log.{Log}
+use Rattle.commit_log.specs.declared.Outcome.{Outcome}
+use Rattle.commit_log.specs.Log.{groupOf, holderOf, rowOf}
+use Rattle.commit_log.specs.Outcome.{isKept, outcomeOf}
+use Rattle.commit_log.specs.Scan.{anyFrom}
+use Rattle.report.specs.Report.{answersText, each, holderLine, holderText, stepLine, txLine, txText}
+use Rattle.report.proofs.Lengths.{each-same}
+
+module _ (l : Log) (tx : ℕ) where
+  pub not-voted : anyFrom isKept 0 (rowOf l tx .votes) ≡ false → [] ≡ txText l tx
+  not-voted h = rw h
+
+  pub voted : (o : Outcome) → anyFrom isKept 0 (rowOf l tx .votes) ≡ true → o ≡ outcomeOf l tx → txLine tx o (groupOf l tx) ≡ txText l tx
+  voted o h e = rw h (ap (λ (x : Outcome). txLine tx x (groupOf l tx)) e)
+
+module _ (l : Log) (store : ℕ) where
+  pub not-held : holderOf l store ≡ 0 → [] ≡ holderText l store
+  not-held h = rw (eq-eqb (holderOf l store) 0 h)
+
+  pub held : (h : ℕ) → h ≡ holderOf l store → (h ≡ 0 → ⊥) → holderLine store h ≡ holderText l store
+  held h e n = ap (holderLine store) e ∙ rw (ne-eqb (holderOf l store) 0 (λ (z : holderOf l store ≡ 0). n (e ∙ z)))
+
+-- as many answers as there are and as count
+pub answers-are : (xs : List ℕ) (count n : ℕ) → n ≡ min count (length xs) → each (λ j. stepLine (suc j) (getD xs j 0)) n ≡ answersText (take count xs)
+answers-are xs count n h =
+    each-same (λ j. stepLine (suc j) (getD xs j 0)) (λ j. stepLine (suc j) (getD (take count xs) j 0)) n
+    (λ j k. ap (stepLine (suc j)) (sym (getD-take count xs j 0 (omega arith))))
+    ∙ ap (each (λ j. stepLine (suc j) (getD (take count xs) j 0))) (h ∙ sym (length-take count xs))

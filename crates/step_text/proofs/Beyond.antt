@@ -1,0 +1,82 @@
+-- A number beyond a byte is outside its limits.
+use Prim.Native.Nat.{ℕ, _≤_, _<_}
+use native.Mathlib.Omega.{arith}
+use native.Mathlib.Decide.{decLt}
+use mathlib.Core.Bool.{Bool, true, false, _&&_, _||_, not, cond, true≢false, false≢true}
+use mathlib.Core.Logic.{_⊎_, inl, inr, ⊎-elim}
+use mathlib.Core.Path.{_≡_, refl, sym, _∙_, ap, subst}
+use lib.Dec.{eqb, leb, ltb}
+use borrow.Author.Tests.{leb-true, le-leb, lt-ltb}
+use Rattle.entry.specs.declared.Entry.{Entry}
+use Rattle.entry.specs.Entry.{takeEntry, voteEntry, noProcess, outside}
+use Rattle.entry.specs.Limits.{stores, transactions, processes, lists, updates}
+use Rattle.step_text.specs.Entry.{HasText, noByte, beyond}
+
+or-cases : (a b : Bool) → (a || b) ≡ true → (a ≡ true) ⊎ (b ≡ true)
+or-cases true b h = inl refl
+or-cases false b h = inr h
+
+module _ (a b c : Bool) where
+  pub first-of : a ≡ true → (a || b || c) ≡ true
+  first-of h = rw h
+
+  pub second-of : b ≡ true → (a || b || c) ≡ true
+  second-of h = elim a as (λ x. (x || b || c) ≡ true) [ true ↦ refl | false ↦ rw h ]
+
+  pub third-of : c ≡ true → (a || b || c) ≡ true
+  third-of h = elim (a || b) as (λ x. (x || c) ≡ true) [ true ↦ refl | false ↦ h ]
+
+no-such-process : (p : ℕ) → 256 ≤ p → noProcess p ≡ true
+no-such-process p h = elim (eqb p 0) as (λ x. (x || ltb processes p) ≡ true) [ true ↦ refl | false ↦ lt-ltb processes p (omega arith) ]
+
+-- the parts of a vote's limits that a take has none of
+module _ (e : Entry) where
+  vote-limits : Bool
+  vote-limits = not (e .take) && (leb stores (e .by) || leb transactions (e .tx) || leb lists (e .participants) || leb updates (e .update))
+
+  process-outside : 256 ≤ e .process → outside e ≡ true
+  unfolding outside vote-limits
+  process-outside h = first-of (noProcess (e .process)) (leb stores (e .store)) vote-limits (no-such-process (e .process) h)
+
+  store-outside : 256 ≤ e .store → outside e ≡ true
+  unfolding outside vote-limits
+  store-outside h = second-of (noProcess (e .process)) (leb stores (e .store)) vote-limits (le-leb stores (e .store) (omega arith))
+
+  others-outside : (leb stores (e .by) || leb transactions (e .tx) || leb lists (e .participants) || leb updates (e .update)) ≡ true → e .take ≡ false → outside e ≡ true
+  unfolding outside vote-limits
+  others-outside h t = third-of (noProcess (e .process)) (leb stores (e .store)) vote-limits (rw t h)
+
+  by-outside : 256 ≤ e .by → e .take ≡ false → outside e ≡ true
+  by-outside h = others-outside (rw (le-leb stores (e .by) (omega arith)))
+
+  tx-outside : 256 ≤ e .tx → e .take ≡ false → outside e ≡ true
+  tx-outside h =
+      others-outside
+      (ap (λ (b : Bool). b || leb updates (e .update)) (second-of (leb stores (e .by)) (leb transactions (e .tx)) (leb lists (e .participants)) (le-leb transactions (e .tx) (omega arith))))
+
+-- a take has neither `by` nor `tx`
+no-number : (n : ℕ) → n ≡ 0 → 256 ≤ n → ⊥
+no-number n h k = omega arith
+
+pub beyond-is-outside : (e : Entry) → HasText e → beyond e ≡ true → outside e ≡ true
+beyond-is-outside e h b =
+    ⊎-elim
+    (λ (k : (noByte (e .process) || noByte (e .by) || noByte (e .store)) ≡ true).
+    ⊎-elim
+    (λ (k : (noByte (e .process) || noByte (e .by)) ≡ true).
+    ⊎-elim
+    (λ (k : noByte (e .process) ≡ true). process-outside e (leb-true 256 (e .process) k))
+    (λ (k : noByte (e .by) ≡ true). by-outside′ (leb-true 256 (e .by) k) h)
+    (or-cases (noByte (e .process)) (noByte (e .by)) k))
+    (λ (k : noByte (e .store) ≡ true). store-outside e (leb-true 256 (e .store) k))
+    (or-cases (noByte (e .process) || noByte (e .by)) (noByte (e .store)) k))
+    (λ (k : noByte (e .tx) ≡ true). tx-outside′ (leb-true 256 (e .tx) k) h)
+    (or-cases (noByte (e .process) || noByte (e .by) || noByte (e .store)) (noByte (e .tx)) b)
+  where
+    by-outside′ : 256 ≤ e .by → HasText e → outside e ≡ true
+    by-outside′ m (inl h) = absurd (no-number (e .by) (ap (λ (x : Entry). x .by) h) m)
+    by-outside′ m (inr h) = by-outside e m (h .0)
+
+    tx-outside′ : 256 ≤ e .tx → HasText e → outside e ≡ true
+    tx-outside′ m (inl h) = absurd (no-number (e .tx) (ap (λ (x : Entry). x .tx) h) m)
+    tx-outside′ m (inr h) = tx-outside e m (h .0)

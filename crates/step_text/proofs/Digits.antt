@@ -1,0 +1,129 @@
+-- Digits of a line, read from a place on.
+use Prim.Native.Nat.{ℕ, suc, _≤_, _<_, _+_, _-_, _*_, _^_, min}
+use native.Mathlib.Omega.{arith}
+use native.Mathlib.Nat.{pow-suc, pow-le-pow-right, le-trans}
+use native.Mathlib.Numerals.{add-one}
+use mathlib.Core.Bool.{Bool, true, false, _&&_, not, cond, false≢true}
+use mathlib.Core.List.{List, [], _∷_}
+use mathlib.Core.Path.{_≡_, refl, sym, _∙_, ap, subst}
+use lib.Dec.{eqb, leb, lit<}
+use lib.ListN.{length, drop, getD, drop-of-length-le}
+use lib.Seq.{drop-cons}
+use native.Mathlib.Decide.{decLt}
+use borrow.Author.Tests.{lt-leb, le-leb, eq-eqb, ne-eqb}
+use Rattle.ascii.specs.Decimal.{isDigit, grown, beginsDigit}
+use Rattle.ascii.specs.Hex.{isHexDigit, hexDigitOf, hexGrown}
+use Rattle.ascii.proofs.Decimals.{is-digit-low, is-digit-high}
+use Rattle.ascii.proofs.Hexes.{hex-digit-bound}
+use Rattle.step_text.specs.Fields.{inDecimal, inHex}
+use Rattle.step_text.specs.Read.{Part, part, unreadable, leadingZero, readDigits, readDecimal, readHex, readValue, valueAfter}
+use Rattle.step_text.specs.Seen.{capped, most}
+
+module _ (s : List ℕ) (at : ℕ) where
+  pub digit-far : length s ≤ at → beginsDigit (drop at s) ≡ false
+  digit-far h = rw (drop-of-length-le s {i = at} h)
+
+  pub digit-at : at < length s → beginsDigit (drop at s) ≡ isDigit (getD s at 0)
+  digit-at h = rw (drop-cons s at 0 h)
+
+  pub digit-inside : beginsDigit (drop at s) ≡ true → at < length s
+  digit-inside e = elim (decLt at (length s)) [
+    | yes h ↦ h
+    | no h ↦ absurd (false≢true (sym (digit-far (omega arith)) ∙ e))
+  ]
+
+  pub digit-low : beginsDigit (drop at s) ≡ true → 48 ≤ getD s at 0
+  digit-low e = is-digit-low (getD s at 0) (sym (digit-at (digit-inside e)) ∙ e)
+
+  pub digit-high : beginsDigit (drop at s) ≡ true → getD s at 0 ≤ 57
+  digit-high e = is-digit-high (getD s at 0) (sym (digit-at (digit-inside e)) ∙ e)
+
+  pub zero-far : length s ≤ at → leadingZero (drop at s) ≡ false
+  zero-far h = rw (drop-of-length-le s {i = at} h)
+
+  pub zero-at : at < length s → leadingZero (drop at s) ≡ (eqb (getD s at 0) 48 && beginsDigit (drop (at + 1) s))
+  zero-at h = rw (drop-cons s at 0 h, add-one)
+
+  pub digits-more : (n : ℕ) → beginsDigit (drop at s) ≡ true → readDigits n (drop at s) ≡ readDigits (grown n (getD s at 0)) (drop (at + 1) s)
+  unfolding readDigits
+  digits-more n e = rw (drop-cons s at 0 (digit-inside e), sym (digit-at (digit-inside e)) ∙ e, add-one)
+
+pub digits-end : (n : ℕ) (s : List ℕ) → beginsDigit s ≡ false → readDigits n s ≡ part n s
+unfolding readDigits
+digits-end n [] e = refl
+digits-end n (c ∷ s) e = rw e
+
+-- the count up to `most` is told by the count so far up to `most`
+pub digits-capped : (m n : ℕ) (s : List ℕ) → min m most ≡ min n most → capped (readDigits m s) ≡ capped (readDigits n s)
+unfolding readDigits
+digits-capped m n [] e = λ i. part (e i) []
+digits-capped m n (c ∷ s) e = go (isDigit c) (digits-capped (grown m c) (grown n c) s (omega arith))
+  where
+    go : (b : Bool) → capped (readDigits (grown m c) s) ≡ capped (readDigits (grown n c) s)
+        → capped (cond b (readDigits (grown m c) s) (part m (c ∷ s))) ≡ capped (cond b (readDigits (grown n c) s) (part n (c ∷ s)))
+    go true h = h
+    go false h = λ i. part (e i) (c ∷ s)
+
+module _ (s : List ℕ) where
+  pub decimal-none : beginsDigit s ≡ false → unreadable ≡ readValue inDecimal s
+  unfolding readValue readDecimal
+  decimal-none h = rw h
+
+  pub decimal-zero : beginsDigit s ≡ true → leadingZero s ≡ true → unreadable ≡ readValue inDecimal s
+  unfolding readValue readDecimal
+  decimal-zero h k = rw (h, k)
+
+  pub decimal-digits : beginsDigit s ≡ true → leadingZero s ≡ false → readDigits 0 s ≡ readValue inDecimal s
+  unfolding readValue readDecimal
+  decimal-digits h k = rw (h, k)
+
+module _ (s : List ℕ) (at left n : ℕ) (k : 0 < left) where
+  one-more : left ≡ suc (left - 1)
+  one-more = omega arith
+
+  pub hex-far : length s ≤ at → readHex left n (drop at s) ≡ unreadable
+  unfolding readHex
+  hex-far h = rw (drop-of-length-le s {i = at} h, one-more)
+
+  pub hex-other : at < length s → isHexDigit (getD s at 0) ≡ false → readHex left n (drop at s) ≡ unreadable
+  unfolding readHex
+  hex-other h e = rw (drop-cons s at 0 h, one-more, e)
+
+  pub hex-more : at < length s → isHexDigit (getD s at 0) ≡ true → readHex left n (drop at s) ≡ readHex (left - 1) (hexGrown n (getD s at 0)) (drop (at + 1) s)
+  unfolding readHex
+  hex-more h e = ap (λ (j : ℕ). readHex j n (drop at s)) one-more ∙ rw (drop-cons s at 0 h, e, add-one)
+
+pub hex-end : (s : List ℕ) (left n : ℕ) → left ≤ 0 → readHex left n s ≡ part n s
+unfolding readHex
+hex-end s ℕ.zero n h = refl
+hex-end s (suc left) n h = absurd (omega arith)
+
+-- one digit more after so many; with eight, the number fits 32 bits
+pub hex-grown : (done n d : ℕ) → n < 16 ^ done → d < 16 → n * 16 + d < 16 ^ (done + 1)
+hex-grown done n d h k = rw (add-one, pow-suc) (omega arith)
+
+pub hex-fits : (done n : ℕ) → done ≤ 8 → n < 16 ^ done → n < 2 ^ 32
+hex-fits done n h k = le-trans k (pow-le-pow-right {n = 16} (omega arith) h)
+
+-- what is in the range of two digits
+two-digits : (s : List ℕ) → readHex 2 0 s .value < 256
+unfolding readHex
+two-digits [] = lit< tt
+two-digits (a ∷ []) = go (isHexDigit a)
+  where
+    go : (h : Bool) → cond h unreadable unreadable .value < 256
+    go true = lit< tt
+    go false = lit< tt
+two-digits (a ∷ b ∷ s) = go (isHexDigit a) (isHexDigit b) refl refl
+  where
+    go : (h k : Bool) → isHexDigit a ≡ h → isHexDigit b ≡ k → cond h (cond k (part (hexGrown (hexGrown 0 a) b) s) unreadable) unreadable .value < 256
+    go true true e f =
+        let m : hexDigitOf a < 16 = hex-digit-bound a e in
+        let n : hexDigitOf b < 16 = hex-digit-bound b f in
+        omega arith
+    go true false e f = lit< tt
+    go false k e f = lit< tt
+
+pub list-fits : (p : Part) → valueAfter (inHex 2) p .value < 256
+unfolding readValue
+list-fits p = elim (p .readable) as (λ b. cond b (readHex 2 0 (p .rest)) unreadable .value < 256) [ true ↦ two-digits (p .rest) | false ↦ lit< tt ]

@@ -1,0 +1,9 @@
+pub mod Agreement
+pub mod Beyond
+pub mod Digits
+pub mod Entries
+pub mod Follows
+pub mod Parts
+pub mod ReadsText
+pub mod TextReads
+pub mod Words
