@@ -1,0 +1,33 @@
+-- What a record's reading says of its bytes.
+use Prim.Native.Nat.{ℕ}
+use mathlib.Core.Bool.{Bool, cond, false, true, _&&_}
+use mathlib.Core.List.{List}
+use mathlib.Core.Path.{_≡_}
+use native.Mathlib.Omega.{arith}
+use lib.Dec.{eqb}
+use lib.ListN.{getD, length}
+use Rattle.entry.specs.declared.Entry.{Entry}
+use Rattle.entry.specs.Refusal.{accepted, unreadable as unreadableNumber}
+use Rattle.records.proofs.ReadingLaws.{entry-read, refusal-read}
+use Rattle.records.specs.Numbers.{readNumbers}
+use Rattle.records.specs.Record.{entryIn, numbersIn, readRecord, recordSize, zeroAt}
+use Rattle.records.specs.declared.Numbers.{Numbers}
+use Rattle.records.specs.declared.Reading.the-variants.{Of, Refused}
+
+module _ (n : Numbers) where
+  tested-entry : (t : Bool) {e : Entry} → cond t (readNumbers n) (Refused unreadableNumber) ≡ Of e → readNumbers n ≡ Of e
+  tested-entry true h = h
+  tested-entry false {e} h = cc
+
+  tested-refusal : (t : Bool) {k : ℕ} → cond t (readNumbers n) (Refused unreadableNumber) ≡ Refused k → k ≡ accepted → ⊥
+  tested-refusal true h e = refusal-read n h e
+  tested-refusal false {k} h e = let z : k ≡ unreadableNumber = cc in omega arith
+
+module _ (bytes : List ℕ) where
+  pub record-entry : {e : Entry} → readRecord bytes ≡ Of e → entryIn bytes ≡ e
+  unfolding readRecord
+  record-entry h = entry-read (numbersIn bytes) (tested-entry (numbersIn bytes) (eqb (length bytes) recordSize && eqb (getD bytes zeroAt 0) 0) h)
+
+  pub record-refusal : {k : ℕ} → readRecord bytes ≡ Refused k → k ≡ accepted → ⊥
+  unfolding readRecord
+  record-refusal h = tested-refusal (numbersIn bytes) (eqb (length bytes) recordSize && eqb (getD bytes zeroAt 0) 0) h

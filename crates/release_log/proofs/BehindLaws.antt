@@ -1,0 +1,55 @@
+-- The log behind lent records, record by record.
+use Prim.Native.Nat.{ℕ, zero, suc, _+_, _-_, _*_, _/_, _<_, _≤_}
+use mathlib.Core.List.{List}
+use mathlib.Core.Path.{_≡_, refl}
+use native.Mathlib.Nat.{suc-sub-suc, sub-zero}
+use native.Mathlib.Omega.{arith}
+use borrow.Author.Tests.{eq-eqb, le-ltb, lt-ltb, ne-eqb}
+use lib.ListN.{drop, length, take}
+use lib.Seq.{drop-drop}
+use Rattle.entry.specs.declared.Entry.{Entry}
+use Rattle.entry.specs.Refusal.{accepted, outsideLimits}
+use Rattle.commit_log.specs.declared.Entered.{Entered}
+use Rattle.commit_log.specs.declared.Log.{Log}
+use Rattle.commit_log.specs.Enter.{answered, enter}
+use Rattle.records.specs.declared.Reading.{Reading}
+use Rattle.records.specs.declared.Reading.the-variants.{Of, Refused}
+use Rattle.records.specs.Record.{readRecord, recordSize}
+use Rattle.release_log.specs.Behind.{enterReading, logAfter, logAfterLent, recordsIn}
+
+module _ (l : Log) {r : Reading} where
+  pub entered : {e : Entry} {t : Entered} → r ≡ Of e → t ≡ enter l e → t ≡ enterReading l r
+  unfolding enterReading
+  entered h k = rw (h, k)
+
+  pub refused : {n : ℕ} → r ≡ Refused n → answered l n ≡ enterReading l r
+  unfolding enterReading
+  refused h = rw h
+
+module _ (l : Log) (bytes : List ℕ) (count : ℕ) where
+  pub count-beyond : length bytes / recordSize < count → answered l outsideLimits ≡ logAfterLent l bytes count
+  unfolding logAfterLent
+  count-beyond h = rw (lt-ltb (length bytes) (count * recordSize) (omega arith))
+
+  pub count-within : count ≤ length bytes / recordSize → logAfter l (recordsIn bytes count) ≡ logAfterLent l bytes count
+  unfolding logAfterLent
+  count-within h = rw (le-ltb (length bytes) (count * recordSize) (omega arith))
+
+module _ (l : Log) where
+  pub none-left : (bytes : List ℕ) (left : ℕ) → left ≤ 0 → answered l accepted ≡ logAfter l (recordsIn bytes left)
+  unfolding logAfter recordsIn
+  none-left bytes zero h = refl
+  none-left bytes (suc left) h = absurd (let z : ⊥ = omega arith in z)
+
+  -- one record more, and what the log says to it
+  module _ (bytes : List ℕ) (at : ℕ) {t : Entered} (h : t ≡ enterReading l (readRecord (take recordSize (drop at bytes)))) where
+    pub record-refused : (left : ℕ) → 0 < left → (t .answer ≡ accepted → ⊥) → logAfter l (recordsIn (drop at bytes) left) ≡ t
+    unfolding logAfter recordsIn
+    record-refused zero k n = absurd (let z : ⊥ = omega arith in z)
+    record-refused (suc left) k n = rw (← h, ne-eqb (t .answer) accepted n)
+
+    pub record-accepted : (left : ℕ) → 0 < left → t .answer ≡ accepted
+        → logAfter l (recordsIn (drop at bytes) left) ≡ logAfter (t .log) (recordsIn (drop (at + recordSize) bytes) (left - 1))
+    unfolding logAfter recordsIn
+    record-accepted zero k n = absurd (let z : ⊥ = omega arith in z)
+    record-accepted (suc left) k n = rw (← h, eq-eqb (t .answer) accepted n, drop-drop recordSize at bytes, suc-sub-suc left 0, sub-zero left)

@@ -1,0 +1,79 @@
+-- The rows of a replay as bytes.
+use Prim.Native.Nat.{ℕ, suc, _+_, _*_, _<_, _≤_}
+use mathlib.Core.List.{List, [], _∷_, _++_}
+use mathlib.Core.Path.{_≡_, refl, _∙_}
+use native.Mathlib.Nat.{add-suc, add-zero, min-eq-left, suc-add}
+use native.Mathlib.Numerals.{add-one}
+use native.Mathlib.Omega.{arith}
+use mir.Val.{Val}
+use denote.Laws.{Is}
+use denote.Struct.Declared.{row}
+use lib.ListN.{drop, drop-of-length-le, getD, length, length-map, length-replicate, length-take, replicate, set, take}
+use lib.Seq.{drop-cons, getD-take, sets, sets-eq, take-at}
+use Rattle.entry.specs.Limits.{transactions}
+use Rattle.commit_log.proofs.Entered.{the-type as entered-type}
+use Rattle.commit_log.proofs.Replay.{the-type as replay-type}
+use Rattle.commit_log.specs.declared.Entered.{Entered}
+use Rattle.commit_log.specs.declared.Log.{Log}
+use Rattle.commit_log.specs.declared.Replay.{Replay}
+use Rattle.commit_log.specs.declared.Replayed.{Replayed}
+use Rattle.commit_log.specs.Replay.{noReplayed, replayOf, replayRows}
+use Rattle.records.specs.Record.{lowFirst, updateSize}
+use Rattle.release_log.specs.Query.{replayValue, rowBytes, rowSize, rowsBytes}
+
+pub row-of : (r : Replayed) {update : List ℕ} → update ≡ lowFirst updateSize (r .update)
+    → r .group ∷ r .tx ∷ getD update 0 0 ∷ getD update 1 0 ∷ getD update 2 0 ∷ getD update 3 0 ∷ [] ≡ rowBytes r
+row-of r h = rw h
+
+pub rows-length : (r : Replay) (vs : List Val) → Is (row replay-type) r vs → length (r .rows) ≡ transactions
+rows-length r vs g = simp length-map at (g .1 .1 .1 .0 .1 .0 .1)
+
+-- of a log that a call handed back
+pub log-rows-length : (t : Entered) (vs : List Val) → Is (row entered-type) t vs → length (t .log .rows) ≡ transactions
+log-rows-length t vs g = simp length-map at (g .1 .1 .0 .1 .1 .0 .1 .0 .1)
+
+pub rows-bytes-length : (rs : List Replayed) → length (rowsBytes rs) ≡ length rs * rowSize
+unfolding rowsBytes
+rows-bytes-length [] = refl
+rows-bytes-length (r ∷ rs) = let h = rows-bytes-length rs in omega arith
+
+-- stored one after the other
+pub sets-append : (xs ys l : List ℕ) (at : ℕ) → sets l at (xs ++ ys) ≡ sets (sets l at xs) (at + length xs) ys
+sets-append [] ys l at = rw (add-zero at)
+sets-append (x ∷ xs) ys l at = sets-append xs ys (set l at x) (suc at) ∙ rw (suc-add at (length xs), ← add-suc at (length xs))
+
+module _ (rows : List Replayed) (n i : ℕ) (within : n ≤ length rows) (out : List ℕ) (at : ℕ) where
+  pub row-stored : i < n → {bytes after : List ℕ} → bytes ≡ rowBytes (getD rows i noReplayed) → after ≡ sets out at bytes
+      → sets out at (rowsBytes (drop i (take n rows))) ≡ sets after (at + rowSize) (rowsBytes (drop (i + 1) (take n rows)))
+  unfolding rowsBytes
+  row-stored h b a =
+      let k : i < length (take n rows) = rw length-take (omega arith) in
+      rw (drop-cons (take n rows) i noReplayed k, getD-take n rows i noReplayed h, a, b, add-one)
+      (sets-append (rowBytes (getD rows i noReplayed)) (rowsBytes (drop (suc i) (take n rows))) out at)
+
+  pub rows-end : n ≤ i → sets out at (rowsBytes (drop i (take n rows))) ≡ out
+  unfolding rowsBytes
+  rows-end h = rw (drop-of-length-le (take n rows) {i = i} (rw length-take (omega arith)))
+
+pub taken-length : (r : Replay) → length (r .rows) ≡ transactions → r .count ≤ transactions → length (take (r .count) (r .rows)) ≡ r .count
+taken-length r h k = length-take (r .count) (r .rows) ∙ min-eq-left (omega arith)
+
+pub value-length : (r : Replay) → length (r .rows) ≡ transactions → r .count ≤ transactions
+    → length (replayValue (take (r .count) (r .rows))) ≡ 1 + r .count * rowSize
+value-length r h k =
+    let a = rows-bytes-length (take (r .count) (r .rows)) in
+    let b : length (take (r .count) (r .rows)) ≡ r .count = taken-length r h k in
+    omega arith
+
+-- what a replay holds is its rows
+module _ (l : Log) (store : ℕ) {r : Replay} (said : r ≡ replayOf l store) where
+  pub replay-count : r .count ≡ length (replayRows l store)
+  unfolding replayOf
+  replay-count = rw said
+
+  pub replay-taken : length (replayRows l store) ≤ transactions → take (r .count) (r .rows) ≡ replayRows l store
+  unfolding replayOf
+  replay-taken h =
+      let k : 0 + length (replayRows l store) ≤ length (replicate transactions noReplayed) = rw length-replicate (omega arith) in
+      rw (said, sets-eq (replayRows l store) (replicate transactions noReplayed) 0 k)
+      (take-at (replayRows l store) _ (length (replayRows l store)) refl)

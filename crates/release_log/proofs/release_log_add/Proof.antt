@@ -1,0 +1,90 @@
+use borrow.Author.Needs.{needs}
+use mathlib.Core.Path.{_∙_, _≡_, ap, sym}
+use Rattle.commit_log.specs.declared.Log.{Log}
+use Rattle.commit_log.specs.declared.Entered.{Entered}
+use Rattle.release_log.specs.Behind.{logAfterLent, logBehind}
+use Rattle.release_log.proofs.AddLaws.{count-fits, entry-added, numbers-refused, records-refused}
+use Rattle.release_log.proofs.release_log_add.Statement.{statement}
+use Rattle.release_log.proofs.release_log_add.Tie as tie
+
+-- the log behind the lent records
+behind : (c : tie.After-log-after-lent) → let a = c .before .before .before .before .args in c .log-after-lent .result ≡ logBehind (a .records .now) (a .count)
+behind c =
+    let a = c .before .before .before .before .args in
+    c .log-after-lent .ensures ∙ ap (λ (l : Log). logAfterLent l (a .records .now) (a .count)) (c .before .before .empty .ensures)
+
+empty-requires : tie.Need-empty-requires
+empty-requires c κs = search needs
+
+log-after-lent-requires : tie.Need-log-after-lent-requires
+log-after-lent-requires c κs = search needs
+
+cast-result : tie.Need-cast-result
+cast-result c = search needs
+
+same-length : tie.Need-same-length
+same-length c = search needs
+
+returns : tie.Need-returns
+returns c = let a = c .before .before .before .before .before .before .before .args in records-refused (a .records .now) (a .count) _ (behind (c .before .before .before)) (c .before .if1 .taken)
+
+read-requires : tie.Need-read-requires
+read-requires c κs = search needs
+
+enum-known-answer : tie.Need-enum-known-answer
+enum-known-answer c = search needs
+
+cast-result-2 : tie.Need-cast-result-2
+cast-result-2 c = search needs
+
+enum-known-e : tie.Need-enum-known-e
+enum-known-e c = search needs
+
+add-entry-requires : tie.Need-add-entry-requires
+add-entry-requires c κs =
+    let a = c .before .before .before .before .before .before .before .before .before .before .before .args in
+    count-fits (a .records .now) (a .count) (ap (λ (t : Entered). t .answer) (sym (behind (c .before .before .before .before .before .before .before))) ∙ c .before .before .before .before .before .if1 .left)
+
+same-length-2 : tie.Need-same-length-2
+same-length-2 c = search needs
+
+returns-2 : tie.Need-returns-2
+returns-2 c =
+    let a = c .before .before .before .before .before .before .before .before .before .before .args in
+    numbers-refused (a .records .now) (a .count) _ (behind (c .before .before .before .before .before .before)) (c .before .before .before .before .if1 .left) (c .before .before .before .read .ensures) (c .before .answer .given .1)
+
+same-length-3 : tie.Need-same-length-3
+same-length-3 c = search needs
+
+returns-3 : tie.Need-returns-3
+returns-3 c =
+    let a = c .before .before .before .before .before .before .before .before .before .before .before .before .before .before .args in
+    entry-added
+    (a .records .now)
+    (a .count)
+    _
+    (behind (c .before .before .before .before .before .before .before .before .before .before))
+    (c .before .before .before .before .before .before .before .before .if1 .left)
+    (c .before .before .before .before .before .before .before .read .ensures)
+    (c .before .before .before .before .before .e .given .1)
+    (c .before .before .add-entry .ensures .0)
+    (c .before .before .add-entry .ensures .1)
+
+pub release-log-add-spec : {M : Type 1} → statement M
+release-log-add-spec =
+    tie.close
+    (tie.spec
+    empty-requires
+    log-after-lent-requires
+    cast-result
+    same-length
+    returns
+    read-requires
+    enum-known-answer
+    cast-result-2
+    enum-known-e
+    add-entry-requires
+    same-length-2
+    returns-2
+    same-length-3
+    returns-3)

@@ -1,0 +1,107 @@
+use borrow.Author.Tests.{le-leb, lt-leb}
+use borrow.Author.Needs.{needs}
+use Prim.Native.Nat.{ℕ}
+use mathlib.Core.Path.{_∙_, _≡_, ap}
+use mathlib.Core.List.{[], _∷_}
+use Rattle.entry.specs.Limits.{stores, transactions}
+use Rattle.commit_log.specs.declared.Log.{Log}
+use Rattle.commit_log.specs.declared.Entered.{Entered}
+use Rattle.commit_log.specs.Involvement.{involvementNumber, involvementOf}
+use Rattle.release_log.specs.Behind.{logAfterLent, logBehind}
+use Rattle.release_log.proofs.QueryLaws.{numbers-outside, records-refused, value-placed}
+use Rattle.release_log.proofs.release_log_involvement.Statement.{statement}
+use Rattle.release_log.proofs.release_log_involvement.Tie as tie
+
+-- the log behind the lent records
+behind : (c : tie.After-log-after-lent) → let a = c .before .before .before .before .args in c .log-after-lent .result ≡ logBehind (a .records .now) (a .count)
+behind c =
+    let a = c .before .before .before .before .args in
+    c .log-after-lent .ensures ∙ ap (λ (l : Log). logAfterLent l (a .records .now) (a .count)) (c .before .empty .ensures)
+
+empty-requires : tie.Need-empty-requires
+empty-requires c κs = search needs
+
+log-after-lent-requires : tie.Need-log-after-lent-requires
+log-after-lent-requires c κs = search needs
+
+cast-result : tie.Need-cast-result
+cast-result c = search needs
+
+returns : tie.Need-returns
+returns c = records-refused _ _ (behind (c .before .before .before)) (c .before .if1 .taken)
+
+cast-if2 : tie.Need-cast-if2
+cast-if2 c = search needs
+
+cast-result-2 : tie.Need-cast-result-2
+cast-result-2 c = search needs
+
+returns-2 : tie.Need-returns-2
+returns-2 c = numbers-outside _ _ (behind (c .before .before .before)) (c .before .if1 .left) (rw (le-leb transactions (c .before .before .before .before .before .before .before .args .tx) (c .if2 .taken)))
+
+cast-if3 : tie.Need-cast-if3
+cast-if3 c = search needs
+
+cast-result-3 : tie.Need-cast-result-3
+cast-result-3 c = search needs
+
+returns-3 : tie.Need-returns-3
+returns-3 c =
+    let a = c .before .before .before .before .before .before .before .before .args in
+    numbers-outside _ _ (behind (c .before .before .before .before)) (c .before .before .if1 .left) (rw (lt-leb transactions (a .tx) (c .before .if2 .left), le-leb stores (a .store) (c .if3 .taken)))
+
+cast-involvement : tie.Need-cast-involvement
+cast-involvement c = search needs
+
+cast-involvement-2 : tie.Need-cast-involvement-2
+cast-involvement-2 c = search needs
+
+involvement-requires : tie.Need-involvement-requires
+involvement-requires c κs = search needs
+
+number-requires : tie.Need-number-requires
+number-requires c κs = search needs
+
+answer-byte-requires : tie.Need-answer-byte-requires
+answer-byte-requires c κs = search needs
+
+same-length : tie.Need-same-length
+same-length c = search needs
+
+returns-4 : tie.Need-returns-4
+returns-4 c =
+    let a = c .before .before .before .before .before .before .before .before .before .before .before .before .before .before .args in
+    let log = behind (c .before .before .before .before .before .before .before .before .before .before) in
+    value-placed
+    _
+    _
+    log
+    (c .before .before .before .before .before .before .before .before .if1 .left)
+    (rw (lt-leb transactions (a .tx) (c .before .before .before .before .before .before .before .if2 .left), lt-leb stores (a .store) (c .before .before .before .before .before .before .if3 .left)))
+    (ap (λ (n : ℕ). n ∷ [])
+    (c .before .before .before .number .ensures
+    ∙ ap involvementNumber (c .before .before .before .before .involvement .ensures)
+    ∙ ap (λ (t : Entered). involvementNumber (involvementOf (t .log) (a .tx) (a .store))) log))
+    (c .before .before .answer-byte .ensures)
+
+pub release-log-involvement-spec : {M : Type 1} → statement M
+release-log-involvement-spec =
+    tie.close
+    (tie.spec
+    empty-requires
+    log-after-lent-requires
+    cast-result
+    returns
+    cast-if2
+    cast-result-2
+    returns-2
+    cast-if3
+    cast-result-3
+    returns-3
+    cast-involvement
+    cast-involvement-2
+    involvement-requires
+    number-requires
+    answer-byte-requires
+    same-length
+    returns-4)

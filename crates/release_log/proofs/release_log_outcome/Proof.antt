@@ -1,0 +1,89 @@
+use borrow.Author.Tests.{le-leb, lt-leb}
+use borrow.Author.Needs.{needs}
+use Prim.Native.Nat.{ℕ}
+use mathlib.Core.Path.{_∙_, _≡_, ap}
+use mathlib.Core.List.{[], _∷_}
+use Rattle.entry.specs.Limits.{transactions}
+use Rattle.commit_log.specs.declared.Log.{Log}
+use Rattle.commit_log.specs.declared.Entered.{Entered}
+use Rattle.commit_log.specs.Outcome.{outcomeNumber, outcomeOf}
+use Rattle.release_log.specs.Behind.{logAfterLent, logBehind}
+use Rattle.release_log.proofs.QueryLaws.{numbers-outside, records-refused, value-placed}
+use Rattle.release_log.proofs.release_log_outcome.Statement.{statement}
+use Rattle.release_log.proofs.release_log_outcome.Tie as tie
+
+-- the log behind the lent records
+behind : (c : tie.After-log-after-lent) → let a = c .before .before .before .before .args in c .log-after-lent .result ≡ logBehind (a .records .now) (a .count)
+behind c =
+    let a = c .before .before .before .before .args in
+    c .log-after-lent .ensures ∙ ap (λ (l : Log). logAfterLent l (a .records .now) (a .count)) (c .before .empty .ensures)
+
+empty-requires : tie.Need-empty-requires
+empty-requires c κs = search needs
+
+log-after-lent-requires : tie.Need-log-after-lent-requires
+log-after-lent-requires c κs = search needs
+
+cast-result : tie.Need-cast-result
+cast-result c = search needs
+
+returns : tie.Need-returns
+returns c = records-refused _ _ (behind (c .before .before .before)) (c .before .if1 .taken)
+
+cast-if2 : tie.Need-cast-if2
+cast-if2 c = search needs
+
+cast-result-2 : tie.Need-cast-result-2
+cast-result-2 c = search needs
+
+returns-2 : tie.Need-returns-2
+returns-2 c = numbers-outside _ _ (behind (c .before .before .before)) (c .before .if1 .left) (le-leb transactions (c .before .before .before .before .before .before .before .args .tx) (c .if2 .taken))
+
+cast-outcome : tie.Need-cast-outcome
+cast-outcome c = search needs
+
+outcome-requires : tie.Need-outcome-requires
+outcome-requires c κs = search needs
+
+number-requires : tie.Need-number-requires
+number-requires c κs = search needs
+
+answer-byte-requires : tie.Need-answer-byte-requires
+answer-byte-requires c κs = search needs
+
+same-length : tie.Need-same-length
+same-length c = search needs
+
+returns-3 : tie.Need-returns-3
+returns-3 c =
+    let a = c .before .before .before .before .before .before .before .before .before .before .before .before .before .args in
+    let log = behind (c .before .before .before .before .before .before .before .before .before) in
+    value-placed
+    _
+    _
+    log
+    (c .before .before .before .before .before .before .before .if1 .left)
+    (lt-leb transactions (a .tx) (c .before .before .before .before .before .before .if2 .left))
+    (ap (λ (n : ℕ). n ∷ [])
+    (c .before .before .before .number .ensures
+    ∙ ap outcomeNumber (c .before .before .before .before .outcome .ensures)
+    ∙ ap (λ (t : Entered). outcomeNumber (outcomeOf (t .log) (a .tx))) log))
+    (c .before .before .answer-byte .ensures)
+
+pub release-log-outcome-spec : {M : Type 1} → statement M
+release-log-outcome-spec =
+    tie.close
+    (tie.spec
+    empty-requires
+    log-after-lent-requires
+    cast-result
+    returns
+    cast-if2
+    cast-result-2
+    returns-2
+    cast-outcome
+    outcome-requires
+    number-requires
+    answer-byte-requires
+    same-length
+    returns-3)

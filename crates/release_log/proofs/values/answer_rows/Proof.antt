@@ -1,0 +1,124 @@
+use borrow.Author.Needs.{needs}
+use Prim.Native.Nat.{_*_, _+_, _-_, _≤_, ℕ}
+use mathlib.Core.Path.{_∙_, _≡_, ap, refl, sym}
+use native.Mathlib.Omega.{arith}
+use lib.ListN.{drop, length, length-set, set, take}
+use lib.Seq.{length-sets, sets}
+use Rattle.release_log.proofs.RowsLaws.{row-stored, rows-end, rows-length, taken-length, value-length}
+use Rattle.release_log.specs.Query.{replayValue, rowsBytes, rowSize}
+use Rattle.release_log.proofs.QueryLaws.{no-place, place}
+use Rattle.release_log.proofs.values.answer_rows.Statement.{statement}
+use Rattle.release_log.proofs.values.answer_rows.Tie as tie
+
+abbrev Inv-loop : tie.InvT-loop
+Inv-loop out₀ replay count rows at₀ i₀ out at i =
+    (i ≤ rows)
+    × (at ≡ 1 + i * rowSize)
+    × (length out ≡ length out₀)
+    × (sets out₀ 1 (rowsBytes (take (replay .count) (replay .rows))) ≡ sets out at (rowsBytes (drop i (take (replay .count) (replay .rows)))))
+
+abbrev μ-loop : tie.MeasureT-loop
+μ-loop out₀ replay count rows at₀ i₀ out at i = rows - i
+
+cast-rows : tie.Need-cast-rows Inv-loop μ-loop
+cast-rows c = omega arith
+
+mul-if1 : tie.Need-mul-if1 Inv-loop μ-loop
+mul-if1 c = omega arith
+
+add-if1 : tie.Need-add-if1 Inv-loop μ-loop
+add-if1 c = omega arith
+
+returns : tie.Need-returns Inv-loop μ-loop
+returns c =
+    let start = c .before .before in
+    let r = start .args .t2 in
+    let size = value-length r (rows-length r _ (start .good .1 .0)) (start .pre) in
+    no-place (replayValue (take (r .count) (r .rows))) (start .args .out .now) (omega arith)
+
+slice-write-out : tie.Need-slice-write-out Inv-loop μ-loop
+slice-write-out c = omega arith
+
+loop-holds : tie.Need-loop-holds Inv-loop μ-loop
+loop-holds c = (omega arith, refl, refl, refl)
+
+mul-row-bytes : tie.Need-mul-row-bytes Inv-loop μ-loop
+mul-row-bytes c = omega arith
+
+element-copy-out-row-bytes : tie.Need-element-copy-out-row-bytes Inv-loop μ-loop
+element-copy-out-row-bytes c = omega arith
+
+row-bytes-requires : tie.Need-row-bytes-requires Inv-loop μ-loop
+row-bytes-requires c κs = search needs
+
+slice-aggregate-store : tie.Need-slice-aggregate-store Inv-loop μ-loop
+slice-aggregate-store c = search needs
+
+store-requires : tie.Need-store-requires Inv-loop μ-loop
+store-requires c κs =
+    let turn = c .before .before .before .before .before .loop in
+    let size = ap length (c .before .before .row-bytes .ensures) in
+    let room = simp length-set at (turn .inv .2) in
+    omega arith
+
+add-at : tie.Need-add-at Inv-loop μ-loop
+add-at c = omega arith
+
+add-i : tie.Need-add-i Inv-loop μ-loop
+add-i c = omega arith
+
+loop-less : tie.Need-loop-less Inv-loop μ-loop
+loop-less c = omega arith
+
+loop-again : tie.Need-loop-again Inv-loop μ-loop
+loop-again c =
+    let turn = c .before .before .before .before .before .before .before .before .loop in
+    let start = c .before .before .before .before .before .before .before .before .before .before .before in
+    let r = start .args .t2 in
+    let size = rows-length r _ (start .good .1 .0) in
+    (omega arith, omega arith, ap length (c .before .before .store .ensures) ∙ simp length-sets (turn .inv .2), turn .inv .3 ∙ row-stored (r .rows) (r .count) (turn .i) (omega arith) (turn .out) (turn .at) (omega arith) (c .before .before .before .before .before .row-bytes .ensures) (c .before .before .store .ensures))
+
+cast-result : tie.Need-cast-result Inv-loop μ-loop
+cast-result c = omega arith
+
+same-length : tie.Need-same-length Inv-loop μ-loop
+same-length c = simp length-set at (c .before .loop .inv .2)
+
+returns-2 : tie.Need-returns-2 Inv-loop μ-loop
+returns-2 c =
+    let turn = c .before .loop in
+    let start = c .before .before .before .before in
+    let r = start .args .t2 in
+    let length-of-rows = rows-length r _ (start .good .1 .0) in
+    let size = value-length r length-of-rows (start .pre) in
+    let placed = place (replayValue (take (r .count) (r .rows))) (start .args .out .now) (omega arith) in (
+      placed .0,
+      sym (turn .inv .3 ∙ rows-end (r .rows) (r .count) (turn .i) (omega arith) (turn .out) (turn .at) (c .loop-test .left))
+          ∙ ap (λ (n : ℕ). sets (set (start .args .out .now) 0 n) 1 (rowsBytes (take (r .count) (r .rows)))) (sym (taken-length r length-of-rows (start .pre)))
+          ∙ placed .1,
+    )
+
+pub answer-rows-spec : {M : Type 1} → statement M
+answer-rows-spec =
+    tie.close
+    (tie.spec
+    Inv-loop
+    μ-loop
+    cast-rows
+    mul-if1
+    add-if1
+    returns
+    slice-write-out
+    loop-holds
+    mul-row-bytes
+    element-copy-out-row-bytes
+    row-bytes-requires
+    slice-aggregate-store
+    store-requires
+    add-at
+    add-i
+    loop-less
+    loop-again
+    cast-result
+    same-length
+    returns-2)

@@ -1,0 +1,30 @@
+-- Document 01, "Hosts in C": "the count is tried first, the new entry last, and if accepted it is stored behind the others."
+use Prim.Native.Nat.{ℕ, suc, _*_}
+use mathlib.Core.Bool.{cond, not}
+use mathlib.Core.List.{List, [], _∷_}
+use lib.Dec.{eqb, ltb}
+use lib.ListN.{length}
+use lib.Seq.{sets}
+use Rattle.entry.specs.Refusal.{Check, accepted, check, firstRefusal, noPlace}
+use Rattle.records.specs.declared.Numbers.{Numbers}
+use Rattle.records.specs.Numbers.{entryOf, readNumbers}
+use Rattle.records.specs.Record.{recordOf, recordSize}
+use Rattle.release_log.specs.Behind.{enterReading, logBehind}
+
+-- an answer that refuses is passed on
+abbrev pub passing : ℕ → Check
+passing n = check n (not (eqb n accepted))
+
+-- the records, then the new entry, then its place
+unfoldable pub addAnswer : List ℕ → ℕ → Numbers → ℕ
+addAnswer bytes count n =
+    firstRefusal
+    (passing (logBehind bytes count .answer)
+    ∷ passing (enterReading (logBehind bytes count .log) (readNumbers n) .answer)
+    ∷ check noPlace (ltb (length bytes) (suc count * recordSize))
+    ∷ [])
+
+-- the lent buffer afterwards: the new record behind the others, or all as it was
+unfoldable pub addBytes : List ℕ → ℕ → Numbers → List ℕ
+addBytes bytes count n =
+    cond (eqb (addAnswer bytes count n) accepted) (sets bytes (count * recordSize) (recordOf (entryOf n))) bytes

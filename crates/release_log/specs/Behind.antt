@@ -1,0 +1,43 @@
+-- Document 01, "Hosts in C": the log behind the records that a host lends.
+use Prim.Native.Nat.{ℕ, zero, suc, _*_}
+use mathlib.Core.Bool.{cond}
+use mathlib.Core.List.{List, [], _∷_}
+use lib.Dec.{eqb, ltb}
+use lib.ListN.{drop, length, take}
+use Rattle.entry.specs.Refusal.{accepted, outsideLimits}
+use Rattle.commit_log.specs.declared.Entered.{Entered}
+use Rattle.commit_log.specs.declared.Log.{Log}
+use Rattle.commit_log.specs.Enter.{answered, enter}
+use Rattle.commit_log.specs.Log.{emptyLog}
+use Rattle.records.specs.declared.Reading.{Reading}
+use Rattle.records.specs.declared.Reading.the-variants.{Of, Refused}
+use Rattle.records.specs.Record.{readRecord, recordSize}
+
+-- "A host lends the accepted entries so far, oldest first, and their count."
+unfoldable pub recordsIn : List ℕ → ℕ → List (List ℕ)
+recordsIn bytes zero = []
+recordsIn bytes (suc n) = take recordSize bytes ∷ recordsIn (drop recordSize bytes) n
+
+-- what was read goes to the plain log: 1 or 2, or what the log says
+unfoldable pub enterReading : Log → Reading → Entered
+enterReading l (Of e) = enter l e
+enterReading l (Refused n) = answered l n
+
+-- "A lent record which the plain log refuses gives that record's refusal, the first one found"
+unfoldable pub logAfter : Log → List (List ℕ) → Entered
+logAfter l [] = answered l accepted
+logAfter l (r ∷ rs) =
+    cond (eqb (enterReading l (readRecord r) .answer) accepted)
+    (logAfter (enterReading l (readRecord r) .log) rs)
+    (enterReading l (readRecord r))
+
+-- the log l after `count` records of a buffer: "the count is tried first", "a count beyond the buffer 2"
+unfoldable pub logAfterLent : Log → List ℕ → ℕ → Entered
+logAfterLent l bytes count =
+    cond (ltb (length bytes) (count * recordSize))
+    (answered l outsideLimits)
+    (logAfter l (recordsIn bytes count))
+
+-- the log behind a buffer, or the first refusal found
+abbrev pub logBehind : List ℕ → ℕ → Entered
+logBehind bytes count = logAfterLent emptyLog bytes count

@@ -1,0 +1,20 @@
+-- The buffers that hosts come to, and the entries in a buffer: what the theorems of `proofs/Theorems.antt` speak of.
+use Prim.Native.Nat.{ℕ, suc}
+use mathlib.Core.List.{List, map}
+use mathlib.Core.Path.{_≡_}
+use Rattle.entry.specs.declared.Entry.{Entry}
+use Rattle.entry.specs.Refusal.{accepted}
+use Rattle.records.specs.declared.Numbers.{Numbers}
+use Rattle.records.specs.Record.{entryIn}
+use Rattle.release_log.specs.Add.{addAnswer, addBytes}
+use Rattle.release_log.specs.Behind.{recordsIn}
+
+-- a buffer that was filled only by accepted adds, from empty, and the count of its records
+pub data Filled : List ℕ → ℕ → Type 0 where
+  empty : {bytes : List ℕ} → Filled bytes 0
+  added : {bytes : List ℕ} {count : ℕ} (n : Numbers) → Filled bytes count → addAnswer bytes count n ≡ accepted
+      → Filled (addBytes bytes count n) (suc count)
+
+-- the entries that the lent records stand for, oldest first
+abbrev pub entriesIn : List ℕ → ℕ → List Entry
+entriesIn bytes count = map entryIn (recordsIn bytes count)

@@ -1,0 +1,5 @@
+pub mod Add
+pub mod Behind
+pub mod Filled
+pub mod Parts
+pub mod Query

@@ -1,0 +1,74 @@
+-- Document 01, "Hosts in C": "A query answers 0 and writes its value to a second buffer".
+use Prim.Native.Nat.{ℕ, _+_}
+use mathlib.Core.Bool.{Bool, _||_, cond}
+use mathlib.Core.List.{List, [], _∷_, _++_}
+use lib.Dec.{eqb, leb, ltb}
+use lib.ListN.{length}
+use lib.Seq.{sets}
+use Rattle.entry.specs.Limits.{stores, transactions}
+use Rattle.entry.specs.Refusal.{accepted, check, firstRefusal, outsideLimits, noPlace}
+use Rattle.commit_log.specs.declared.Entered.{Entered}
+use Rattle.commit_log.specs.declared.Replayed.{Replayed}
+use Rattle.commit_log.specs.Involvement.{involvementNumber, involvementOf}
+use Rattle.commit_log.specs.Outcome.{outcomeNumber, outcomeOf}
+use Rattle.commit_log.specs.Replay.{replayRows}
+use Rattle.records.specs.Record.{lowFirst, updateSize}
+use Rattle.release_log.specs.Add.{passing}
+use Rattle.release_log.specs.Behind.{logBehind}
+
+-- the records' log and answer, whether the query's own numbers are outside their limits, and the value
+pub record Query : Type 0 where
+  pub behind : Entered
+  pub outside : Bool
+  pub value : List ℕ
+
+-- "A query's own numbers are tried after the records; then too short a second buffer is 6."
+unfoldable pub answerTo : Query → List ℕ → ℕ
+answerTo q out =
+    firstRefusal
+    (passing (q .behind .answer)
+    ∷ check outsideLimits (q .outside)
+    ∷ check noPlace (ltb (length out) (length (q .value)))
+    ∷ [])
+
+-- the second buffer afterwards: the value at its front and the rest as it was, or all as it was
+unfoldable pub bytesAfter : Query → List ℕ → List ℕ
+bytesAfter q out = cond (eqb (answerTo q out) accepted) (sets out 0 (q .value)) out
+
+-- "a byte for outcome (0 open, 1 commit, 2 abort)"
+abbrev pub outcomeQuery : List ℕ → ℕ → ℕ → Query
+outcomeQuery bytes count tx = record {
+  behind = logBehind bytes count;
+  outside = leb transactions tx;
+  value = outcomeNumber (outcomeOf (logBehind bytes count .log) tx) ∷ [];
+}
+
+-- "or involvement (0 no, 1 yes, 2 unknown)"
+abbrev pub involvementQuery : List ℕ → ℕ → ℕ → ℕ → Query
+involvementQuery bytes count tx store = record {
+  behind = logBehind bytes count;
+  outside = leb transactions tx || leb stores store;
+  value = involvementNumber (involvementOf (logBehind bytes count .log) tx store) ∷ [];
+}
+
+-- "six bytes a row: group, tx, update"
+abbrev pub rowSize : ℕ
+rowSize = 2 + updateSize
+
+abbrev pub rowBytes : Replayed → List ℕ
+rowBytes r = r .group ∷ r .tx ∷ lowFirst updateSize (r .update)
+
+unfoldable pub rowsBytes : List Replayed → List ℕ
+rowsBytes [] = []
+rowsBytes (r ∷ rs) = rowBytes r ++ rowsBytes rs
+
+-- "for a replay a byte with the number of rows, then six bytes a row"
+abbrev pub replayValue : List Replayed → List ℕ
+replayValue rows = length rows ∷ rowsBytes rows
+
+abbrev pub replayQuery : List ℕ → ℕ → ℕ → Query
+replayQuery bytes count store = record {
+  behind = logBehind bytes count;
+  outside = leb stores store;
+  value = replayValue (replayRows (logBehind bytes count .log) store);
+}

@@ -1,0 +1,142 @@
+// The library for hosts in C: the log behind the records that a host lends. Document 01, "Hosts in C".
+ghost use mathlib.Core.Path.{_≡_};
+ghost use Prim.Native.Nat.{_*_, _≤_};
+ghost use lib.ListN.{length};
+ghost use Rattle.records.specs.Numbers.{numbers};
+ghost use Rattle.records.specs.Record.{recordSize};
+ghost use Rattle.release_log.specs.Add.{addAnswer, addBytes};
+ghost use Rattle.release_log.specs.Parts.{entryAnswer, entryBytes};
+ghost use Rattle.release_log.specs.Query.{answerTo, bytesAfter, involvementQuery, outcomeQuery, replayQuery};
+use behind::log_after_lent;
+use bytes::NO_PLACE;
+use commit_log::Log;
+use entry::Entry;
+use entry::limits::STORES;
+use entry::limits::TRANSACTIONS;
+use entry::refusal::ACCEPTED;
+use entry::refusal::OUTSIDE_LIMITS;
+use records::Numbers;
+use records::RECORD_SIZE;
+use records::Reading;
+
+mod behind;
+mod bytes;
+mod values;
+
+// The new entry behind the records, whose log is `log`.
+fn add_entry(records: &mut [u8], count: usize, log: Log, e: Entry) -> u32
+    requires { ⌜ count * recordSize ≤ length (now records) ⌝ }
+    ensures { λ r. ⌜ r ≡ entryAnswer (now (records .entry)) count log e ⌝ }
+    ensures { λ r. ⌜ now (records .exit) ≡ entryBytes (now (records .entry)) count log e ⌝ }
+{
+    let after = log.enter(e);
+    if after.answer != ACCEPTED {
+        return after.answer as u32;
+    }
+    let at = count * RECORD_SIZE;
+    if records.len() - at < RECORD_SIZE {
+        return NO_PLACE;
+    }
+    let record = records::record_of(e);
+    bytes::store(records, at, &record);
+    ACCEPTED as u32
+}
+
+// A new entry: its record is stored behind the lent ones.
+#[no_mangle]
+pub extern "C" fn release_log_add(
+    records: &mut [u8],
+    count: usize,
+    kind: u32,
+    process: u32,
+    by: u32,
+    store: u32,
+    tx: u32,
+    list: u32,
+    say: u32,
+    update: u32,
+) -> u32
+    ensures { λ r. ⌜ r ≡ addAnswer (now (records .entry)) count (numbers kind process by store tx list say update) ⌝ }
+    ensures { λ r. ⌜ now (records .exit) ≡ addBytes (now (records .entry)) count (numbers kind process by store tx list say update) ⌝ }
+{
+    let behind = log_after_lent(Log::empty(), &records[..], count);
+    if behind.answer != ACCEPTED {
+        return behind.answer as u32;
+    }
+    let numbers = Numbers {
+        kind: kind,
+        process: process,
+        by: by,
+        store: store,
+        tx: tx,
+        list: list,
+        say: say,
+        update: update,
+    };
+    match numbers.read() {
+        Reading::Refused(answer) => answer as u32,
+        Reading::Of(e) => add_entry(records, count, behind.log, e),
+    }
+}
+
+// The outcome of a transaction.
+#[no_mangle]
+pub extern "C" fn release_log_outcome(records: &[u8], count: usize, tx: u32, out: &mut [u8]) -> u32
+    ensures { λ r. ⌜ r ≡ answerTo (outcomeQuery (now (records .entry)) count tx) (now (out .entry)) ⌝ }
+    ensures { λ r. ⌜ now (out .exit) ≡ bytesAfter (outcomeQuery (now (records .entry)) count tx) (now (out .entry)) ⌝ }
+{
+    let behind = log_after_lent(Log::empty(), records, count);
+    if behind.answer != ACCEPTED {
+        return behind.answer as u32;
+    }
+    if TRANSACTIONS as u32 <= tx {
+        return OUTSIDE_LIMITS as u32;
+    }
+    values::answer_byte(out, behind.log.outcome(tx as u8).number())
+}
+
+// Whether a store is involved in a transaction.
+#[no_mangle]
+pub extern "C" fn release_log_involvement(
+    records: &[u8],
+    count: usize,
+    tx: u32,
+    store: u32,
+    out: &mut [u8],
+) -> u32
+    ensures { λ r. ⌜ r ≡ answerTo (involvementQuery (now (records .entry)) count tx store) (now (out .entry)) ⌝ }
+    ensures { λ r. ⌜ now (out .exit) ≡ bytesAfter (involvementQuery (now (records .entry)) count tx store) (now (out .entry)) ⌝ }
+{
+    let behind = log_after_lent(Log::empty(), records, count);
+    if behind.answer != ACCEPTED {
+        return behind.answer as u32;
+    }
+    if TRANSACTIONS as u32 <= tx {
+        return OUTSIDE_LIMITS as u32;
+    }
+    if STORES as u32 <= store {
+        return OUTSIDE_LIMITS as u32;
+    }
+    values::answer_byte(out, behind.log.involvement(tx as u8, store as u8).number())
+}
+
+// A store's replay.
+#[no_mangle]
+pub extern "C" fn release_log_replay(
+    records: &[u8],
+    count: usize,
+    store: u32,
+    out: &mut [u8],
+) -> u32
+    ensures { λ r. ⌜ r ≡ answerTo (replayQuery (now (records .entry)) count store) (now (out .entry)) ⌝ }
+    ensures { λ r. ⌜ now (out .exit) ≡ bytesAfter (replayQuery (now (records .entry)) count store) (now (out .entry)) ⌝ }
+{
+    let behind = log_after_lent(Log::empty(), records, count);
+    if behind.answer != ACCEPTED {
+        return behind.answer as u32;
+    }
+    if STORES as u32 <= store {
+        return OUTSIDE_LIMITS as u32;
+    }
+    values::answer_rows(out, behind.log.replay(store as u8))
+}

@@ -1,0 +1,58 @@
+// Values written to a query's second buffer.
+ghost use mathlib.Core.List.{[], _∷_};
+ghost use mathlib.Core.Path.{_≡_};
+ghost use Prim.Native.Nat.{_≤_};
+ghost use lib.ListN.{take};
+ghost use Rattle.entry.specs.Limits.{transactions};
+ghost use Rattle.release_log.specs.Parts.{placeAnswer, placeBytes};
+ghost use Rattle.release_log.specs.Query.{replayValue, rowBytes};
+use crate::bytes::NO_PLACE;
+use crate::bytes::store;
+use commit_log::Replay;
+use commit_log::Replayed;
+use entry::refusal::ACCEPTED;
+
+// The bytes of a row. `specs/Query.antt` has the same number for the contracts.
+const ROW_SIZE: usize = 6;
+
+// A value of one byte.
+pub(crate) fn answer_byte(out: &mut [u8], value: u8) -> u32
+    ensures { λ r. ⌜ r ≡ placeAnswer (value ∷ []) (now (out .entry)) ⌝ }
+    ensures { λ r. ⌜ now (out .exit) ≡ placeBytes (value ∷ []) (now (out .entry)) ⌝ }
+{
+    if out.len() < 1 {
+        return NO_PLACE;
+    }
+    out[0] = value;
+    ACCEPTED as u32
+}
+
+fn row_bytes(r: Replayed) -> [u8; ROW_SIZE]
+    ensures { λ b. ⌜ b ≡ rowBytes r ⌝ }
+{
+    let update = records::low_first(r.update);
+    [r.group, r.tx, update[0], update[1], update[2], update[3]]
+}
+
+// A replay: the number of its rows, and the rows.
+pub(crate) fn answer_rows(out: &mut [u8], replay: Replay) -> u32
+    requires { ⌜ replay .count ≤ transactions ⌝ }
+    ensures { λ r. ⌜ r ≡ placeAnswer (replayValue (take (replay .count) (replay .rows))) (now (out .entry)) ⌝ }
+    ensures { λ r. ⌜ now (out .exit) ≡ placeBytes (replayValue (take (replay .count) (replay .rows))) (now (out .entry)) ⌝ }
+{
+    let count = replay.count;
+    let rows = count as usize;
+    if out.len() < 1 + rows * ROW_SIZE {
+        return NO_PLACE;
+    }
+    out[0] = count;
+    let mut at: usize = 1;
+    let mut i: usize = 0;
+    while i < rows {
+        let bytes = row_bytes(replay.rows[i]);
+        store(&mut *out, at, &bytes);
+        at += ROW_SIZE;
+        i += 1;
+    }
+    ACCEPTED as u32
+}

@@ -1,0 +1,317 @@
+//! Random calls of the library beside the Rust implementation: answers and both buffers must be equal. Prints how often each answer
+//! occurred, and fails if one that can occur never did.
+
+mod library;
+mod longest;
+mod plain_log;
+
+use plain_log::{log_behind, Entry, Log, Numbers, Vote, RECORD, ROW};
+
+const CALLS: usize = 200_000;
+const HISTORIES: usize = 300;
+const ANSWERS: usize = 12;
+
+/// splitmix64
+struct Random(u64);
+
+impl Random {
+    fn next(&mut self) -> u64 {
+        self.0 = self.0.wrapping_add(0x9e37_79b9_7f4a_7c15);
+        let mut z = self.0;
+        z = (z ^ z >> 30).wrapping_mul(0xbf58_476d_1ce4_e5b9);
+        z = (z ^ z >> 27).wrapping_mul(0x94d0_49bb_1331_11eb);
+        z ^ z >> 31
+    }
+
+    fn below(&mut self, n: usize) -> usize {
+        (self.next() % n as u64) as usize
+    }
+
+    /// True once in n.
+    fn once_in(&mut self, n: usize) -> bool {
+        self.below(n) == 0
+    }
+
+    fn pick<T: Copy>(&mut self, of: &[T]) -> T {
+        of[self.below(of.len())]
+    }
+
+    fn bytes(&mut self, n: usize) -> Vec<u8> {
+        (0..n).map(|_| self.next() as u8).collect()
+    }
+}
+
+/// Lists that the votes of a transaction use, so that many agree.
+fn list_of(r: &mut Random, tx: u8) -> u8 {
+    const LISTS: [u8; 8] = [0x03, 0x01, 0x07, 0xff, 0x18, 0x82, 0x0f, 0x41];
+    if r.once_in(8) {
+        r.next() as u8
+    } else {
+        LISTS[tx as usize % 8]
+    }
+}
+
+/// An entry within its limits that a log may well accept.
+fn sensible(r: &mut Random, holders: &[u8; 8]) -> Entry {
+    let tx = r.below(32) as u8;
+    let list = list_of(r, tx);
+    let mut store = r.below(8) as u8;
+    while list >> store & 1 == 0 && !r.once_in(8) {
+        store = (store + 1) % 8;
+    }
+    if r.once_in(6) || holders[store as usize] == 0 {
+        let process = r.below(15) as u8 + 1;
+        return Entry::Take { process, store };
+    }
+    let commit = !r.once_in(8);
+    let by = if commit { store } else { r.below(8) as u8 };
+    let held_by = holders[by as usize];
+    Entry::Vote(Vote {
+        process: if held_by == 0 { r.below(15) as u8 + 1 } else { held_by },
+        by,
+        store,
+        tx,
+        list,
+        commit,
+        update: if commit { r.next() as u32 } else { 0 },
+    })
+}
+
+/// Entries that a log accepts in turn.
+struct History {
+    entries: Vec<Entry>,
+}
+
+impl History {
+    fn grown(r: &mut Random) -> History {
+        let length = r.pick(&[3, 20, 60, 120, 376]);
+        let (mut log, mut holders, mut entries) = (Log::new(), [0u8; 8], Vec::new());
+        for _ in 0..length * 4 {
+            let e = sensible(r, &holders);
+            if log.enter(&e) == 0 {
+                if let Entry::Take { process, store } = e {
+                    holders[store as usize] = process;
+                }
+                entries.push(e);
+            }
+            if entries.len() == length {
+                break;
+            }
+        }
+        History { entries }
+    }
+
+    /// The holders after the first n entries.
+    fn holders(&self, n: usize) -> [u8; 8] {
+        let mut holders = [0; 8];
+        for e in &self.entries[..n] {
+            if let Entry::Take { process, store } = *e {
+                holders[store as usize] = process;
+            }
+        }
+        holders
+    }
+}
+
+/// One fault in the records.
+fn damage(r: &mut Random, bytes: &mut [u8], h: &History) {
+    let n = bytes.len() / RECORD;
+    if n == 0 {
+        return;
+    }
+    let at = r.below(n) * RECORD;
+    match r.below(6) {
+        0 => bytes[at + r.below(RECORD)] ^= 1 << r.below(8),
+        1 => bytes[at + r.below(RECORD)] = r.next() as u8,
+        2 => {
+            let from = r.below(n) * RECORD;
+            bytes.copy_within(from..from + RECORD, at);
+        }
+        3 => {
+            let other = r.below(n) * RECORD;
+            for i in 0..RECORD {
+                bytes.swap(at + i, other + i);
+            }
+        }
+        4 => {
+            let upto = r.below(n + 1);
+            let e = sensible(r, &h.holders(upto));
+            bytes[at..at + RECORD].copy_from_slice(&e.to_record());
+        }
+        _ => {
+            let field = r.pick(&[1, 2, 3, 4, 5, 6]);
+            bytes[at + field] = r.pick(&[0, 1, 7, 8, 15, 16, 31, 32, 255]);
+        }
+    }
+}
+
+/// A count: mostly the right one, at times one more or less, or one whose product with 12 wraps.
+fn count_for(r: &mut Random, right: usize, len: usize) -> usize {
+    const WRAPS: usize = usize::MAX / RECORD + 1;
+    match r.below(40) {
+        0 => right.saturating_sub(1),
+        1 => len / RECORD,
+        2 => len / RECORD + 1,
+        3 => r.pick(&[usize::MAX, usize::MAX - 1, usize::MAX / 2, 1 << 63, 1 << 32]),
+        4 => usize::MAX / RECORD - r.below(3),
+        5 => WRAPS + r.below(right + 2),
+        6 => WRAPS * 2 + r.below(right + 2),
+        _ => right,
+    }
+}
+
+fn numbers_for(r: &mut Random, holders: &[u8; 8]) -> Numbers {
+    let mut n = sensible(r, holders).numbers();
+    if r.once_in(2) {
+        let field = r.below(8);
+        n[field] = match r.below(4) {
+            0 => r.pick(&[0, 1, 2, 7, 8, 15, 16, 31, 32, 255]),
+            1 => r.pick(&[256, 257, 512, 65536, 1 << 31, u32::MAX]),
+            2 => n[field].wrapping_add(256),
+            _ => r.below(40) as u32,
+        };
+    }
+    n
+}
+
+/// A number of a query.
+fn number_for(r: &mut Random, limit: u32) -> u32 {
+    match r.below(12) {
+        0 => r.pick(&[limit, limit + 1, 255, 256, 256 + limit / 2, 1 << 31, u32::MAX]),
+        _ => r.below(limit as usize) as u32,
+    }
+}
+
+#[derive(Default)]
+struct Seen {
+    count: [[usize; ANSWERS]; 4],
+    records: [[usize; ANSWERS]; 4],
+    own: [[usize; ANSWERS]; 4],
+    outcomes: [usize; 3],
+    involvements: [usize; 3],
+    /// Replays without and with rows, and the most rows of one.
+    rows: [usize; 3],
+}
+
+const CALL_NAMES: [&str; 4] = ["add", "outcome", "involvement", "replay"];
+
+impl Seen {
+    fn note(&mut self, call: usize, records: &[u8], count: usize, answer: u32) {
+        let row = if count > records.len() / RECORD {
+            &mut self.count
+        } else if log_behind(records, count).is_err() {
+            &mut self.records
+        } else {
+            &mut self.own
+        };
+        row[call][answer as usize] += 1;
+    }
+
+    fn print_and_judge(&self) -> bool {
+        let mut whole = true;
+        let own = [&[0, 1, 2, 6, 7, 8, 9, 10, 11][..], &[0, 2, 6], &[0, 2, 6], &[0, 2, 6]];
+        for call in 0..4 {
+            let rows: [(&str, &[usize; ANSWERS], &[usize]); 3] = [
+                ("count", &self.count[call], &[2]),
+                ("records", &self.records[call], &[1, 2, 7, 8, 9, 10, 11]),
+                ("own", &self.own[call], own[call]),
+            ];
+            for (by, seen, expected) in rows {
+                print!("{:<11} decided by {by:<7}", CALL_NAMES[call]);
+                for a in 0..ANSWERS {
+                    if seen[a] > 0 || expected.contains(&a) {
+                        print!("  {a}: {}", seen[a]);
+                    }
+                    whole &= (seen[a] > 0) == expected.contains(&a);
+                }
+                println!();
+            }
+        }
+        println!("outcomes open {}, commit {}, abort {}", self.outcomes[0], self.outcomes[1], self.outcomes[2]);
+        let [no, yes, unknown] = self.involvements;
+        println!("involvements no {no}, yes {yes}, unknown {unknown}");
+        let [none, some, most] = self.rows;
+        println!("replays of no row {none}, of rows {some}, most rows {most}");
+        whole && self.outcomes.iter().chain(&self.involvements).all(|&n| n > 0) && most > 8
+    }
+}
+
+struct Call {
+    records: Vec<u8>,
+    count: usize,
+    out: Vec<u8>,
+}
+
+/// The call by both, on copies; the answer, which must be the same, and the second buffer.
+fn both(
+    c: &Call,
+    library: impl Fn(&mut Vec<u8>, &mut Vec<u8>) -> u32,
+    plain: impl Fn(&mut Vec<u8>, &mut Vec<u8>) -> u32,
+) -> (u32, Vec<u8>) {
+    let (mut records, mut out) = (c.records.clone(), c.out.clone());
+    let (mut records_too, mut out_too) = (c.records.clone(), c.out.clone());
+    let answer = library(&mut records, &mut out);
+    let expected = plain(&mut records_too, &mut out_too);
+    assert_eq!(answer, expected, "answer, {} records of {:?}", c.count, c.records);
+    assert_eq!(records, records_too, "records, {} of {:?}", c.count, c.records);
+    assert_eq!(out, out_too, "second buffer, {} records of {:?}", c.count, c.records);
+    assert!(answer == 0 || records == c.records && out == c.out, "a refusal changed a buffer");
+    (answer, out)
+}
+
+fn one(r: &mut Random, histories: &[History], seen: &mut Seen) {
+    let h = &histories[r.below(histories.len())];
+    let k = r.below(h.entries.len() + 1);
+    let mut records: Vec<u8> = h.entries[..k].iter().flat_map(|e| e.to_record()).collect();
+    if r.once_in(3) {
+        for _ in 0..=r.below(2) {
+            damage(r, &mut records, h);
+        }
+    }
+    let tail = r.pick(&[0, 1, 11, 12, 12, 12, 13, 24, 40]);
+    records.extend(r.bytes(tail));
+    let count = count_for(r, k, records.len());
+    let out_len = r.pick(&[0, 1, 1, 2, 7, 12, 13, 19, 193, 200]);
+    let c = Call { records, count, out: r.bytes(out_len) };
+    let (tx, store) = (number_for(r, 32), number_for(r, 8));
+    let call = r.pick(&[0, 0, 1, 2, 3]);
+    let (answer, out) = match call {
+        0 => {
+            let n = numbers_for(r, &h.holders(k));
+            both(&c, |b, _| library::add(b, count, &n), |b, _| plain_log::add(b, count, &n))
+        }
+        1 => both(&c, |b, o| library::outcome(b, count, tx, o), |b, o| plain_log::outcome(b, count, tx, o)),
+        2 => both(
+            &c,
+            |b, o| library::involvement(b, count, tx, store, o),
+            |b, o| plain_log::involvement(b, count, tx, store, o),
+        ),
+        _ => both(&c, |b, o| library::replay(b, count, store, o), |b, o| plain_log::replay(b, count, store, o)),
+    };
+    seen.note(call, &c.records, count, answer);
+    if answer == 0 {
+        match call {
+            1 => seen.outcomes[out[0] as usize] += 1,
+            2 => seen.involvements[out[0] as usize] += 1,
+            3 => {
+                seen.rows[(out[0] > 0) as usize] += 1;
+                seen.rows[2] = seen.rows[2].max(out[0] as usize);
+            }
+            _ => {}
+        }
+    }
+}
+
+fn main() {
+    let seed = std::env::args().nth(1).map_or(1, |s| s.parse().expect("a seed"));
+    let mut r = Random(seed);
+    let mut histories: Vec<History> = (0..HISTORIES).map(|_| History::grown(&mut r)).collect();
+    histories.push(History { entries: longest::longest() });
+    let longest = histories.iter().map(|h| h.entries.len()).max().unwrap_or(0);
+    let mut seen = Seen::default();
+    for _ in 0..CALLS {
+        one(&mut r, &histories, &mut seen);
+    }
+    println!("{CALLS} calls, up to {longest} lent records, rows of {ROW} bytes");
+    assert!(seen.print_and_judge(), "an answer never occurred, or one that cannot occur did");
+}

@@ -1,0 +1,235 @@
+/* Calls every entry point with buffers of the exact size, each from the heap, so that a memory checker sees a byte too far. Bytes that the
+   library must not look at are never written. */
+#include <stdio.h>
+#include <stdlib.h>
+#include <string.h>
+
+#include "release_log.h"
+
+static int failures;
+
+static void expect(const char *what, uint32_t got, uint32_t wanted)
+{
+	if (got != wanted) {
+		printf("%s: %u, not %u\n", what, (unsigned)got, (unsigned)wanted);
+		failures++;
+	}
+}
+
+static void expect_bytes(const char *what, const uint8_t *got, const uint8_t *wanted, size_t n)
+{
+	if (memcmp(got, wanted, n) != 0) {
+		printf("%s: other bytes\n", what);
+		failures++;
+	}
+}
+
+/* A copy on the heap of just these bytes; no byte at all for none. */
+static uint8_t *lent(const void *bytes, size_t n)
+{
+	uint8_t *p = malloc(n);
+	if (n > 0)
+		memcpy(p, bytes, n);
+	return p;
+}
+
+/* Process 1 holds store 0 and 2 holds store 1; they commit tx 4 with list 03. */
+static const uint8_t story[4][RELEASE_LOG_RECORD_SIZE] = {
+	{0, 1, 0, 0, 0, 0, 0, 0, 0, 0, 0, 0},
+	{0, 2, 0, 1, 0, 0, 0, 0, 0, 0, 0, 0},
+	{1, 1, 0, 0, 4, 3, 1, 0, 0x0d, 0x0c, 0x0b, 0x0a},
+	{1, 2, 1, 1, 4, 3, 1, 0, 0x0e, 0, 0, 0},
+};
+
+static uint32_t add(uint8_t *records, size_t len, size_t count, const uint32_t n[8])
+{
+	return release_log_add(records, len, count, n[0], n[1], n[2], n[3], n[4], n[5], n[6], n[7]);
+}
+
+/* The story, entry by entry, into a buffer that grows by one record of bytes never written. */
+static void test_add(void)
+{
+	static const uint32_t calls[4][8] = {
+		{0, 1, 0, 0, 0, 0, 0, 0},
+		{0, 2, 0, 1, 0, 0, 0, 0},
+		{1, 1, 0, 0, 4, 3, 1, 0x0a0b0c0d},
+		{1, 2, 1, 1, 4, 3, 1, 0x0e},
+	};
+	for (size_t n = 0; n < 4; n++) {
+		size_t len = (n + 1) * RELEASE_LOG_RECORD_SIZE;
+		uint8_t *records = malloc(len);
+		memcpy(records, story, n * RELEASE_LOG_RECORD_SIZE);
+		expect("add", add(records, len, n, calls[n]), RELEASE_LOG_OK);
+		expect_bytes("add", records, story[0], len);
+		free(records);
+	}
+}
+
+/* Each refusal of a new entry behind the story, in a buffer without and with place. */
+static void test_add_refused(void)
+{
+	static const struct {
+		uint32_t answer, numbers[8];
+	} cases[] = {
+		{1, {2, 3, 0, 2, 0, 0, 0, 0}},      {1, {1, 1, 0, 0, 5, 1, 2, 0}},
+		{1, {0, 3, 1, 2, 0, 0, 0, 0}},      {1, {0, 3, 0, 2, 0, 0, 0, 1u << 31}},
+		{1, {0, 99, 0, 2, 256, 0, 0, 0}},   {2, {0, 0, 0, 2, 0, 0, 0, 0}},
+		{2, {0, 16, 0, 2, 0, 0, 0, 0}},     {2, {0, 259, 0, 2, 0, 0, 0, 0}},
+		{2, {0, 3, 0, 8, 0, 0, 0, 0}},      {2, {1, 1, 256, 0, 5, 1, 1, 0}},
+		{2, {1, 1, 0, 0, 32, 1, 1, 0}},     {2, {1, 1, 0, 0, 5, 257, 1, 0}},
+		{7, {1, 1, 0, 0, 5, 2, 1, 0}},      {7, {1, 1, 0, 1, 5, 3, 1, 0}},
+		{7, {1, 1, 0, 0, 5, 1, 0, 1}},      {8, {1, 2, 0, 0, 5, 1, 1, 0}},
+		{9, {1, 2, 1, 1, 4, 7, 1, 0}},      {10, {1, 2, 1, 1, 4, 3, 0, 0}},
+		{11, {0, 1, 0, 2, 0, 0, 0, 0}},     {11, {0, 1, 0, 0, 0, 0, 0, 0}},
+	};
+	for (size_t i = 0; i < sizeof cases / sizeof *cases; i++) {
+		for (size_t more = 0; more <= RELEASE_LOG_RECORD_SIZE; more += RELEASE_LOG_RECORD_SIZE) {
+			uint8_t *records = malloc(sizeof story + more);
+			memcpy(records, story, sizeof story);
+			expect("add refused", add(records, sizeof story + more, 4, cases[i].numbers), cases[i].answer);
+			expect_bytes("add refused", records, story[0], sizeof story);
+			free(records);
+		}
+	}
+}
+
+/* An accepted entry without place, one byte short of it, and in no buffer at all. */
+static void test_no_place(void)
+{
+	static const uint32_t take[8] = {0, 3, 0, 2, 0, 0, 0, 0};
+	uint8_t *records = lent(story, sizeof story);
+	expect("full", add(records, sizeof story, 4, take), RELEASE_LOG_NO_PLACE);
+	expect_bytes("full", records, story[0], sizeof story);
+	free(records);
+	records = malloc(sizeof story + RELEASE_LOG_RECORD_SIZE - 1);
+	memcpy(records, story, sizeof story);
+	expect("a byte short", add(records, sizeof story + RELEASE_LOG_RECORD_SIZE - 1, 4, take), RELEASE_LOG_NO_PLACE);
+	free(records);
+	expect("no buffer", add(NULL, 0, 0, take), RELEASE_LOG_NO_PLACE);
+}
+
+/* Counts beyond the buffer, among them those whose bytes wrap a size_t. */
+static void test_count(void)
+{
+	static const uint32_t take[8] = {0, 3, 0, 2, 0, 0, 0, 0};
+	size_t wraps = SIZE_MAX / RELEASE_LOG_RECORD_SIZE + 1;
+	size_t counts[] = {5, SIZE_MAX, SIZE_MAX - 1, SIZE_MAX / 2, SIZE_MAX / RELEASE_LOG_RECORD_SIZE, wraps, wraps + 1, wraps + 4, 2 * wraps};
+	uint8_t *records = lent(story, sizeof story), *out = lent("x", 1);
+	for (size_t i = 0; i < sizeof counts / sizeof *counts; i++) {
+		expect("count", add(records, sizeof story, counts[i], take), RELEASE_LOG_OUTSIDE);
+		expect("count", release_log_outcome(records, sizeof story, counts[i], 4, out, 1), RELEASE_LOG_OUTSIDE);
+		expect("count", release_log_involvement(records, sizeof story, counts[i], 4, 0, out, 1), RELEASE_LOG_OUTSIDE);
+		expect("count", release_log_replay(records, sizeof story, counts[i], 0, out, 1), RELEASE_LOG_OUTSIDE);
+	}
+	expect("count of no buffer", release_log_outcome(NULL, 0, 1, 4, out, 1), RELEASE_LOG_OUTSIDE);
+	expect_bytes("count", records, story[0], sizeof story);
+	expect("count", out[0], 'x');
+	free(records);
+	free(out);
+}
+
+/* One record spoiled: its refusal, whatever the call's own numbers and place. */
+static void test_records(void)
+{
+	static const struct {
+		uint32_t answer;
+		size_t at;
+		uint8_t byte;
+	} faults[] = {
+		{1, 0, 2},  {1, 2, 1},  {1, 7, 1},   {1, 11, 1}, {1, 24 + 6, 2}, {1, 36 + 7, 9}, {2, 1, 0},
+		{2, 13, 16}, {2, 3, 8}, {2, 24 + 4, 32}, {2, 24 + 2, 8}, {7, 24 + 5, 2}, {8, 24 + 1, 2}, {9, 36 + 5, 7}, {11, 13, 1},
+	};
+	static const uint32_t bad[8] = {9, 0, 0, 0, 0, 0, 0, 0};
+	for (size_t i = 0; i < sizeof faults / sizeof *faults; i++) {
+		uint8_t *records = lent(story, sizeof story), *before, out = 'x';
+		records[faults[i].at] = faults[i].byte;
+		before = lent(records, sizeof story);
+		expect("records", add(records, sizeof story, 4, bad), faults[i].answer);
+		expect("records", release_log_outcome(records, sizeof story, 4, 99, &out, 0), faults[i].answer);
+		expect("records", release_log_involvement(records, sizeof story, 4, 99, 99, &out, 0), faults[i].answer);
+		expect("records", release_log_replay(records, sizeof story, 4, 99, &out, 0), faults[i].answer);
+		expect_bytes("records", records, before, sizeof story);
+		expect("records", out, 'x');
+		free(records);
+		free(before);
+	}
+	/* The same vote twice is 10, and what stands behind the counted records is not looked at. */
+	uint8_t *records = malloc(sizeof story);
+	memcpy(records, story, 3 * RELEASE_LOG_RECORD_SIZE);
+	uint8_t *out = malloc(1);
+	expect("three", release_log_outcome(records, sizeof story, 3, 4, out, 1), RELEASE_LOG_OK);
+	expect("three", out[0], RELEASE_LOG_IS_OPEN);
+	memcpy(records + 36, story[2], RELEASE_LOG_RECORD_SIZE);
+	expect("twice", release_log_outcome(records, sizeof story, 4, 4, out, 1), RELEASE_LOG_KEPT_ALREADY);
+	free(records);
+	free(out);
+}
+
+static void test_outcome(void)
+{
+	uint8_t *records = lent(story, sizeof story), *out = lent("xyz", 3);
+	expect("outcome", release_log_outcome(records, sizeof story, 4, 4, out, 3), RELEASE_LOG_OK);
+	expect_bytes("outcome", out, (const uint8_t *)"\1yz", 3);
+	expect("outcome", release_log_outcome(records, sizeof story, 3, 4, out, 1), RELEASE_LOG_OK);
+	expect("outcome", out[0], RELEASE_LOG_IS_OPEN);
+	expect("outcome of 32", release_log_outcome(records, sizeof story, 4, 32, out, 0), RELEASE_LOG_OUTSIDE);
+	expect("outcome of 260", release_log_outcome(records, sizeof story, 4, 260, out, 1), RELEASE_LOG_OUTSIDE);
+	expect("outcome without place", release_log_outcome(records, sizeof story, 4, 4, NULL, 0), RELEASE_LOG_NO_PLACE);
+	free(records);
+	free(out);
+	expect("outcome of nothing", release_log_outcome(NULL, 0, 0, 4, (uint8_t[1]){9}, 1), RELEASE_LOG_OK);
+}
+
+static void test_involvement(void)
+{
+	static const uint8_t wanted[3] = {RELEASE_LOG_INVOLVED, RELEASE_LOG_INVOLVED, RELEASE_LOG_NOT_INVOLVED};
+	uint8_t *records = lent(story, sizeof story), *out = lent("xy", 2);
+	for (uint32_t store = 0; store < 3; store++) {
+		expect("involvement", release_log_involvement(records, sizeof story, 4, 4, store, out, 2), RELEASE_LOG_OK);
+		expect("involvement", out[0], wanted[store]);
+		expect("involvement", out[1], 'y');
+	}
+	expect("involvement", release_log_involvement(records, sizeof story, 4, 5, 0, out, 1), RELEASE_LOG_OK);
+	expect("involvement", out[0], RELEASE_LOG_UNKNOWN);
+	expect("involvement of tx 32", release_log_involvement(records, sizeof story, 4, 32, 0, out, 1), RELEASE_LOG_OUTSIDE);
+	expect("involvement of store 8", release_log_involvement(records, sizeof story, 4, 4, 8, out, 0), RELEASE_LOG_OUTSIDE);
+	expect("involvement without place", release_log_involvement(records, sizeof story, 4, 4, 0, out, 0), RELEASE_LOG_NO_PLACE);
+	expect("involvement", out[0], RELEASE_LOG_UNKNOWN);
+	free(records);
+	free(out);
+}
+
+static void test_replay(void)
+{
+	static const uint8_t row[7] = {1, 1, 4, 0x0d, 0x0c, 0x0b, 0x0a};
+	uint8_t *records = lent(story, sizeof story), *out = lent("........", 8), *exact = malloc(7);
+	expect("replay", release_log_replay(records, sizeof story, 4, 0, exact, 7), RELEASE_LOG_OK);
+	expect_bytes("replay", exact, row, 7);
+	expect("replay a byte short", release_log_replay(records, sizeof story, 4, 0, out, 6), RELEASE_LOG_NO_PLACE);
+	expect_bytes("replay a byte short", out, (const uint8_t *)"........", 8);
+	expect("replay", release_log_replay(records, sizeof story, 4, 0, out, 8), RELEASE_LOG_OK);
+	expect_bytes("replay", out, row, 7);
+	expect("replay", out[7], '.');
+	expect("replay of no row", release_log_replay(records, sizeof story, 4, 2, out, 1), RELEASE_LOG_OK);
+	expect("replay of no row", out[0], 0);
+	expect("replay of store 8", release_log_replay(records, sizeof story, 4, 8, out, 0), RELEASE_LOG_OUTSIDE);
+	expect("replay without place", release_log_replay(records, sizeof story, 4, 2, NULL, 0), RELEASE_LOG_NO_PLACE);
+	free(records);
+	free(out);
+	free(exact);
+}
+
+int main(void)
+{
+	test_add();
+	test_add_refused();
+	test_no_place();
+	test_count();
+	test_records();
+	test_outcome();
+	test_involvement();
+	test_replay();
+	if (failures == 0)
+		puts("every entry point as expected");
+	return failures != 0;
+}

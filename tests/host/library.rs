@@ -1,0 +1,65 @@
+//! The library's entry points, as include/release_log.h declares them.
+
+use crate::plain_log::Numbers;
+
+extern "C" {
+    fn release_log_add(
+        records: *mut u8,
+        records_len: usize,
+        count: usize,
+        kind: u32,
+        process: u32,
+        by: u32,
+        store: u32,
+        tx: u32,
+        list: u32,
+        say: u32,
+        update: u32,
+    ) -> u32;
+    fn release_log_outcome(
+        records: *const u8,
+        records_len: usize,
+        count: usize,
+        tx: u32,
+        out: *mut u8,
+        out_len: usize,
+    ) -> u32;
+    fn release_log_involvement(
+        records: *const u8,
+        records_len: usize,
+        count: usize,
+        tx: u32,
+        store: u32,
+        out: *mut u8,
+        out_len: usize,
+    ) -> u32;
+    fn release_log_replay(
+        records: *const u8,
+        records_len: usize,
+        count: usize,
+        store: u32,
+        out: *mut u8,
+        out_len: usize,
+    ) -> u32;
+}
+
+pub fn add(records: &mut [u8], count: usize, n: &Numbers) -> u32 {
+    let [kind, process, by, store, tx, list, say, update] = *n;
+    let (p, len) = (records.as_mut_ptr(), records.len());
+    unsafe { release_log_add(p, len, count, kind, process, by, store, tx, list, say, update) }
+}
+
+pub fn outcome(records: &[u8], count: usize, tx: u32, out: &mut [u8]) -> u32 {
+    let (p, len) = (records.as_ptr(), records.len());
+    unsafe { release_log_outcome(p, len, count, tx, out.as_mut_ptr(), out.len()) }
+}
+
+pub fn involvement(records: &[u8], count: usize, tx: u32, store: u32, out: &mut [u8]) -> u32 {
+    let (p, len) = (records.as_ptr(), records.len());
+    unsafe { release_log_involvement(p, len, count, tx, store, out.as_mut_ptr(), out.len()) }
+}
+
+pub fn replay(records: &[u8], count: usize, store: u32, out: &mut [u8]) -> u32 {
+    let (p, len) = (records.as_ptr(), records.len());
+    unsafe { release_log_replay(p, len, count, store, out.as_mut_ptr(), out.len()) }
+}

@@ -1,0 +1,321 @@
+//! The plain log of document 01 and the hosts' calls on it, written from the document by itself. The tests set the library beside it.
+
+pub const RECORD: usize = 12;
+pub const ROW: usize = 6;
+
+const STORES: usize = 8;
+const TRANSACTIONS: usize = 32;
+const PROCESSES: u8 = 15;
+
+#[derive(Clone, Copy, PartialEq)]
+pub enum Outcome {
+    Open,
+    Commit,
+    Abort,
+}
+
+#[derive(Clone, Copy)]
+pub struct Vote {
+    pub process: u8,
+    pub by: u8,
+    pub store: u8,
+    pub tx: u8,
+    pub list: u8,
+    pub commit: bool,
+    pub update: u32,
+}
+
+#[derive(Clone, Copy)]
+pub enum Entry {
+    Take { process: u8, store: u8 },
+    Vote(Vote),
+}
+
+/// An entry's numbers in the order of a record: kind, process, by, store, tx, list, say, update.
+pub type Numbers = [u32; 8];
+
+impl Entry {
+    /// The entry that the numbers stand for, or refusal 1 or 2.
+    pub fn read(n: &Numbers) -> Result<Entry, u32> {
+        let [kind, process, by, store, tx, list, say, update] = *n;
+        match kind {
+            0 if by | tx | list | say | update == 0 => {}
+            1 if say <= 1 => {}
+            _ => return Err(1),
+        }
+        if process == 0
+            || process > PROCESSES as u32
+            || store >= STORES as u32
+            || by >= STORES as u32
+            || tx >= TRANSACTIONS as u32
+            || list > 0xff
+        {
+            return Err(2);
+        }
+        if kind == 0 {
+            return Ok(Entry::Take {
+                process: process as u8,
+                store: store as u8,
+            });
+        }
+        Ok(Entry::Vote(Vote {
+            process: process as u8,
+            by: by as u8,
+            store: store as u8,
+            tx: tx as u8,
+            list: list as u8,
+            commit: say == 1,
+            update,
+        }))
+    }
+
+    pub fn numbers(&self) -> Numbers {
+        match *self {
+            Entry::Take { process, store } => [0, process as u32, 0, store as u32, 0, 0, 0, 0],
+            Entry::Vote(v) => [
+                1,
+                v.process as u32,
+                v.by as u32,
+                v.store as u32,
+                v.tx as u32,
+                v.list as u32,
+                v.commit as u32,
+                v.update,
+            ],
+        }
+    }
+
+    pub fn from_record(r: &[u8]) -> Result<Entry, u32> {
+        if r[7] != 0 {
+            return Err(1);
+        }
+        let mut n: Numbers = [0; 8];
+        for i in 0..7 {
+            n[i] = r[i] as u32;
+        }
+        n[7] = u32::from_le_bytes([r[8], r[9], r[10], r[11]]);
+        Entry::read(&n)
+    }
+
+    pub fn to_record(&self) -> [u8; RECORD] {
+        let n = self.numbers();
+        let mut r = [0; RECORD];
+        for i in 0..7 {
+            r[i] = n[i] as u8;
+        }
+        r[8..].copy_from_slice(&n[7].to_le_bytes());
+        r
+    }
+}
+
+#[derive(Clone)]
+pub struct Log {
+    votes: [[Option<Vote>; STORES]; TRANSACTIONS],
+    holders: [u8; STORES],
+    /// Bit p: process p took the store.
+    held: [u16; STORES],
+    /// 0 if none.
+    group: [u8; TRANSACTIONS],
+    groups: u8,
+    /// The transactions that ran when the last group was begun.
+    running_then: u32,
+}
+
+fn has(list: u8, store: u8) -> bool {
+    list >> store & 1 == 1
+}
+
+impl Log {
+    pub fn new() -> Log {
+        Log {
+            votes: [[None; STORES]; TRANSACTIONS],
+            holders: [0; STORES],
+            held: [0; STORES],
+            group: [0; TRANSACTIONS],
+            groups: 0,
+            running_then: 0,
+        }
+    }
+
+    pub fn outcome(&self, tx: u8) -> Outcome {
+        let row = &self.votes[tx as usize];
+        let commits = |s: u8| matches!(row[s as usize], Some(v) if v.commit);
+        if row.iter().flatten().any(|v| !v.commit) {
+            return Outcome::Abort;
+        }
+        let covered = |list: u8| (0..8).all(|s| !has(list, s) || commits(s));
+        if row.iter().flatten().any(|v| covered(v.list)) {
+            return Outcome::Commit;
+        }
+        Outcome::Open
+    }
+
+    fn running(&self) -> u32 {
+        let mut set = 0;
+        for tx in 0..TRANSACTIONS as u8 {
+            let some = self.votes[tx as usize].iter().any(|v| v.is_some());
+            if some && self.outcome(tx) == Outcome::Open {
+                set |= 1 << tx;
+            }
+        }
+        set
+    }
+
+    fn take(&mut self, process: u8, store: u8) -> u32 {
+        let s = store as usize;
+        if self.holders.contains(&process) || self.held[s] >> process & 1 == 1 {
+            return 11;
+        }
+        self.holders[s] = process;
+        self.held[s] |= 1 << process;
+        0
+    }
+
+    fn vote(&mut self, v: Vote) -> u32 {
+        if !has(v.list, v.store)
+            || !has(v.list, v.by)
+            || v.commit && v.by != v.store
+            || !v.commit && v.update != 0
+        {
+            return 7;
+        }
+        if self.holders[v.by as usize] != v.process {
+            return 8;
+        }
+        let row = &self.votes[v.tx as usize];
+        let clash = |k: &Vote| {
+            k.commit && (if v.commit { k.list != v.list } else { v.list & !k.list != 0 })
+        };
+        if row.iter().flatten().any(clash) {
+            return 9;
+        }
+        if row[v.store as usize].is_some() {
+            return 10;
+        }
+        let running = row.iter().any(|k| k.is_some());
+        self.votes[v.tx as usize][v.store as usize] = Some(v);
+        if self.outcome(v.tx) == Outcome::Commit {
+            self.commit(v.tx, running);
+        }
+        0
+    }
+
+    /// The transaction commits; it was running just before or not.
+    fn commit(&mut self, tx: u8, running: bool) {
+        if self.running_then >> tx & 1 == 0 {
+            self.groups += 1;
+            self.running_then = self.running() | (running as u32) << tx;
+        }
+        self.group[tx as usize] = self.groups;
+    }
+
+    pub fn enter(&mut self, e: &Entry) -> u32 {
+        match *e {
+            Entry::Take { process, store } => self.take(process, store),
+            Entry::Vote(v) => self.vote(v),
+        }
+    }
+
+    /// 0 no, 1 yes, 2 unknown.
+    pub fn involvement(&self, tx: u8, store: u8) -> u8 {
+        let row = &self.votes[tx as usize];
+        if row.iter().flatten().any(|v| has(v.list, store)) {
+            return 1;
+        }
+        if row.iter().flatten().any(|v| v.commit) {
+            return 0;
+        }
+        2
+    }
+
+    /// Group, tx and update of each row.
+    pub fn replay(&self, store: u8) -> Vec<(u8, u8, u32)> {
+        let mut rows = Vec::with_capacity(TRANSACTIONS);
+        for tx in 0..TRANSACTIONS {
+            if let Some(v) = self.votes[tx][store as usize] {
+                if v.commit && self.group[tx] != 0 {
+                    rows.push((self.group[tx], tx as u8, v.update));
+                }
+            }
+        }
+        rows.sort_unstable();
+        rows
+    }
+}
+
+/// The log behind the lent records, or the first refusal found.
+pub fn log_behind(records: &[u8], count: usize) -> Result<Log, u32> {
+    if count > records.len() / RECORD {
+        return Err(2);
+    }
+    let mut log = Log::new();
+    for r in records.chunks_exact(RECORD).take(count) {
+        let answer = log.enter(&Entry::from_record(r)?);
+        if answer != 0 {
+            return Err(answer);
+        }
+    }
+    Ok(log)
+}
+
+fn answer(r: Result<(), u32>) -> u32 {
+    r.err().unwrap_or(0)
+}
+
+fn write(out: &mut [u8], value: &[u8]) -> Result<(), u32> {
+    out.get_mut(..value.len()).ok_or(6u32)?.copy_from_slice(value);
+    Ok(())
+}
+
+pub fn add(records: &mut [u8], count: usize, n: &Numbers) -> u32 {
+    answer((|| {
+        let mut log = log_behind(records, count)?;
+        let e = Entry::read(n)?;
+        match log.enter(&e) {
+            0 => write(&mut records[count * RECORD..], &e.to_record()),
+            refused => Err(refused),
+        }
+    })())
+}
+
+pub fn outcome(records: &[u8], count: usize, tx: u32, out: &mut [u8]) -> u32 {
+    answer((|| {
+        let log = log_behind(records, count)?;
+        if tx >= TRANSACTIONS as u32 {
+            return Err(2);
+        }
+        let value = match log.outcome(tx as u8) {
+            Outcome::Open => 0,
+            Outcome::Commit => 1,
+            Outcome::Abort => 2,
+        };
+        write(out, &[value])
+    })())
+}
+
+pub fn involvement(records: &[u8], count: usize, tx: u32, store: u32, out: &mut [u8]) -> u32 {
+    answer((|| {
+        let log = log_behind(records, count)?;
+        if tx >= TRANSACTIONS as u32 || store >= STORES as u32 {
+            return Err(2);
+        }
+        write(out, &[log.involvement(tx as u8, store as u8)])
+    })())
+}
+
+pub fn replay(records: &[u8], count: usize, store: u32, out: &mut [u8]) -> u32 {
+    answer((|| {
+        let log = log_behind(records, count)?;
+        if store >= STORES as u32 {
+            return Err(2);
+        }
+        let rows = log.replay(store as u8);
+        let mut value = Vec::with_capacity(1 + rows.len() * ROW);
+        value.push(rows.len() as u8);
+        for (group, tx, update) in rows {
+            value.extend_from_slice(&[group, tx]);
+            value.extend_from_slice(&update.to_le_bytes());
+        }
+        write(out, &value)
+    })())
+}

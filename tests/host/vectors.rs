@@ -1,0 +1,83 @@
+//! The calls of data/*.calls, by the library and by the Rust implementation, against data/*.out. README.md of data says what the lines hold.
+
+mod library;
+mod plain_log;
+
+use plain_log::Numbers;
+use std::fs;
+
+/// `-` is an empty buffer.
+fn bytes(hex: &str) -> Vec<u8> {
+    let digits = if hex == "-" { "" } else { hex };
+    (0..digits.len() / 2).map(|i| u8::from_str_radix(&digits[2 * i..2 * i + 2], 16).expect("hex")).collect()
+}
+
+fn hex(bytes: &[u8]) -> String {
+    if bytes.is_empty() {
+        return "-".to_string();
+    }
+    bytes.iter().map(|b| format!("{b:02x}")).collect()
+}
+
+type Add = fn(&mut [u8], usize, &Numbers) -> u32;
+type One = fn(&[u8], usize, u32, &mut [u8]) -> u32;
+type Two = fn(&[u8], usize, u32, u32, &mut [u8]) -> u32;
+
+struct Host {
+    add: Add,
+    outcome: One,
+    involvement: Two,
+    replay: One,
+}
+
+const HOSTS: [Host; 2] = [
+    Host { add: library::add, outcome: library::outcome, involvement: library::involvement, replay: library::replay },
+    Host { add: plain_log::add, outcome: plain_log::outcome, involvement: plain_log::involvement, replay: plain_log::replay },
+];
+
+fn called(host: &Host, line: &str) -> String {
+    let words: Vec<&str> = line.split(' ').collect();
+    let number = |i: usize| words[i].parse::<u32>().expect("a number");
+    let mut records = bytes(words[1]);
+    let count: usize = words[2].parse().expect("a count");
+    let last: usize = words[words.len() - 1].parse().expect("a number");
+    let mut out = if words[0] == "apply" { Vec::new() } else { vec![0xee; last] };
+    let answer = match words[0] {
+        "apply" => {
+            let mut n: Numbers = [0; 8];
+            for i in 0..8 {
+                n[i] = number(3 + i);
+            }
+            (host.add)(&mut records, count, &n)
+        }
+        "outcome" => (host.outcome)(&records, count, number(3), &mut out),
+        "involvement" => (host.involvement)(&records, count, number(3), number(4), &mut out),
+        "replay" => (host.replay)(&records, count, number(3), &mut out),
+        other => panic!("{other}"),
+    };
+    format!("{answer} {} {}", hex(&records), hex(&out))
+}
+
+fn main() {
+    let dir = std::env::args().nth(1).expect("the folder of the vectors");
+    let mut names: Vec<String> = fs::read_dir(&dir)
+        .expect("the folder")
+        .map(|f| f.expect("a file").path().to_string_lossy().into_owned())
+        .filter(|f| f.ends_with(".calls"))
+        .collect();
+    names.sort();
+    let mut lines = 0;
+    for name in &names {
+        let calls = fs::read_to_string(name).expect("calls");
+        let expected = fs::read_to_string(name.replace(".calls", ".out")).expect("expected lines");
+        assert_eq!(calls.lines().count(), expected.lines().count(), "{name}");
+        for (i, (call, line)) in calls.lines().zip(expected.lines()).enumerate() {
+            for host in &HOSTS {
+                assert_eq!(called(host, call), line, "{name}, line {}", i + 1);
+            }
+            lines += 1;
+        }
+    }
+    assert!(lines > 0, "no calls in {dir}");
+    println!("{lines} calls of {} files as expected", names.len());
+}
