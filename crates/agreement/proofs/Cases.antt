@@ -1,0 +1,11 @@
+-- The table of cases.
+use Rattle.log_laws.proofs.Theorems.{cases-hold}
+use Rattle.protocol.proofs.Acceptors.{p11-accept-5, p11-accept-6, p11-prepare-6}
+use Rattle.agreement.specs.Cases.{AllCases}
+
+pub all-cases : AllCases
+all-cases = record {
+  one-to-ten = cases-hold;
+  eleven =
+      λ w i a v e. record { prepare-6 = p11-prepare-6 w i a v e; accept-6 = p11-accept-6 w i a v e; accept-5 = p11-accept-5 w i a v e };
+}

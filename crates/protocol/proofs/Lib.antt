@@ -1,0 +1,4 @@
+pub mod Acceptors
+pub mod Agreeing
+pub mod Compute
+pub mod Processes

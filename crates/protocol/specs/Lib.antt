@@ -1,0 +1,12 @@
+pub mod Acceptor
+pub mod Ballot
+pub mod Batch
+pub mod Coordinator
+pub mod Deliver
+pub mod Limits
+pub mod Message
+pub mod Process
+pub mod Queue
+pub mod Send
+pub mod Step
+pub mod World

@@ -1,0 +1,156 @@
+-- The world's value: the fresh world, what stands where, and the world with one part changed.
+use Prim.Native.Nat.{ℕ, _+_, _*_}
+use mathlib.Core.Bool.{Bool, true, false}
+use mathlib.Core.List.{[]}
+use lib.ListN.{getD, replicate, set}
+use Rattle.entry.specs.Limits.{transactions}
+use Rattle.commit_log.specs.declared.Outcome.the-variants.{Open}
+use Rattle.commit_log.specs.Log.{emptyLog}
+use Rattle.steps.specs.declared.Role.{Role}
+use Rattle.steps.specs.declared.Role.the-variants.{Acceptor, Coord, Proc}
+use Rattle.steps.specs.Limits.{coordinators, instances, messages, mostAcceptors}
+use Rattle.protocol.specs.declared.Cell.{Cell}
+use Rattle.protocol.specs.declared.Coordinator.{Coordinator}
+use Rattle.protocol.specs.declared.Down.{Down}
+use Rattle.protocol.specs.declared.Message.{Message}
+use Rattle.protocol.specs.declared.Process.{Process}
+use Rattle.protocol.specs.declared.Round.{Round}
+use Rattle.protocol.specs.declared.World.{World}
+use Rattle.protocol.specs.Batch.{noBatch}
+use Rattle.protocol.specs.Limits.{cellPlaces, processPlaces}
+use Rattle.protocol.specs.Message.{noMessage, noReplay}
+use Rattle.protocol.specs.Queue.{queueOf}
+
+-- ---- at first
+
+-- "a promised ballot and an accepted ballot with batch, 0 at first"
+abbrev pub emptyCell : Cell
+emptyCell = record { promised = 0; ballot = 0; batch = noBatch }
+
+-- the round of a ballot that was just opened; of ballot 0, where none was
+abbrev pub newRound : ℕ → Round
+newRound b = record { ballot = b; promises = 0; held = 0; batch = noBatch; proposed = false; proposal = noBatch; acceptances = 0 }
+
+unfoldable pub freshCoordinator : Coordinator
+freshCoordinator = record { applied = 0; log = emptyLog; queue = queueOf []; round = newRound 0 }
+
+-- a process as in a fresh world: it heard nothing and took no restore
+unfoldable pub freshProcess : Process
+freshProcess = record { heard = replicate transactions (record { outcome = Open }); store = 0; position = 0; replay = noReplay }
+
+unfoldable pub allUp : Down
+allUp = record {
+  acceptors = replicate mostAcceptors false;
+  coordinators = replicate coordinators false;
+  processes = replicate processPlaces false;
+}
+
+-- "the fresh world: no setup, all up, nothing sent, queues and logs empty"
+unfoldable pub freshWorld : World
+freshWorld = record {
+  acceptors = 0;
+  cells = replicate cellPlaces emptyCell;
+  coordinators = replicate coordinators freshCoordinator;
+  processes = replicate processPlaces freshProcess;
+  down = allUp;
+  messages = replicate messages noMessage;
+  sent = 0;
+}
+
+-- ---- what stands where
+
+-- acceptor a's cell of instance i
+abbrev pub cellOf : World → ℕ → ℕ → Cell
+cellOf w a i = getD (w .cells) (a * instances + i) emptyCell
+
+abbrev pub coordinatorOf : World → ℕ → Coordinator
+coordinatorOf w c = getD (w .coordinators) c freshCoordinator
+
+abbrev pub processOf : World → ℕ → Process
+processOf w p = getD (w .processes) p freshProcess
+
+abbrev pub messageOf : World → ℕ → Message
+messageOf w m = getD (w .messages) m noMessage
+
+abbrev pub isDown : World → Role → ℕ → Bool
+isDown w Acceptor id = getD (w .down .acceptors) id false
+isDown w Coord id = getD (w .down .coordinators) id false
+isDown w Proc id = getD (w .down .processes) id false
+
+-- ---- with one part changed
+
+abbrev pub withAcceptors : World → ℕ → World
+withAcceptors w n = record {
+  acceptors = n;
+  cells = w .cells;
+  coordinators = w .coordinators;
+  processes = w .processes;
+  down = w .down;
+  messages = w .messages;
+  sent = w .sent;
+}
+
+abbrev pub withCell : World → ℕ → ℕ → Cell → World
+withCell w a i x = record {
+  acceptors = w .acceptors;
+  cells = set (w .cells) (a * instances + i) x;
+  coordinators = w .coordinators;
+  processes = w .processes;
+  down = w .down;
+  messages = w .messages;
+  sent = w .sent;
+}
+
+abbrev pub withCoordinator : World → ℕ → Coordinator → World
+withCoordinator w c x = record {
+  acceptors = w .acceptors;
+  cells = w .cells;
+  coordinators = set (w .coordinators) c x;
+  processes = w .processes;
+  down = w .down;
+  messages = w .messages;
+  sent = w .sent;
+}
+
+abbrev pub withProcess : World → ℕ → Process → World
+withProcess w p x = record {
+  acceptors = w .acceptors;
+  cells = w .cells;
+  coordinators = w .coordinators;
+  processes = set (w .processes) p x;
+  down = w .down;
+  messages = w .messages;
+  sent = w .sent;
+}
+
+abbrev pub withDown : World → Down → World
+withDown w d = record {
+  acceptors = w .acceptors;
+  cells = w .cells;
+  coordinators = w .coordinators;
+  processes = w .processes;
+  down = d;
+  messages = w .messages;
+  sent = w .sent;
+}
+
+-- with one message more
+abbrev pub withMessage : World → Message → World
+withMessage w m = record {
+  acceptors = w .acceptors;
+  cells = w .cells;
+  coordinators = w .coordinators;
+  processes = w .processes;
+  down = w .down;
+  messages = set (w .messages) (w .sent) m;
+  sent = w .sent + 1;
+}
+
+-- the party is down from now on
+abbrev pub crashed : Down → Role → ℕ → Down
+crashed d Acceptor id =
+    record { acceptors = set (d .acceptors) id true; coordinators = d .coordinators; processes = d .processes }
+crashed d Coord id =
+    record { acceptors = d .acceptors; coordinators = set (d .coordinators) id true; processes = d .processes }
+crashed d Proc id =
+    record { acceptors = d .acceptors; coordinators = d .coordinators; processes = set (d .processes) id true }
