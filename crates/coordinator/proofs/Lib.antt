@@ -1,0 +1,5 @@
+pub mod Good
+pub mod FrontLaws
+pub mod QueueLaws
+pub mod RoundLaws
+pub mod LearnLaws
