@@ -1,0 +1,33 @@
+// Changes of the parts.
+ghost use mathlib.Core.Path.{_≡_};
+ghost use Rattle.transition.specs.Change.{sending, still};
+use crate::Change;
+use crate::Parts;
+use coordinator::fresh::no_entry;
+use messages::message::request_to;
+use protocol::Message;
+
+// Nothing changes.
+pub fn still(p: Parts, answer: u8) -> Change
+    ensures { λ r. ⌜ r ≡ still p answer ⌝ }
+{
+    let none = request_to(0, no_entry());
+    Change {
+        answer: answer,
+        parts: p,
+        count: 0,
+        message: none,
+    }
+}
+
+// The parts are these now, and so many messages are sent.
+pub fn sending(p: Parts, count: u8, m: Message) -> Change
+    ensures { λ r. ⌜ r ≡ sending p count m ⌝ }
+{
+    Change {
+        answer: 0,
+        parts: p,
+        count: count,
+        message: m,
+    }
+}
