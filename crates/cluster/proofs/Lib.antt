@@ -1,0 +1,5 @@
+pub mod PutBack
+pub mod Refusals
+pub mod Changes
+pub mod Stepping
+pub mod Room

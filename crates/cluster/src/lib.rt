@@ -1,0 +1,3 @@
+// The world: its steps.
+pub mod fresh;
+mod kept;
