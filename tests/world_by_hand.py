@@ -1,0 +1,601 @@
+"""Step files for `world` with every answer and the report reasoned by hand from document 01: a check on world_reference.py.
+
+A row is a step, its answer behind an arrow, and behind a # the numbers of the messages that it sends, or why it is answered so. The
+report stands after a row of dashes."""
+
+NOTHING = "coord=0 applied=0\ncoord=1 applied=0\ncoord=2 applied=0\n"
+
+
+def learn(coord, inst, ballot, first):
+    """One instance learned by way of acceptors 0 and 1 of three: ten numbers, from first."""
+    rows = ["open coord=%d inst=%d ballot=%d" % (coord, inst, ballot)]  # first, + 1, + 2
+    rows += ["deliver msg=%d" % (first + k) for k in (0, 1)]  # promises + 3, + 4
+    rows += ["deliver msg=%d" % (first + k) for k in (3, 4)]
+    rows += ["propose coord=%d inst=%d ballot=%d" % (coord, inst, ballot)]  # + 5, + 6, + 7
+    rows += ["deliver msg=%d" % (first + k) for k in (5, 6)]  # accepted + 8, + 9
+    rows += ["deliver msg=%d" % (first + k) for k in (8, 9)]
+    return "".join(row + " -> 0\n" for row in rows)
+
+
+# One store from its take to its restored update. The vote needs the restore, the restore the learned take.
+LIFE = """
+setup acceptors=3 -> 0
+take proc=1 store=0 to=0 -> 0 # 0
+deliver msg=0 -> 0
+open coord=0 inst=0 ballot=3 -> 0 # 1 2 3
+deliver msg=1 -> 0 # 4
+deliver msg=2 -> 0 # 5
+deliver msg=4 -> 0
+propose coord=0 inst=0 ballot=3 -> 5 # one promise of three acceptors
+deliver msg=5 -> 0
+propose coord=0 inst=0 ballot=3 -> 0 # 6 7 8
+deliver msg=6 -> 0 # 9
+deliver msg=7 -> 0 # 10
+deliver msg=9 -> 0
+deliver msg=9 -> 0 # the same acceptor again
+restore coord=0 proc=1 -> 5 # not learned yet
+deliver msg=10 -> 0 # learned
+vote proc=1 by=0 store=0 tx=4 list=01 say=commit upd=0000000a to=0 -> 5 # believes nothing yet
+restore coord=0 proc=1 -> 0 # 11
+deliver msg=11 -> 0
+vote proc=1 by=0 store=0 tx=4 list=01 say=commit upd=0000000a to=0 -> 0 # 12
+deliver msg=12 -> 0
+open coord=0 inst=1 ballot=3 -> 0 # 13 14 15, ballots start anew
+deliver msg=13 -> 0 # 16
+deliver msg=15 -> 0 # 17, of acceptor 2
+deliver msg=16 -> 0
+deliver msg=17 -> 0
+propose coord=0 inst=1 ballot=3 -> 0 # 18 19 20
+deliver msg=18 -> 0 # 21
+deliver msg=19 -> 0 # 22, acceptor 1 promised nothing and accepts
+deliver msg=21 -> 0
+tell coord=0 proc=2 tx=4 -> 5 # open
+deliver msg=22 -> 0 # learned
+tell coord=0 proc=2 tx=4 -> 0 # 23
+deliver msg=23 -> 0
+restore coord=0 proc=1 -> 0 # 24
+deliver msg=24 -> 0
+deliver msg=11 -> 0 # position 1 is not above 2
+---
+coord=0 applied=2
+tx=4 outcome=commit group=1
+store=0 holder=1
+store=0 group=1 tx=4 upd=0000000a
+coord=1 applied=0
+coord=2 applied=0
+proc=2 tx=4 heard=commit
+proc=1 store=0 position=2
+store=0 group=1 tx=4 upd=0000000a
+"""
+
+# Two of five accepted coordinator 1's take under 1, one accepted coordinator 2's under 2: coordinator 0 hears all three
+# and proposes the one of ballot 2, though more promises carry the other. Its own take stays queued.
+HIGHEST = """
+setup acceptors=5 -> 0
+take proc=1 store=0 to=1 -> 0 # 0
+deliver msg=0 -> 0
+take proc=2 store=1 to=2 -> 0 # 1
+deliver msg=1 -> 0
+take proc=3 store=2 to=0 -> 0 # 2
+deliver msg=2 -> 0
+open coord=1 inst=0 ballot=1 -> 0 # 3 to 7
+deliver msg=3 -> 0 # 8
+deliver msg=4 -> 0 # 9
+deliver msg=5 -> 0 # 10
+deliver msg=8 -> 0
+deliver msg=9 -> 0
+deliver msg=10 -> 0
+propose coord=1 inst=0 ballot=1 -> 0 # 11 to 15
+deliver msg=11 -> 0 # 16
+deliver msg=12 -> 0 # 17
+open coord=2 inst=0 ballot=2 -> 0 # 18 to 22
+deliver msg=20 -> 0 # 23
+deliver msg=21 -> 0 # 24
+deliver msg=22 -> 0 # 25
+deliver msg=23 -> 0
+deliver msg=24 -> 0
+deliver msg=25 -> 0
+propose coord=2 inst=0 ballot=2 -> 0 # 26 to 30
+deliver msg=28 -> 0 # 31, acceptor 2
+open coord=0 inst=0 ballot=3 -> 0 # 32 to 36
+deliver msg=32 -> 0 # 37
+deliver msg=33 -> 0 # 38
+deliver msg=34 -> 0 # 39
+deliver msg=37 -> 0
+deliver msg=38 -> 0
+deliver msg=39 -> 0
+propose coord=0 inst=0 ballot=3 -> 0 # 40 to 44
+deliver msg=40 -> 0 # 45
+deliver msg=41 -> 0 # 46
+deliver msg=42 -> 0 # 47
+deliver msg=45 -> 0
+deliver msg=46 -> 0
+deliver msg=47 -> 0 # learned
+deliver msg=13 -> 0 # acceptor 2 promised 3: nothing
+deliver msg=14 -> 0 # acceptor 3 promised 2: nothing
+deliver msg=16 -> 0
+deliver msg=17 -> 0 # two of five: coordinator 1 does not learn
+---
+coord=0 applied=1
+store=1 holder=2
+coord=1 applied=0
+coord=2 applied=0
+"""
+
+# Eight entries fill the queue; a ninth is 6 until a batch is learned, an equal one is 0. The batches are the entries in
+# their order, by four. A learned entry that is delivered again is queued again, and then refused by the log (11).
+QUEUE = ("setup acceptors=3 -> 0\n"
+         + "".join("take proc=%d store=%d to=0 -> 0\n" % (s + 1, s) for s in range(8))  # 0 to 7
+         + "".join("deliver msg=%d -> 0\n" % s for s in range(8)) + """
+take proc=9 store=0 to=0 -> 0 # 8
+deliver msg=8 -> 6
+deliver msg=3 -> 0
+take proc=4 store=3 to=0 -> 0 # 9, equal to the fourth
+deliver msg=9 -> 0
+open coord=0 inst=0 ballot=3 -> 0 # 10 11 12
+deliver msg=10 -> 0 # 13
+deliver msg=11 -> 0 # 14
+deliver msg=13 -> 0
+deliver msg=14 -> 0
+propose coord=0 inst=0 ballot=3 -> 0 # 15 16 17
+deliver msg=8 -> 6 # proposed is not learned
+deliver msg=15 -> 0 # 18
+deliver msg=16 -> 0 # 19
+deliver msg=18 -> 0
+deliver msg=19 -> 0 # learned: processes 1 to 4
+deliver msg=8 -> 0
+deliver msg=0 -> 0 # queued again, behind process 9
+""" + learn(0, 1, 3, 20)  # processes 5 to 8
+         + learn(0, 2, 3, 30)  # process 9 takes over store 0; process 1 held it before
+         + """
+open coord=0 inst=3 ballot=3 -> 0 # 40 41 42
+deliver msg=40 -> 0 # 43
+deliver msg=41 -> 0 # 44
+deliver msg=43 -> 0
+deliver msg=44 -> 0
+propose coord=0 inst=3 ballot=3 -> 5 # nothing to propose
+---
+coord=0 applied=3
+store=0 holder=9
+store=1 holder=2
+store=2 holder=3
+store=3 holder=4
+store=4 holder=5
+store=5 holder=6
+store=6 holder=7
+store=7 holder=8
+coord=1 applied=0
+coord=2 applied=0
+""")
+
+# 42 opens use 126 numbers, a take and a promise the last two. Then a prepare that would promise is 6 and changes nothing
+# (acceptor 0 never promised 126, so ballot 3 still would promise: 6 again), one that does nothing is 0.
+NUMBERS = ("setup acceptors=3 -> 0\n"
+           + "".join("open coord=0 inst=0 ballot=%d -> 0\n" % (3 * k) for k in range(1, 43)) + """
+open coord=0 inst=0 ballot=127 -> 5 # not its own; 6 would be higher
+open coord=0 inst=0 ballot=129 -> 6 # two left, three needed
+take proc=1 store=0 to=0 -> 0 # 126
+deliver msg=127 -> 4
+deliver msg=125 -> 0 # 127: ballot 126, acceptor 2
+take proc=1 store=0 to=0 -> 6
+vote proc=1 by=0 store=0 tx=0 list=00 say=commit upd=00000000 to=0 -> 5 # believes nothing; also 6 and 7
+deliver msg=123 -> 6
+deliver msg=124 -> 6
+deliver msg=0 -> 6
+deliver msg=2 -> 0 # acceptor 2 promised 126: nothing
+deliver msg=125 -> 0
+deliver msg=127 -> 0
+deliver msg=126 -> 0
+propose coord=0 inst=0 ballot=126 -> 5 # one promise
+tell coord=0 proc=1 tx=0 -> 5
+restore coord=0 proc=1 -> 5
+crash role=acceptor id=1 -> 0
+deliver msg=124 -> 3
+deliver msg=128 -> 2
+---
+""" + NOTHING)
+
+# A majority accepted ballot 3, but the coordinator opened 6 before the second acceptance came: passed over. One acceptor's
+# acceptance sent twice counts once. Ballot 6 finds the batch with acceptor 0.
+LATE = """
+setup acceptors=3 -> 0
+take proc=1 store=0 to=0 -> 0 # 0
+deliver msg=0 -> 0
+open coord=0 inst=0 ballot=3 -> 0 # 1 2 3
+deliver msg=1 -> 0 # 4
+deliver msg=2 -> 0 # 5
+deliver msg=4 -> 0
+deliver msg=5 -> 0
+propose coord=0 inst=0 ballot=3 -> 0 # 6 7 8
+deliver msg=6 -> 0 # 9
+deliver msg=7 -> 0 # 10
+deliver msg=7 -> 0 # 11: accepts again
+deliver msg=10 -> 0
+deliver msg=11 -> 0
+restore coord=0 proc=1 -> 5
+open coord=0 inst=0 ballot=3 -> 5
+open coord=0 inst=0 ballot=6 -> 0 # 12 13 14
+deliver msg=9 -> 0 # ballot 3 is not the one opened last
+restore coord=0 proc=1 -> 5
+propose coord=0 inst=0 ballot=3 -> 5
+propose coord=0 inst=0 ballot=6 -> 5
+deliver msg=14 -> 0 # 15: nothing accepted
+deliver msg=12 -> 0 # 16: accepted under 3
+deliver msg=15 -> 0
+deliver msg=4 -> 0 # a promise of 3: passed over
+propose coord=0 inst=0 ballot=6 -> 5
+deliver msg=16 -> 0
+propose coord=0 inst=0 ballot=6 -> 0 # 17 18 19
+propose coord=0 inst=0 ballot=6 -> 5
+deliver msg=8 -> 0 # acceptor 2 promised 6: nothing
+deliver msg=18 -> 0 # 20
+deliver msg=19 -> 0 # 21
+deliver msg=20 -> 0
+deliver msg=21 -> 0 # learned
+deliver msg=9 -> 0
+deliver msg=20 -> 0
+restore coord=0 proc=1 -> 0 # 22
+restore coord=1 proc=1 -> 5 # by its log nobody holds
+---
+coord=0 applied=1
+store=0 holder=1
+coord=1 applied=0
+coord=2 applied=0
+"""
+
+# Before setup every step is 5 but where 1, 2 or 4 applies; five acceptors count. Afterwards three.
+BEFORE = """
+take proc=1 store=0 to=0 -> 5
+vote proc=1 by=0 store=0 tx=0 list=01 say=commit upd=00000000 to=0 -> 5
+vote proc=1 by=0 store=0 tx=0 list=00 say=abort upd=00000001 to=0 -> 5
+open coord=0 inst=0 ballot=3 -> 5
+open coord=0 inst=16 ballot=3 -> 2
+propose coord=0 inst=0 ballot=3 -> 5
+deliver msg=0 -> 4
+deliver msg=127 -> 4
+deliver msg=128 -> 2
+tell coord=0 proc=1 tx=0 -> 5
+restore coord=0 proc=1 -> 5
+crash role=acceptor id=4 -> 5
+crash role=acceptor id=5 -> 2
+crash role=coord id=2 -> 5
+crash role=coord id=3 -> 2
+crash role=proc id=15 -> 5
+crash role=proc id=16 -> 2
+crash role=proc id=0 -> 2
+setup acceptors=4 -> 2
+setup acceptors=05 -> 1
+setup acceptors=3 -> 0
+setup acceptors=3 -> 5
+setup acceptors=5 -> 5
+setup acceptors=4 -> 2
+crash role=acceptor id=3 -> 2
+crash role=acceptor id=2 -> 0
+crash role=acceptor id=2 -> 3
+---
+""" + NOTHING
+
+# Process 2 takes over store 0 while votes of process 1 are on the wire. The one before the take is kept, the ones behind it
+# are refused 8 when applied, though process 1 still believes. Transaction 1 ran when nothing had committed: group 1;
+# transaction 2 commits by its first vote: group 2.
+TAKEOVER = """
+setup acceptors=3 -> 0
+take proc=1 store=0 to=0 -> 0 # 0
+deliver msg=0 -> 0
+""" + learn(0, 0, 3, 1) + """
+restore coord=0 proc=1 -> 0 # 11
+deliver msg=11 -> 0
+vote proc=1 by=0 store=0 tx=1 list=03 say=commit upd=0000000a to=0 -> 0 # 12
+vote proc=1 by=0 store=1 tx=2 list=03 say=abort upd=00000000 to=0 -> 0 # 13
+take proc=2 store=0 to=0 -> 0 # 14
+take proc=3 store=1 to=0 -> 0 # 15
+deliver msg=12 -> 0
+deliver msg=14 -> 0
+deliver msg=13 -> 0
+deliver msg=15 -> 0
+""" + learn(0, 1, 3, 16) + """
+restore coord=0 proc=1 -> 5
+vote proc=1 by=0 store=0 tx=3 list=01 say=commit upd=0000000b to=0 -> 0 # 26
+vote proc=2 by=0 store=0 tx=3 list=01 say=commit upd=0000000b to=0 -> 5
+restore coord=0 proc=2 -> 0 # 27
+deliver msg=27 -> 0
+restore coord=0 proc=3 -> 0 # 28
+deliver msg=28 -> 0
+vote proc=3 by=1 store=1 tx=1 list=03 say=commit upd=0000000c to=0 -> 0 # 29
+vote proc=2 by=0 store=0 tx=2 list=01 say=commit upd=0000000d to=0 -> 0 # 30
+deliver msg=26 -> 0
+deliver msg=29 -> 0
+deliver msg=30 -> 0
+""" + learn(0, 2, 6, 31) + """
+tell coord=0 proc=1 tx=1 -> 0 # 41
+deliver msg=41 -> 0
+tell coord=0 proc=1 tx=3 -> 5
+restore coord=0 proc=2 -> 0 # 42
+deliver msg=42 -> 0
+---
+coord=0 applied=3
+tx=1 outcome=commit group=1
+tx=2 outcome=commit group=2
+store=0 holder=2
+store=1 holder=3
+store=0 group=1 tx=1 upd=0000000a
+store=0 group=2 tx=2 upd=0000000d
+store=1 group=1 tx=1 upd=0000000c
+coord=1 applied=0
+coord=2 applied=0
+proc=1 tx=1 heard=commit
+proc=1 store=0 position=1
+proc=2 store=0 position=3
+store=0 group=1 tx=1 upd=0000000a
+store=0 group=2 tx=2 upd=0000000d
+proc=3 store=1 position=2
+"""
+
+# Process 1 held store 0, lost it and took store 1. The restore of position 3 comes before that of position 1, which is then
+# not taken: it believes in store 1 only. The update 0 is replayed.
+RESTORES = """
+setup acceptors=3 -> 0
+take proc=1 store=0 to=0 -> 0 # 0
+deliver msg=0 -> 0
+""" + learn(0, 0, 3, 1) + """
+restore coord=0 proc=1 -> 0 # 11
+take proc=2 store=0 to=0 -> 0 # 12
+deliver msg=12 -> 0
+""" + learn(0, 1, 3, 13) + """
+take proc=1 store=1 to=0 -> 0 # 23
+deliver msg=23 -> 0
+""" + learn(0, 2, 3, 24) + """
+restore coord=0 proc=1 -> 0 # 34
+restore coord=0 proc=2 -> 0 # 35
+deliver msg=34 -> 0
+deliver msg=11 -> 0
+vote proc=1 by=0 store=0 tx=0 list=01 say=commit upd=00000000 to=0 -> 5
+vote proc=1 by=1 store=1 tx=0 list=02 say=commit upd=00000000 to=0 -> 0 # 36
+crash role=proc id=2 -> 0
+deliver msg=35 -> 3
+deliver msg=36 -> 0
+""" + learn(0, 3, 3, 37) + """
+tell coord=0 proc=2 tx=0 -> 3
+restore coord=0 proc=1 -> 0 # 47, never delivered
+deliver msg=34 -> 0
+---
+coord=0 applied=4
+tx=0 outcome=commit group=1
+store=0 holder=2
+store=1 holder=1
+store=1 group=1 tx=0 upd=00000000
+coord=1 applied=0
+coord=2 applied=0
+proc=1 store=1 position=3
+"""
+
+# Five acceptors: with two down three are a majority, with three down nothing is learned any more. Numbers go to those down too.
+TWO_DOWN = """
+setup acceptors=5 -> 0
+crash role=acceptor id=0 -> 0
+crash role=acceptor id=1 -> 0
+take proc=15 store=7 to=2 -> 0 # 0
+deliver msg=0 -> 0
+open coord=2 inst=0 ballot=254 -> 0 # 1 to 5
+deliver msg=1 -> 3
+deliver msg=2 -> 3
+deliver msg=3 -> 0 # 6
+deliver msg=4 -> 0 # 7
+deliver msg=6 -> 0
+deliver msg=7 -> 0
+propose coord=2 inst=0 ballot=254 -> 5
+deliver msg=5 -> 0 # 8
+deliver msg=8 -> 0
+propose coord=2 inst=0 ballot=254 -> 0 # 9 to 13
+deliver msg=9 -> 3
+deliver msg=11 -> 0 # 14
+deliver msg=12 -> 0 # 15
+deliver msg=13 -> 0 # 16
+deliver msg=14 -> 0
+deliver msg=15 -> 0
+restore coord=2 proc=15 -> 5
+deliver msg=16 -> 0 # learned
+restore coord=2 proc=15 -> 0 # 17
+deliver msg=17 -> 0
+crash role=acceptor id=2 -> 0
+open coord=2 inst=1 ballot=2 -> 0 # 18 to 22
+deliver msg=20 -> 3
+deliver msg=21 -> 0 # 23
+deliver msg=22 -> 0 # 24
+deliver msg=23 -> 0
+deliver msg=24 -> 0
+propose coord=2 inst=1 ballot=2 -> 5
+open coord=2 inst=1 ballot=254 -> 0 # 25 to 29
+open coord=2 inst=1 ballot=254 -> 5
+open coord=2 inst=1 ballot=255 -> 5
+open coord=2 inst=0 ballot=254 -> 5
+open coord=2 inst=2 ballot=254 -> 5
+---
+coord=0 applied=0
+coord=1 applied=0
+coord=2 applied=1
+store=7 holder=15
+proc=15 store=7 position=1
+"""
+
+# The acceptance that makes the majority stands on line 1,001: 6, nothing learned, and what follows is not read.
+LINE_1001 = ("setup acceptors=3 -> 0\ntake proc=1 store=0 to=0 -> 0\ndeliver msg=0 -> 0\n"
+             + learn(0, 0, 3, 1).replace("deliver msg=10 -> 0\n", "") + "? -> 1\n" * 988
+             + "deliver msg=10 -> 6\n---\n" + NOTHING)
+
+# Three coordinators in instance 0. Coordinator 1's take is accepted by acceptors 1 and 2 under 4: chosen. Coordinator 2 hears
+# it from acceptor 2, coordinator 0 from both; each learns it by its own ballot and keeps its own take queued.
+# In instance 1 coordinator 1 learns coordinator 0's take with an empty queue.
+THREE = """
+setup acceptors=3 -> 0
+take proc=1 store=0 to=0 -> 0 # 0
+take proc=2 store=1 to=1 -> 0 # 1
+take proc=3 store=2 to=2 -> 0 # 2
+deliver msg=0 -> 0
+deliver msg=1 -> 0
+deliver msg=2 -> 0
+open coord=0 inst=0 ballot=3 -> 0 # 3 4 5
+deliver msg=3 -> 0 # 6
+deliver msg=4 -> 0 # 7
+deliver msg=6 -> 0
+deliver msg=7 -> 0
+propose coord=0 inst=0 ballot=3 -> 0 # 8 9 10
+open coord=1 inst=0 ballot=4 -> 0 # 11 12 13
+deliver msg=12 -> 0 # 14
+deliver msg=13 -> 0 # 15
+deliver msg=14 -> 0
+deliver msg=15 -> 0
+propose coord=1 inst=0 ballot=4 -> 0 # 16 17 18
+deliver msg=8 -> 0 # 19: acceptor 0 accepts under 3
+deliver msg=9 -> 0 # acceptor 1 promised 4: nothing
+deliver msg=18 -> 0 # 20: acceptor 2 accepts under 4
+open coord=2 inst=0 ballot=5 -> 0 # 21 22 23
+deliver msg=21 -> 0 # 24: accepted under 3
+deliver msg=23 -> 0 # 25: accepted under 4
+deliver msg=24 -> 0
+deliver msg=25 -> 0
+propose coord=2 inst=0 ballot=5 -> 0 # 26 27 28
+deliver msg=17 -> 0 # 29: acceptor 1 accepts under 4
+deliver msg=20 -> 0
+deliver msg=29 -> 0 # coordinator 1 learns
+deliver msg=26 -> 0 # 30
+deliver msg=28 -> 0 # 31
+deliver msg=30 -> 0
+deliver msg=31 -> 0 # coordinator 2 learns
+deliver msg=19 -> 0
+deliver msg=10 -> 0 # acceptor 2 promised 5: nothing
+open coord=0 inst=0 ballot=6 -> 0 # 32 33 34
+deliver msg=33 -> 0 # 35
+deliver msg=34 -> 0 # 36
+deliver msg=35 -> 0
+deliver msg=36 -> 0
+propose coord=0 inst=0 ballot=6 -> 0 # 37 38 39
+deliver msg=37 -> 0 # 40
+deliver msg=39 -> 0 # 41
+deliver msg=40 -> 0
+deliver msg=41 -> 0 # coordinator 0 learns
+""" + learn(0, 1, 3, 42) + """
+open coord=1 inst=1 ballot=1 -> 0 # 52 53 54
+deliver msg=52 -> 0 # acceptor 0 promised 3: nothing
+deliver msg=54 -> 0 # 55
+deliver msg=55 -> 0
+propose coord=1 inst=1 ballot=1 -> 5
+open coord=1 inst=1 ballot=4 -> 0 # 56 57 58
+deliver msg=57 -> 0 # 59: accepted under 3
+deliver msg=58 -> 0 # 60: nothing accepted
+deliver msg=59 -> 0
+deliver msg=60 -> 0
+propose coord=1 inst=1 ballot=4 -> 0 # 61 62 63
+deliver msg=62 -> 0 # 64
+deliver msg=63 -> 0 # 65
+deliver msg=64 -> 0
+deliver msg=65 -> 0 # coordinator 1 learns
+---
+coord=0 applied=2
+store=0 holder=1
+store=1 holder=2
+coord=1 applied=2
+store=0 holder=1
+store=1 holder=2
+coord=2 applied=1
+store=1 holder=2
+"""
+
+# All parties crash: nothing is lost from the report, every step is 3 but a second setup, a number not sent and one outside its limits.
+ALL_DOWN = ("""
+setup acceptors=3 -> 0
+take proc=1 store=0 to=0 -> 0 # 0
+deliver msg=0 -> 0
+""" + learn(0, 0, 3, 1) + """
+restore coord=0 proc=1 -> 0 # 11
+deliver msg=11 -> 0
+vote proc=1 by=0 store=0 tx=0 list=01 say=abort upd=00000000 to=0 -> 0 # 12
+deliver msg=12 -> 0
+""" + learn(0, 1, 3, 13) + """
+tell coord=0 proc=15 tx=0 -> 0 # 23
+deliver msg=23 -> 0
+""" + "".join("crash role=%s id=%d -> %d\n" % (role, i, answer) for answer in (0, 3)
+              for role, ids in (("acceptor", range(3)), ("coord", range(3)), ("proc", range(1, 16))) for i in ids) + """
+setup acceptors=3 -> 5
+take proc=1 store=0 to=0 -> 3
+vote proc=1 by=0 store=0 tx=1 list=00 say=commit upd=00000000 to=0 -> 3
+open coord=0 inst=2 ballot=3 -> 3
+open coord=0 inst=0 ballot=1 -> 3
+propose coord=0 inst=0 ballot=3 -> 3
+deliver msg=0 -> 3
+deliver msg=1 -> 3
+deliver msg=4 -> 3
+deliver msg=6 -> 3
+deliver msg=9 -> 3
+deliver msg=11 -> 3
+deliver msg=23 -> 3
+deliver msg=24 -> 4
+tell coord=0 proc=1 tx=0 -> 3
+tell coord=0 proc=1 tx=5 -> 3
+tell coord=0 proc=1 tx=32 -> 2
+restore coord=0 proc=1 -> 3
+crash role=acceptor id=3 -> 2
+---
+coord=0 applied=2
+tx=0 outcome=abort group=0
+store=0 holder=1
+coord=1 applied=0
+coord=2 applied=0
+proc=15 tx=0 heard=abort
+proc=1 store=0 position=1
+""")
+
+# A sent vote: the lowest of 1, 2, 3, 5, 6 and 7. Process 1 believes in store 0; coordinator 2 is down; 35 opens use up the numbers:
+# 12 before, 1 + 1 votes, 35 * 3 = 105 opens, 9 takes, 128 in all.
+VOTES = ("""
+setup acceptors=3 -> 0
+take proc=1 store=0 to=0 -> 0 # 0
+deliver msg=0 -> 0
+""" + learn(0, 0, 3, 1) + """
+restore coord=0 proc=1 -> 0 # 11
+deliver msg=11 -> 0
+crash role=coord id=2 -> 0
+vote proc=1 by=0 store=0 tx=0 list=02 say=commit upd=00000000 to=0 -> 7
+vote proc=1 by=0 store=1 tx=0 list=02 say=abort upd=00000000 to=0 -> 7
+vote proc=1 by=0 store=1 tx=0 list=01 say=abort upd=00000000 to=0 -> 7
+vote proc=1 by=0 store=1 tx=0 list=03 say=commit upd=00000000 to=0 -> 7
+vote proc=1 by=0 store=0 tx=0 list=01 say=abort upd=00000001 to=0 -> 7
+vote proc=1 by=1 store=1 tx=0 list=02 say=commit upd=00000000 to=0 -> 5
+vote proc=1 by=1 store=1 tx=0 list=00 say=commit upd=00000000 to=0 -> 5
+vote proc=2 by=0 store=0 tx=0 list=01 say=commit upd=00000000 to=0 -> 5
+vote proc=2 by=0 store=0 tx=0 list=00 say=commit upd=00000000 to=2 -> 3
+vote proc=1 by=0 store=0 tx=0 list=01 say=commit upd=00000000 to=2 -> 3
+vote proc=1 by=0 store=0 tx=32 list=01 say=commit upd=00000000 to=2 -> 2
+vote proc=1 by=0 store=0 tx=32 list=01 say=commit upd=0000000 to=2 -> 1
+vote proc=1 by=0 store=0 tx=0 list=ff say=commit upd=ffffffff to=0 -> 0 # 12
+vote proc=1 by=0 store=7 tx=0 list=81 say=abort upd=00000000 to=1 -> 0 # 13
+""" + "".join("open coord=0 inst=1 ballot=%d -> 0\n" % (3 * k) for k in range(1, 36))
+         + "take proc=3 store=3 to=1 -> 0\n" * 9 + """
+vote proc=1 by=0 store=0 tx=0 list=01 say=commit upd=00000000 to=0 -> 6
+vote proc=1 by=0 store=0 tx=0 list=02 say=commit upd=00000000 to=0 -> 6
+vote proc=1 by=1 store=1 tx=0 list=02 say=commit upd=00000000 to=0 -> 5
+vote proc=1 by=0 store=0 tx=0 list=02 say=commit upd=00000000 to=2 -> 3
+crash role=proc id=1 -> 0
+vote proc=1 by=0 store=0 tx=0 list=01 say=commit upd=00000000 to=0 -> 3
+---
+coord=0 applied=1
+store=0 holder=1
+coord=1 applied=0
+coord=2 applied=0
+proc=1 store=0 position=1
+""")
+
+BY_HAND = {
+    "life": LIFE, "highest-ballot": HIGHEST, "queue": QUEUE, "numbers-used-up": NUMBERS, "late-acceptances": LATE, "before-setup": BEFORE,
+    "takeover": TAKEOVER, "restores-out-of-order": RESTORES, "two-down": TWO_DOWN, "learned-on-line-1001": LINE_1001,
+    "three-coordinators": THREE, "all-down": ALL_DOWN, "votes": VOTES,
+}
+
+
+def parts(text):
+    """The step file and the expected output."""
+    rows, report = text.split("---\n")
+    pairs = [row.split(" -> ") for row in rows.splitlines() if row]
+    steps = "".join("do=%s\n" % step for step, _ in pairs)
+    answers = "".join("step=%d answer=%s\n" % (i, answer.split("#")[0].strip()) for i, (_, answer) in enumerate(pairs, 1))
+    return steps.encode(), (answers + report).encode()
