@@ -585,10 +585,221 @@ coord=2 applied=0
 proc=1 store=0 position=1
 """)
 
+# Instance 0 was learned under ballot 3, instance 1 is opened under 3 too: promises and acceptances of instance 0 come again and are
+# passed over, and only instance 1 is opened and proposed.
+OTHER_INSTANCE = """
+setup acceptors=3 -> 0
+take proc=1 store=0 to=0 -> 0 # 0
+deliver msg=0 -> 0
+""" + learn(0, 0, 3, 1) + """
+take proc=2 store=1 to=0 -> 0 # 11
+deliver msg=11 -> 0
+open coord=0 inst=1 ballot=3 -> 0 # 12 13 14
+deliver msg=4 -> 0
+deliver msg=5 -> 0
+propose coord=0 inst=1 ballot=3 -> 5 # nobody promised in instance 1
+deliver msg=12 -> 0 # 15
+deliver msg=13 -> 0 # 16
+deliver msg=15 -> 0
+deliver msg=16 -> 0
+propose coord=0 inst=0 ballot=3 -> 5
+propose coord=0 inst=2 ballot=3 -> 5
+open coord=0 inst=0 ballot=6 -> 5
+open coord=0 inst=2 ballot=6 -> 5
+propose coord=0 inst=1 ballot=3 -> 0 # 17 18 19
+deliver msg=9 -> 0
+deliver msg=10 -> 0
+restore coord=0 proc=2 -> 5 # not learned
+deliver msg=6 -> 0 # 20: acceptor 0 accepts again in instance 0
+deliver msg=20 -> 0
+deliver msg=17 -> 0 # 21
+deliver msg=21 -> 0
+restore coord=0 proc=2 -> 5
+deliver msg=18 -> 0 # 22
+deliver msg=22 -> 0 # learned
+restore coord=0 proc=2 -> 0 # 23
+---
+coord=0 applied=2
+store=0 holder=1
+store=1 holder=2
+coord=1 applied=0
+coord=2 applied=0
+"""
+
+# Ballot 6 is proposed when the acceptances of ballot 3, a majority, arrive: passed over.
+OLDER_BALLOT = """
+setup acceptors=3 -> 0
+take proc=1 store=0 to=0 -> 0 # 0
+deliver msg=0 -> 0
+open coord=0 inst=0 ballot=3 -> 0 # 1 2 3
+deliver msg=1 -> 0 # 4
+deliver msg=2 -> 0 # 5
+deliver msg=4 -> 0
+deliver msg=5 -> 0
+propose coord=0 inst=0 ballot=3 -> 0 # 6 7 8
+deliver msg=6 -> 0 # 9
+deliver msg=7 -> 0 # 10
+open coord=0 inst=0 ballot=6 -> 0 # 11 12 13
+deliver msg=11 -> 0 # 14
+deliver msg=12 -> 0 # 15
+deliver msg=14 -> 0
+deliver msg=15 -> 0
+propose coord=0 inst=0 ballot=3 -> 5
+propose coord=0 inst=0 ballot=7 -> 5
+propose coord=0 inst=0 ballot=9 -> 5
+propose coord=1 inst=0 ballot=6 -> 5
+propose coord=0 inst=0 ballot=6 -> 0 # 16 17 18
+deliver msg=9 -> 0
+deliver msg=10 -> 0
+restore coord=0 proc=1 -> 5
+deliver msg=16 -> 0 # 19
+deliver msg=17 -> 0 # 20
+deliver msg=19 -> 0
+restore coord=0 proc=1 -> 5
+deliver msg=20 -> 0 # learned
+restore coord=0 proc=1 -> 0 # 21
+---
+coord=0 applied=1
+store=0 holder=1
+coord=1 applied=0
+coord=2 applied=0
+"""
+
+# Acceptors answer a coordinator that is down, and the answers have numbers. Another one finishes what it proposed.
+REPLIES = """
+setup acceptors=3 -> 0
+take proc=1 store=0 to=0 -> 0 # 0
+deliver msg=0 -> 0
+open coord=0 inst=0 ballot=3 -> 0 # 1 2 3
+deliver msg=1 -> 0 # 4
+deliver msg=2 -> 0 # 5
+deliver msg=4 -> 0
+deliver msg=5 -> 0
+propose coord=0 inst=0 ballot=3 -> 0 # 6 7 8
+crash role=coord id=0 -> 0
+deliver msg=3 -> 0 # 9
+deliver msg=9 -> 3
+deliver msg=6 -> 0 # 10
+deliver msg=10 -> 3
+take proc=2 store=1 to=1 -> 0 # 11
+deliver msg=11 -> 0
+deliver msg=12 -> 4
+open coord=1 inst=0 ballot=4 -> 0 # 12 13 14
+deliver msg=12 -> 0 # 15: accepted under 3
+deliver msg=13 -> 0 # 16
+deliver msg=15 -> 0
+deliver msg=16 -> 0
+propose coord=1 inst=0 ballot=4 -> 0 # 17 18 19
+deliver msg=17 -> 0 # 20
+deliver msg=18 -> 0 # 21
+deliver msg=20 -> 0
+deliver msg=21 -> 0 # learned: process 1's take
+restore coord=0 proc=1 -> 3
+restore coord=1 proc=2 -> 5
+restore coord=1 proc=1 -> 0 # 22
+deliver msg=22 -> 0
+---
+coord=0 applied=0
+coord=1 applied=1
+store=0 holder=1
+coord=2 applied=0
+proc=1 store=0 position=1
+"""
+
+# Lists. Transaction 4: a commit of list 03 is kept, so a commit of 07 and an abort of 04 are refused 9, a second vote of store 0 is 10;
+# it commits at last. 5: a kept abort of 04 hinders no commit of 03, and counts. 6: an abort within 03 is kept.
+LISTS = """
+setup acceptors=3 -> 0
+take proc=1 store=0 to=0 -> 0 # 0
+take proc=2 store=1 to=0 -> 0 # 1
+take proc=3 store=2 to=0 -> 0 # 2
+deliver msg=0 -> 0
+deliver msg=1 -> 0
+deliver msg=2 -> 0
+""" + learn(0, 0, 3, 3) + """
+restore coord=0 proc=1 -> 0 # 13
+restore coord=0 proc=2 -> 0 # 14
+restore coord=0 proc=3 -> 0 # 15
+deliver msg=13 -> 0
+deliver msg=14 -> 0
+deliver msg=15 -> 0
+vote proc=1 by=0 store=0 tx=4 list=03 say=commit upd=00000001 to=0 -> 0 # 16, kept
+vote proc=2 by=1 store=1 tx=4 list=07 say=commit upd=00000002 to=0 -> 0 # 17, refused 9
+vote proc=3 by=2 store=2 tx=4 list=04 say=abort upd=00000000 to=0 -> 0 # 18, refused 9
+vote proc=3 by=2 store=2 tx=5 list=04 say=abort upd=00000000 to=0 -> 0 # 19, kept
+deliver msg=16 -> 0
+deliver msg=17 -> 0
+deliver msg=18 -> 0
+deliver msg=19 -> 0
+""" + learn(0, 1, 3, 20) + """
+tell coord=0 proc=3 tx=4 -> 5
+vote proc=1 by=0 store=0 tx=5 list=03 say=commit upd=00000004 to=0 -> 0 # 30, kept
+vote proc=1 by=0 store=0 tx=6 list=03 say=commit upd=00000005 to=0 -> 0 # 31, kept
+vote proc=2 by=1 store=1 tx=6 list=02 say=abort upd=00000000 to=0 -> 0 # 32, kept
+vote proc=1 by=0 store=0 tx=4 list=03 say=abort upd=00000000 to=0 -> 0 # 33, refused 10
+deliver msg=30 -> 0
+deliver msg=31 -> 0
+deliver msg=32 -> 0
+deliver msg=33 -> 0
+""" + learn(0, 2, 3, 34) + """
+tell coord=0 proc=3 tx=4 -> 5
+vote proc=2 by=1 store=1 tx=4 list=03 say=commit upd=00000003 to=0 -> 0 # 44, kept
+deliver msg=44 -> 0
+""" + learn(0, 3, 3, 45) + """
+tell coord=0 proc=3 tx=5 -> 0 # 55
+tell coord=0 proc=3 tx=6 -> 0 # 56, never delivered
+deliver msg=55 -> 0
+---
+coord=0 applied=4
+tx=4 outcome=commit group=1
+tx=5 outcome=abort group=0
+tx=6 outcome=abort group=0
+store=0 holder=1
+store=1 holder=2
+store=2 holder=3
+store=0 group=1 tx=4 upd=00000001
+store=1 group=1 tx=4 upd=00000003
+coord=1 applied=0
+coord=2 applied=0
+proc=3 tx=5 heard=abort
+proc=1 store=0 position=1
+proc=2 store=1 position=1
+proc=3 store=2 position=1
+"""
+
+# No number left: an accept below the promise is 0, one that would be accepted 6 and changes nothing, so that acceptor 2, which promised
+# nothing, would still promise 3. 13 numbers, 38 opens and a take are 128.
+ACCEPTS = """
+setup acceptors=3 -> 0
+take proc=1 store=0 to=0 -> 0 # 0
+deliver msg=0 -> 0
+open coord=0 inst=0 ballot=3 -> 0 # 1 2 3
+deliver msg=1 -> 0 # 4
+deliver msg=2 -> 0 # 5
+deliver msg=4 -> 0
+deliver msg=5 -> 0
+propose coord=0 inst=0 ballot=3 -> 0 # 6 7 8
+open coord=1 inst=0 ballot=4 -> 0 # 9 10 11
+deliver msg=9 -> 0 # 12: acceptor 0 promises 4
+""" + "".join("open coord=2 inst=0 ballot=%d -> 0\n" % (3 * k + 2) for k in range(38)) + """
+take proc=1 store=0 to=0 -> 0 # 127
+deliver msg=6 -> 0
+deliver msg=7 -> 6
+deliver msg=8 -> 6
+deliver msg=10 -> 6
+deliver msg=3 -> 6
+deliver msg=1 -> 0
+deliver msg=2 -> 0
+deliver msg=12 -> 0
+deliver msg=4 -> 0
+---
+""" + NOTHING
+
 BY_HAND = {
     "life": LIFE, "highest-ballot": HIGHEST, "queue": QUEUE, "numbers-used-up": NUMBERS, "late-acceptances": LATE, "before-setup": BEFORE,
     "takeover": TAKEOVER, "restores-out-of-order": RESTORES, "two-down": TWO_DOWN, "learned-on-line-1001": LINE_1001,
-    "three-coordinators": THREE, "all-down": ALL_DOWN, "votes": VOTES,
+    "three-coordinators": THREE, "all-down": ALL_DOWN, "votes": VOTES, "other-instance": OTHER_INSTANCE, "older-ballot": OLDER_BALLOT,
+    "replies-to-one-down": REPLIES, "vote-lists": LISTS, "accepts-without-a-number": ACCEPTS,
 }
 
 
