@@ -1,0 +1,42 @@
+#!/usr/bin/env python3
+"""Prints a busy step file of 1,000 lines for `world`: eight stores taken, sixteen votes, two coordinators, until all 128 numbers are used;
+then every message that is still answered 0 is delivered again, in turn."""
+import os
+import sys
+
+sys.path.insert(0, os.path.join(os.path.dirname(__file__), "..", "tests"))
+from world_script import Script
+
+
+def busy():
+    script = Script()
+    script.queue(*(script.take(s + 1, s) for s in range(8)))
+    script.learn(0, 3)
+    script.learn(0, 3)
+    for p in range(1, 9):
+        script.deliver(*script.restore(0, p))
+    for instance in range(4):  # two transactions of two stores each
+        pairs = [(2 * instance + k, s) for k in (0, 1) for s in (2 * instance, 2 * instance + 1)]
+        script.queue(*(script.commit(s + 1, s, tx, "%02x" % (3 << 2 * instance), 16 * tx + s) for tx, s in pairs))
+        script.learn(0, 3)
+    script.learn(1, 4, (1, 2))
+    script.learn(1, 4, (0, 2))
+    for p in range(1, 9):
+        script.deliver(*script.tell(0, p, p - 1), *script.restore(0, p))
+    assert script.world.left() == 0
+    return script
+
+
+def again(script, lines):
+    number = 0
+    while len(script.rows) < lines:
+        script.deliver(number)
+        if script.answer:
+            script.rows.pop()
+        number = (number + 1) % 128
+
+
+script = busy()
+print(len(script.rows), "lines until the last number", file=sys.stderr)
+again(script, 1000)
+sys.stdout.buffer.write(script.data())
