@@ -1,0 +1,175 @@
+// The step deliver: what a message of each kind does to its receiver.
+ghost use mathlib.Core.Bool.{_&&_, not};
+ghost use mathlib.Core.Path.{_≡_};
+ghost use Rattle.steps.specs.declared.Step.the-variants.{Deliver};
+ghost use Rattle.protocol.specs.declared.Kind.the-variants as kind;
+ghost use Rattle.protocol.specs.Queue.{isFull, isIn, queued};
+ghost use Rattle.transition.specs.Handed.{handed};
+ghost use Rattle.transition.specs.Plan.{planOf};
+ghost use Rattle.transition.specs.Refusal.{lacks, placeless};
+use coordinator::learn;
+use coordinator::queue;
+use coordinator::round;
+use entry::Entry;
+use messages::message;
+use messages::parties;
+use messages::send;
+use protocol::Kind;
+use protocol::Queue;
+use steps::limits::MOST_ACCEPTORS;
+use transition::Change;
+use transition::Parts;
+use transition::changes;
+use transition::refusal;
+
+// Whether the queue is full for the entry.
+fn is_full_for(q: Queue, e: Entry) -> bool
+    ensures { λ r. ⌜ r ≡ (isFull q && not (isIn e (queued q))) ⌝ }
+{
+    if !queue::is_full(q) {
+        return false;
+    }
+    !queue::is_queued(q, e)
+}
+
+// Whether an acceptor that answers lacks a number for it.
+fn lacks_answer(answers: bool, sent: u8) -> bool
+    ensures { λ r. ⌜ r ≡ (answers && lacks sent 1) ⌝ }
+{
+    if !answers {
+        return false;
+    }
+    send::lacks_numbers(sent, 1)
+}
+
+fn placeless(p: Parts) -> bool
+    ensures { λ r. ⌜ r ≡ placeless p (p .message .kind) ⌝ }
+{
+    let m = p.message;
+    let k = m.kind;
+    match k {
+        Kind::Request => is_full_for(p.coordinator.queue, m.entry),
+        Kind::Prepare => lacks_answer(acceptor::promises(p.cell, m.ballot), p.sent),
+        Kind::Accept => lacks_answer(acceptor::accepts(p.cell, m.ballot), p.sent),
+        Kind::Promise => false,
+        Kind::Accepted => false,
+        Kind::Tell => false,
+        Kind::Restore => false,
+    }
+}
+
+fn request(mut p: Parts) -> Change
+    ensures { λ r. ⌜ r ≡ handed p kind.Request ⌝ }
+{
+    let mut c = p.coordinator;
+    c.queue = queue::join(c.queue, p.message.entry);
+    p.coordinator = c;
+    changes::still(p, 0)
+}
+
+fn prepare(mut p: Parts) -> Change
+    ensures { λ r. ⌜ r ≡ handed p kind.Prepare ⌝ }
+{
+    let m = p.message;
+    let x = p.cell;
+    if !acceptor::promises(x, m.ballot) {
+        return changes::still(p, 0);
+    }
+    p.cell = acceptor::promising(x, m.ballot);
+    changes::sending(
+        p,
+        1,
+        message::promise_from(m.inst, m.ballot, m.acceptor, x.ballot, x.batch),
+    )
+}
+
+fn accept(mut p: Parts) -> Change
+    ensures { λ r. ⌜ r ≡ handed p kind.Accept ⌝ }
+{
+    let m = p.message;
+    if !acceptor::accepts(p.cell, m.ballot) {
+        return changes::still(p, 0);
+    }
+    p.cell = acceptor::accepting(m.ballot, m.batch);
+    changes::sending(p, 1, message::accepted_from(m.inst, m.ballot, m.acceptor))
+}
+
+fn promise(mut p: Parts) -> Change
+    ensures { λ r. ⌜ r ≡ handed p kind.Promise ⌝ }
+{
+    let m = p.message;
+    let mut c = p.coordinator;
+    if !round::is_current(c, m.inst, m.ballot) {
+        return changes::still(p, 0);
+    }
+    if MOST_ACCEPTORS <= m.acceptor {
+        return changes::still(p, 0);
+    }
+    c.round = round::promise_heard(c.round, m.acceptor, m.held, m.batch);
+    p.coordinator = c;
+    changes::still(p, 0)
+}
+
+fn accepted(mut p: Parts) -> Change
+    ensures { λ r. ⌜ r ≡ handed p kind.Accepted ⌝ }
+{
+    let m = p.message;
+    let c = p.coordinator;
+    if !round::is_current(c, m.inst, m.ballot) {
+        return changes::still(p, 0);
+    }
+    if MOST_ACCEPTORS <= m.acceptor {
+        return changes::still(p, 0);
+    }
+    p.coordinator = learn::acceptance_heard(p.acceptors, c, m.acceptor);
+    changes::still(p, 0)
+}
+
+fn tell(mut p: Parts) -> Change
+    ensures { λ r. ⌜ r ≡ handed p kind.Tell ⌝ }
+{
+    let m = p.message;
+    let o = m.outcome;
+    p.process = holder::hearing(p.process, m.tx, o);
+    changes::still(p, 0)
+}
+
+fn restore(mut p: Parts) -> Change
+    ensures { λ r. ⌜ r ≡ handed p kind.Restore ⌝ }
+{
+    let m = p.message;
+    let h = p.process;
+    if m.position <= h.position {
+        return changes::still(p, 0);
+    }
+    p.process = holder::taking(h, m.store, m.position, m.replay);
+    changes::still(p, 0)
+}
+
+// The message is handed to its receiver.
+fn hand(p: Parts) -> Change
+    ensures { λ r. ⌜ r ≡ handed p (p .message .kind) ⌝ }
+{
+    let m = p.message;
+    let k = m.kind;
+    match k {
+        Kind::Request => request(p),
+        Kind::Prepare => prepare(p),
+        Kind::Accept => accept(p),
+        Kind::Promise => promise(p),
+        Kind::Accepted => accepted(p),
+        Kind::Tell => tell(p),
+        Kind::Restore => restore(p),
+    }
+}
+
+pub fn deliver(p: Parts, msg: u8) -> Change
+    ensures { λ r. ⌜ r ≡ planOf p (Deliver msg) ⌝ }
+{
+    let down = parties::receiver_down(p.down, p.message);
+    let answer = refusal::first_of(p.sent <= msg, down, p.acceptors == 0, placeless(p), false);
+    if answer != 0 {
+        return changes::still(p, answer);
+    }
+    hand(p)
+}
