@@ -1,10 +1,10 @@
 -- How much room the printed lines take.
-use Prim.Native.Nat.{ℕ, suc, _≤_, _<_, _+_, _*_, _^_}
+use Prim.Native.Nat.{ℕ, suc, _≤_, _<_, _+_, _*_, _^_, min}
 use native.Mathlib.Omega.{arith}
 use mathlib.Core.List.{List, [], _∷_, _++_}
 use mathlib.Core.Path.{_≡_, refl, sym, _∙_, ap, subst}
-use lib.ListN.{length, drop, getD, length-append, List·getD-append}
-use lib.Seq.{sets, sets-eq}
+use lib.ListN.{length, getD, take, length-append, length-take}
+use lib.Seq.{getD-take}
 use Rattle.ascii.specs.Decimal.{decimal}
 use Rattle.ascii.proofs.Decimals.{decimal-length}
 use Rattle.ascii.proofs.Writing.{wrote-more, wrote-nothing, wrote-as}
@@ -55,7 +55,9 @@ each-same f g (suc n) h =
     let e : each f n ≡ each g n = each-same f g n (λ i k. h i (omega arith)) in
     λ j. e j ++ h n (omega arith) j
 
--- the elements stored from the front
-pub sets-front : {A : Type 0} (l vs : List A) (i : ℕ) (d : A) → length vs ≤ length l → i < length vs → getD (sets l 0 vs) i d ≡ getD vs i d
-sets-front {A} l vs i d h k =
-    ap {A = List A} (λ m. getD m i d) (sets-eq vs l 0 (omega arith)) ∙ List·getD-append vs (drop (0 + length vs) l) d i k
+-- the texts of the elements of a list of which as many count as there are and as `count`
+pub each-taken : {A : Type 0} (f : ℕ → A → List ℕ) (d : A) (xs : List A) (count n : ℕ) → n ≡ min count (length xs)
+    → each (λ j. f j (getD xs j d)) n ≡ each (λ j. f j (getD (take count xs) j d)) (length (take count xs))
+each-taken f d xs count n h =
+    each-same (λ j. f j (getD xs j d)) (λ j. f j (getD (take count xs) j d)) n (λ j k. ap (f j) (sym (getD-take count xs j d (omega arith))))
+    ∙ ap (each (λ j. f j (getD (take count xs) j d))) (h ∙ sym (length-take count xs))

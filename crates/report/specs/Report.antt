@@ -4,7 +4,7 @@ use Prim.Native.Nat.{ℕ, suc}
 use mathlib.Core.Bool.{cond}
 use mathlib.Core.List.{List, [], _∷_, _++_}
 use lib.Dec.{eqb}
-use lib.ListN.{getD, length}
+use lib.ListN.{getD, length, take}
 use Rattle.ascii.specs.Bytes.{ascii}
 use Rattle.ascii.specs.Decimal.{decimal}
 use Rattle.ascii.specs.Hex.{hex}
@@ -12,6 +12,7 @@ use Rattle.entry.specs.Limits.{stores, transactions}
 use Rattle.commit_log.specs.declared.Log.{Log}
 use Rattle.commit_log.specs.declared.Outcome.{Outcome}
 use Rattle.commit_log.specs.declared.Outcome.the-variants.{Open, Commit, Abort}
+use Rattle.commit_log.specs.declared.Replay.{Replay}
 use Rattle.commit_log.specs.declared.Replayed.{Replayed}
 use Rattle.commit_log.specs.Log.{groupOf, holderOf, rowOf}
 use Rattle.commit_log.specs.Outcome.{isKept, outcomeOf}
@@ -62,6 +63,10 @@ replayLine store r =
 
 abbrev pub replayText : ℕ → List Replayed → List ℕ
 replayText store rows = each (λ i. replayLine store (getD rows i noReplayed)) (length rows)
+
+-- the rows of a replay: the first `count`
+abbrev pub rowsOf : Replay → List Replayed
+rowsOf r = take (r .count) (r .rows)
 
 -- a log as it is printed
 unfoldable pub logText : Log → List ℕ

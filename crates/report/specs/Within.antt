@@ -14,9 +14,13 @@ pub record Within (room : ℕ) (before : List ℕ) (at : ℕ) (text after : List
 abbrev pub longestLine : ℕ
 longestLine = 40
 
--- no log prints as more: a line for each transaction, each store and each row of each replay
+-- no replay prints as more: a line for each row
+abbrev pub longestReplay : ℕ
+longestReplay = transactions * longestLine
+
+-- no log prints as more: a line for each transaction and each store, and each replay
 abbrev pub longestLog : ℕ
-longestLog = (transactions + stores + stores * transactions) * longestLine
+longestLog = (transactions + stores) * longestLine + stores * longestReplay
 
 -- no answers print as more
 abbrev pub longestAnswers : ℕ

@@ -4,17 +4,18 @@ ghost use Rattle.entry.specs.Limits.{stores, transactions};
 ghost use Rattle.ascii.specs.Wrote.{Wrote};
 ghost use Rattle.commit_log.specs.Replay.{replayRows};
 ghost use Rattle.lines.specs.Answers.{answersOf};
-ghost use Rattle.report.specs.Report.{answersText, each, field, holderLine, holderText, logText, outcomeWord, replayLine, replayText, stepLine, txLine, txText};
-ghost use Rattle.report.specs.Within.{Within, longestAnswers, longestLine, longestLog};
+ghost use Rattle.report.specs.Report.{answersText, each, field, holderLine, holderText, logText, outcomeWord, replayLine, replayText, rowsOf, stepLine, txLine, txText};
+ghost use Rattle.report.specs.Within.{Within, longestAnswers, longestLine, longestLog, longestReplay};
 use commit_log::Log;
 use commit_log::Outcome;
+use commit_log::Replay;
 use entry::limits::STORES;
 use entry::limits::TRANSACTIONS;
 use lines::Answers;
 use lines::MOST;
 
 // A key and its decimal.
-fn field(out: &mut [u8], at: usize, key: &[u8], n: u32) -> usize
+pub fn field(out: &mut [u8], at: usize, key: &[u8], n: u32) -> usize
     ensures { λ r. ⌜ Wrote (now (out .entry)) at (field (now (key .entry)) n) (now (out .exit)) r ⌝ }
 {
     let at = ascii::word(out, at, key);
@@ -29,7 +30,7 @@ pub fn step_line(out: &mut [u8], at: usize, number: u16, answer: u8) -> usize
     ascii::word(out, at, b"\n")
 }
 
-fn outcome_word(out: &mut [u8], at: usize, outcome: Outcome) -> usize
+pub fn outcome_word(out: &mut [u8], at: usize, outcome: Outcome) -> usize
     ensures { λ r. ⌜ Within 6 (now (out .entry)) at (outcomeWord outcome) (now (out .exit)) r ⌝ }
 {
     match outcome {
@@ -91,20 +92,30 @@ fn holder(out: &mut [u8], at: usize, log: Log, store: u8) -> usize
     holder_line(out, at, store, holder)
 }
 
-// The store's replay.
-pub fn replay(out: &mut [u8], at: usize, log: Log, store: u8) -> usize
-    ensures { λ r. ⌜ Within (transactions * longestLine) (now (out .entry)) at (replayText store (replayRows log store)) (now (out .exit)) r ⌝ }
+// A replay of the store.
+pub fn put_replay(out: &mut [u8], at: usize, store: u8, replay: Replay) -> usize
+    ensures { λ r. ⌜ Within longestReplay (now (out .entry)) at (replayText store (rowsOf replay)) (now (out .exit)) r ⌝ }
 {
-    let replay = log.replay(store);
     let count = replay.count;
     let mut to = at;
     let mut i: u8 = 0;
     while i < count {
+        if TRANSACTIONS <= i {
+            return to;
+        }
         let row = replay.rows[i as usize];
         to = replay_line(out, to, store, row.group, row.tx, row.update);
         i += 1;
     }
     to
+}
+
+// The store's replay in the log.
+pub fn replay(out: &mut [u8], at: usize, log: Log, store: u8) -> usize
+    ensures { λ r. ⌜ Within longestReplay (now (out .entry)) at (replayText store (replayRows log store)) (now (out .exit)) r ⌝ }
+{
+    let replay = log.replay(store);
+    put_replay(out, at, store, replay)
 }
 
 fn outcomes(out: &mut [u8], at: usize, log: Log) -> usize
@@ -132,7 +143,7 @@ fn holders(out: &mut [u8], at: usize, log: Log) -> usize
 }
 
 fn replays(out: &mut [u8], at: usize, log: Log) -> usize
-    ensures { λ r. ⌜ Within (stores * transactions * longestLine) (now (out .entry)) at (each (λ s. replayText s (replayRows log s)) stores) (now (out .exit)) r ⌝ }
+    ensures { λ r. ⌜ Within (stores * longestReplay) (now (out .entry)) at (each (λ s. replayText s (replayRows log s)) stores) (now (out .exit)) r ⌝ }
 {
     let mut to = at;
     let mut i: u8 = 0;

@@ -11,8 +11,7 @@ use Rattle.lines.proofs.Good.{answers-length}
 use Rattle.lines.specs.Lines.{most}
 use Rattle.report.specs.Report.{each, stepLine}
 use Rattle.report.specs.Within.{Within, longestLine}
-use Rattle.report.proofs.Lengths.{each-more, each-none, within-as, within-more, within-nothing, within-room}
-use Rattle.report.proofs.Texts.{answers-are}
+use Rattle.report.proofs.Lengths.{each-more, each-none, each-taken, within-as, within-more, within-nothing, within-room}
 use Rattle.report.proofs.put_answers.Statement.{statement}
 use Rattle.report.proofs.put_answers.Tie as tie
 
@@ -32,7 +31,7 @@ returns : tie.Need-returns Inv-loop μ-loop
 returns c =
     let l = c .before .before .loop in
     let a = c .before .before .before .before .args .t3 in
-    within-room (within-as (answers-are (a .answers) (a .count) (l .i) (omega (arith, answers-length a _ (c .before .before .before .before .good .1 .1 .0)))) (l .inv .2)) (omega arith)
+    within-room (within-as (each-taken (λ j. stepLine (suc j)) 0 (a .answers) (a .count) (l .i) (omega (arith, answers-length a _ (c .before .before .before .before .good .1 .1 .0)))) (l .inv .2)) (omega arith)
 
 cast-answer : tie.Need-cast-answer Inv-loop μ-loop
 cast-answer c = omega arith
@@ -62,7 +61,7 @@ returns-2 : tie.Need-returns-2 Inv-loop μ-loop
 returns-2 c =
     let l = c .before .loop in
     let a = c .before .before .before .args .t3 in
-    within-room (within-as (answers-are (a .answers) (a .count) (l .i) (omega (arith, answers-length a _ (c .before .before .before .good .1 .1 .0)))) (l .inv .2)) (omega arith)
+    within-room (within-as (each-taken (λ j. stepLine (suc j)) 0 (a .answers) (a .count) (l .i) (omega (arith, answers-length a _ (c .before .before .before .good .1 .1 .0)))) (l .inv .2)) (omega arith)
 
 pub put-answers-spec : {M : Type 1} → statement M
 put-answers-spec =
