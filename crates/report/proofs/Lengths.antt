@@ -1,13 +1,13 @@
 -- How much room the printed lines take.
-use Prim.Native.Nat.{ℕ, suc, _≤_, _<_, _+_, _*_, _^_, min}
+use Prim.Native.Nat.{ℕ, suc, _≤_, _<_, _+_, _^_, min}
 use native.Mathlib.Omega.{arith}
-use mathlib.Core.List.{List, [], _∷_, _++_}
+use mathlib.Core.List.{List, [], _++_}
 use mathlib.Core.Path.{_≡_, refl, sym, _∙_, ap, subst}
 use lib.ListN.{length, getD, take, length-append, length-take}
 use lib.Seq.{getD-take}
 use Rattle.ascii.specs.Decimal.{decimal}
 use Rattle.ascii.proofs.Decimals.{decimal-length}
-use Rattle.ascii.proofs.Writing.{wrote-more, wrote-nothing, wrote-as}
+use Rattle.ascii.proofs.Writing.{wrote-more, wrote-nothing}
 use Rattle.commit_log.specs.declared.Outcome.{Outcome}
 use Rattle.commit_log.specs.declared.Outcome.the-variants.{Open, Commit, Abort}
 use Rattle.report.specs.Report.{outcomeWord, each}

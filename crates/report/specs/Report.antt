@@ -2,7 +2,7 @@
 -- and group (0 if none), each held store with its holder, and each replay."
 use Prim.Native.Nat.{ℕ, suc}
 use mathlib.Core.Bool.{cond}
-use mathlib.Core.List.{List, [], _∷_, _++_}
+use mathlib.Core.List.{List, [], _++_}
 use lib.Dec.{eqb}
 use lib.ListN.{getD, length, take}
 use Rattle.ascii.specs.Bytes.{ascii}

@@ -1,5 +1,4 @@
 use native.Mathlib.Omega.{arith}
-use native.Mathlib.Omega.{arith}
 use borrow.Author.Needs.{needs}
 use Prim.Native.Nat.{ℕ, suc, _≤_, _-_, _*_, _+_}
 use mathlib.Core.Path.{_∙_, ap}

@@ -1,0 +1,28 @@
+use borrow.Author.Needs.{needs}
+use Rattle.report.proofs.Lengths.{within-as, within-more, within-nothing}
+use Rattle.world_report.proofs.ProcessTexts.{none-taken, one-taken}
+use Rattle.world_report.proofs.processes.put_restore.Statement.{statement}
+use Rattle.world_report.proofs.processes.put_restore.Tie as tie
+
+restore-line-requires : tie.Need-restore-line-requires
+restore-line-requires c κs = search needs
+
+put-replay-requires : tie.Need-put-replay-requires
+put-replay-requires c κs = search needs
+
+same-length : tie.Need-same-length
+same-length c = search needs
+
+returns : tie.Need-returns
+returns c =
+    let a = c .before .before .before .args in
+    within-as (none-taken (a .proc) (a .p) (c .if1 .taken)) (within-nothing _ _ _)
+
+returns-2 : tie.Need-returns-2
+returns-2 c =
+    let a = c .before .before .before .before .before .before .before .before .before .before .before .before .args in
+    within-as (one-taken (a .proc) (a .p) (c .before .before .before .before .before .before .before .before .before .if1 .left)) (within-more (c .before .before .before .before .before .before .restore-line .ensures) (c .before .before .put-replay .ensures))
+
+pub put-restore-spec : {M : Type 1} → statement M
+put-restore-spec =
+    tie.close (tie.spec returns restore-line-requires put-replay-requires same-length returns-2)

@@ -1,0 +1,19 @@
+-- "per coordinator `coord=0 applied=0` and its log in that form"
+use Prim.Native.Nat.{ℕ}
+use mathlib.Core.List.{List, _++_}
+use lib.ListN.{getD}
+use Rattle.ascii.specs.Bytes.{ascii}
+use Rattle.steps.specs.Limits.{coordinators}
+use Rattle.protocol.specs.declared.Coordinator.{Coordinator}
+use Rattle.protocol.specs.World.{freshCoordinator}
+use Rattle.report.specs.Report.{each, end, field, logText}
+
+abbrev pub coordinatorLine : ℕ → ℕ → List ℕ
+coordinatorLine coord applied = field (ascii "coord=") coord ++ field (ascii " applied=") applied ++ end
+
+abbrev pub coordinatorText : ℕ → Coordinator → List ℕ
+coordinatorText coord c = coordinatorLine coord (c .applied) ++ logText (c .log)
+
+-- the coordinators, by number
+abbrev pub coordinatorsText : List Coordinator → List ℕ
+coordinatorsText cs = each (λ k. coordinatorText k (getD cs k freshCoordinator)) coordinators

@@ -1,0 +1,4 @@
+pub mod Coordinators
+pub mod Longest
+pub mod Processes
+pub mod Report

@@ -1,0 +1,94 @@
+// Processes as they are printed: what each heard, and the restore that it took.
+ghost use Prim.Native.Nat.{_*_};
+ghost use Rattle.entry.specs.Limits.{processes};
+ghost use Rattle.report.specs.Within.{Within, longestLine};
+ghost use Rattle.world_report.specs.Longest.{longestHeard, longestRestore};
+ghost use Rattle.world_report.specs.Processes.{byProcess, heardLine, heardText, outcomeText, restoreLine, restoreText};
+use commit_log::Outcome;
+use entry::limits::PROCESSES;
+use entry::limits::TRANSACTIONS;
+use protocol::Process;
+
+pub fn heard_line(out: &mut [u8], at: usize, proc: u8, tx: u8, outcome: Outcome) -> usize
+    ensures { λ r. ⌜ Within longestLine (now (out .entry)) at (heardLine proc tx outcome) (now (out .exit)) r ⌝ }
+{
+    let at = report::field(out, at, b"proc=", proc as u32);
+    let at = report::field(out, at, b" tx=", tx as u32);
+    let at = ascii::word(out, at, b" heard=");
+    let at = report::outcome_word(out, at, outcome);
+    ascii::word(out, at, b"\n")
+}
+
+// The transaction's line, if its outcome was heard.
+pub fn put_outcome(out: &mut [u8], at: usize, proc: u8, tx: u8, outcome: Outcome) -> usize
+    ensures { λ r. ⌜ Within longestLine (now (out .entry)) at (outcomeText proc tx outcome) (now (out .exit)) r ⌝ }
+{
+    if let Outcome::Open = outcome {
+        return at;
+    }
+    heard_line(out, at, proc, tx, outcome)
+}
+
+// What the process heard.
+pub fn put_heard(out: &mut [u8], at: usize, proc: u8, p: Process) -> usize
+    ensures { λ r. ⌜ Within longestHeard (now (out .entry)) at (heardText proc p) (now (out .exit)) r ⌝ }
+{
+    let mut to = at;
+    let mut i: u8 = 0;
+    while i < TRANSACTIONS {
+        let heard = p.heard[i as usize];
+        let outcome = heard.outcome;
+        to = put_outcome(out, to, proc, i, outcome);
+        i += 1;
+    }
+    to
+}
+
+// What all processes heard.
+pub fn put_all_heard(out: &mut [u8], at: usize, ps: [Process; 16]) -> usize
+    ensures { λ r. ⌜ Within (processes * longestHeard) (now (out .entry)) at (byProcess heardText ps) (now (out .exit)) r ⌝ }
+{
+    let mut to = at;
+    let mut i: u8 = 0;
+    while i < PROCESSES {
+        i += 1;
+        let p = ps[i as usize];
+        to = put_heard(out, to, i, p);
+    }
+    to
+}
+
+pub fn restore_line(out: &mut [u8], at: usize, proc: u8, store: u8, position: u8) -> usize
+    ensures { λ r. ⌜ Within longestLine (now (out .entry)) at (restoreLine proc store position) (now (out .exit)) r ⌝ }
+{
+    let at = report::field(out, at, b"proc=", proc as u32);
+    let at = report::field(out, at, b" store=", store as u32);
+    let at = report::field(out, at, b" position=", position as u32);
+    ascii::word(out, at, b"\n")
+}
+
+// The restore that the process took, if it took one.
+pub fn put_restore(out: &mut [u8], at: usize, proc: u8, p: Process) -> usize
+    ensures { λ r. ⌜ Within longestRestore (now (out .entry)) at (restoreText proc p) (now (out .exit)) r ⌝ }
+{
+    if p.position == 0 {
+        return at;
+    }
+    let replay = p.replay;
+    let at = restore_line(out, at, proc, p.store, p.position);
+    report::put_replay(out, at, p.store, replay)
+}
+
+// The restores of all processes.
+pub fn put_restores(out: &mut [u8], at: usize, ps: [Process; 16]) -> usize
+    ensures { λ r. ⌜ Within (processes * longestRestore) (now (out .entry)) at (byProcess restoreText ps) (now (out .exit)) r ⌝ }
+{
+    let mut to = at;
+    let mut i: u8 = 0;
+    while i < PROCESSES {
+        i += 1;
+        let p = ps[i as usize];
+        to = put_restore(out, to, i, p);
+    }
+    to
+}
