@@ -1,0 +1,154 @@
+// The steps that need no ballot: setup, take and vote, tell, restore, crash.
+ghost use mathlib.Core.Path.{_≡_};
+ghost use mathlib.Core.Bool.{_&&_, not};
+ghost use Rattle.entry.specs.Entry.{illFormed};
+ghost use Rattle.steps.specs.declared.Step.the-variants.{Crash, Request, Restore, Setup, Tell};
+ghost use Rattle.protocol.specs.Step.{heldFrom};
+ghost use Rattle.transition.specs.Plan.{planOf};
+ghost use Rattle.transition.specs.Refusal.{deaf, unbelieved};
+use entry::Entry;
+use entry::limits::STORES;
+use messages::message;
+use messages::parties;
+use messages::send;
+use protocol::Process;
+use steps::Role;
+use transition::Change;
+use transition::Parts;
+use transition::changes;
+use transition::refusal;
+
+pub fn setup(mut p: Parts, n: u8) -> Change
+    ensures { λ r. ⌜ r ≡ planOf p (Setup n) ⌝ }
+{
+    let answer = refusal::first_of(false, false, p.acceptors != 0, false, false);
+    if answer != 0 {
+        return changes::still(p, answer);
+    }
+    p.acceptors = n;
+    changes::still(p, 0)
+}
+
+// Whether the entry is a vote by a process that does not believe that it holds `by`.
+fn unbelieved(e: Entry, p: Process) -> bool
+    ensures { λ r. ⌜ r ≡ unbelieved e p ⌝ }
+{
+    if e.take {
+        return false;
+    }
+    !holder::believes(p, e.by)
+}
+
+fn ill_formed(e: Entry) -> bool
+    ensures { λ r. ⌜ r ≡ (not (e .take) && illFormed e) ⌝ }
+{
+    if e.take {
+        return false;
+    }
+    e.ill_formed()
+}
+
+pub fn request(p: Parts, e: Entry, to: u8) -> Change
+    ensures { λ r. ⌜ r ≡ planOf p (Request e to) ⌝ }
+{
+    let down = refusal::either(
+        parties::is_down(p.down, Role::Proc, e.process),
+        parties::is_down(p.down, Role::Coord, to),
+    );
+    let unmet = refusal::either(p.acceptors == 0, unbelieved(e, p.process));
+    let answer = refusal::first_of(
+        false,
+        down,
+        unmet,
+        send::lacks_numbers(p.sent, 1),
+        ill_formed(e),
+    );
+    if answer != 0 {
+        return changes::still(p, answer);
+    }
+    changes::sending(p, 1, message::request_to(to, e))
+}
+
+// Whether nothing can be said to a process: it or the coordinator is down.
+fn deaf(p: Parts, coord: u8, process: u8) -> bool
+    ensures { λ r. ⌜ r ≡ deaf p coord process ⌝ }
+{
+    refusal::either(
+        parties::is_down(p.down, Role::Coord, coord),
+        parties::is_down(p.down, Role::Proc, process),
+    )
+}
+
+pub fn tell(p: Parts, coord: u8, process: u8, tx: u8) -> Change
+    ensures { λ r. ⌜ r ≡ planOf p (Tell coord process tx) ⌝ }
+{
+    let l = p.coordinator.log;
+    let o = l.outcome(tx);
+    let unmet = refusal::either(p.acceptors == 0, o.is_open());
+    let answer = refusal::first_of(
+        false,
+        deaf(p, coord, process),
+        unmet,
+        send::lacks_numbers(p.sent, 1),
+        false,
+    );
+    if answer != 0 {
+        return changes::still(p, answer);
+    }
+    changes::sending(p, 1, message::tell_to(process, tx, o))
+}
+
+// The store that the process holds; one past the last store if it holds none.
+fn held_store(holders: [u8; 8], process: u8) -> u8
+    ensures { λ r. ⌜ r ≡ heldFrom process 0 holders ⌝ }
+{
+    let mut s: u8 = 0;
+    while s < STORES {
+        if holders[s as usize] == process {
+            return s;
+        }
+        s += 1;
+    }
+    s
+}
+
+pub fn restore(p: Parts, coord: u8, process: u8) -> Change
+    ensures { λ r. ⌜ r ≡ planOf p (Restore coord process) ⌝ }
+{
+    let l = p.coordinator.log;
+    let unmet = refusal::either(p.acceptors == 0, !l.holds_any(process));
+    let answer = refusal::first_of(
+        false,
+        deaf(p, coord, process),
+        unmet,
+        send::lacks_numbers(p.sent, 1),
+        false,
+    );
+    if answer != 0 {
+        return changes::still(p, answer);
+    }
+    let holders = l.holders;
+    let store = held_store(holders, process);
+    changes::sending(
+        p,
+        1,
+        message::restore_to(process, store, p.coordinator.applied, l.replay(store)),
+    )
+}
+
+pub fn crash(mut p: Parts, role: Role, id: u8) -> Change
+    ensures { λ r. ⌜ r ≡ planOf p (Crash role id) ⌝ }
+{
+    let answer = refusal::first_of(
+        false,
+        parties::is_down(p.down, role, id),
+        p.acceptors == 0,
+        false,
+        false,
+    );
+    if answer != 0 {
+        return changes::still(p, answer);
+    }
+    p.down = parties::crashed(p.down, role, id);
+    changes::still(p, 0)
+}
