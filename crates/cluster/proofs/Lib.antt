@@ -3,3 +3,4 @@ pub mod Refusals
 pub mod Changes
 pub mod Stepping
 pub mod Room
+pub mod KeptLaws
