@@ -84,7 +84,8 @@ pub fn tell(p: Parts, coord: u8, process: u8, tx: u8) -> Change
 {
     let l = p.coordinator.log;
     let o = l.outcome(tx);
-    let unmet = refusal::either(p.acceptors == 0, o.is_open());
+    let open = o.is_open();
+    let unmet = refusal::either(p.acceptors == 0, open);
     let answer = refusal::first_of(
         false,
         deaf(p, coord, process),

@@ -1,11 +1,11 @@
-use borrow.Author.Needs.{needs}
 use mathlib.Core.Path.{ap, refl, _∙_, _≡_}
+use mathlib.Core.Bool.{false}
+use borrow.Author.Needs.{needs}
+use lib.Dec.{eqb}
+use Rattle.steps.specs.declared.Step.the-variants.{Crash}
+use Rattle.protocol.specs.declared.Down.{Down}
 use Rattle.transition.specs.Plan.{changeOf, planOf}
 use Rattle.transition.specs.Refusal.{refusalIn}
-use mathlib.Core.Bool.{false}
-use lib.Dec.{eqb}
-use Rattle.protocol.specs.declared.Down.{Down}
-use Rattle.steps.specs.declared.Step.the-variants.{Crash}
 use Rattle.transition.specs.Change.{downNow, still}
 use Rattle.transition.proofs.PlanLaws.{done-is, refused-is, same-first}
 use Rattle.requests.proofs.crash.Statement.{statement}
@@ -38,7 +38,8 @@ still-requires-2 c κs = search needs
 
 returns-2 : tie.Need-returns-2
 unfolding planOf changeOf
-returns-2 c = let a = c .before .before .before .before .before .before .args in
+returns-2 c =
+    let a = c .before .before .before .before .before .before .args in
     c .still2 .ensures ∙ ap (λ (d : Down). still (downNow (a .p) d) 0) (c .before .crashed .ensures) ∙ done-is (a .p) _ _ _ (answer-is (c .before .before .before)) (c .before .before .if1 .left)
 
 pub crash-spec : {M : Type 1} → statement M

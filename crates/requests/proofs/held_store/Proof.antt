@@ -26,7 +26,8 @@ array-read-if1 : tie.Need-array-read-if1 Inv-loop μ-loop
 array-read-if1 c = omega arith
 
 returns : tie.Need-returns Inv-loop μ-loop
-returns c = let s = c .before .before .before in
+returns c =
+    let s = c .before .before .before in
     let l = c .before .before .loop in
     sym (l .inv .1 ∙ held-here (s .args .process) (s .args .t1) (l .s) (omega (arith, eight s)) (c .if1 .taken))
 
@@ -37,12 +38,14 @@ loop-less : tie.Need-loop-less Inv-loop μ-loop
 loop-less c = omega arith
 
 loop-again : tie.Need-loop-again Inv-loop μ-loop
-loop-again c = let s = c .before .before .before in
+loop-again c =
+    let s = c .before .before .before in
     let l = c .before .before .loop in
     (omega arith, l .inv .1 ∙ held-later (s .args .process) (s .args .t1) (l .s) (omega (arith, eight s)) (c .if1 .left))
 
 returns-2 : tie.Need-returns-2 Inv-loop μ-loop
-returns-2 c = let s = c .before .before in
+returns-2 c =
+    let s = c .before .before in
     let l = c .before .loop in
     sym (l .inv .1 ∙ held-none (s .args .process) (s .args .t1) (l .s) (omega (arith, eight s)))
 

@@ -1,11 +1,11 @@
-use borrow.Author.Needs.{needs}
 use mathlib.Core.Path.{ap, refl, _∙_, _≡_}
-use Rattle.transition.specs.Plan.{changeOf, planOf}
-use Rattle.transition.specs.Refusal.{refusalIn}
 use mathlib.Core.Bool.{false}
+use borrow.Author.Needs.{needs}
 use lib.Dec.{eqb}
 use Rattle.steps.specs.declared.Step.the-variants.{Request}
 use Rattle.protocol.specs.declared.Message.{Message}
+use Rattle.transition.specs.Plan.{changeOf, planOf}
+use Rattle.transition.specs.Refusal.{refusalIn}
 use Rattle.transition.specs.Change.{sending}
 use Rattle.transition.proofs.PlanLaws.{done-is, refused-is, same-first}
 use Rattle.requests.proofs.TestLaws.{either-is, or-is}
@@ -58,7 +58,8 @@ sending-requires c κs = search needs
 
 returns-2 : tie.Need-returns-2
 unfolding planOf changeOf
-returns-2 c = let a = c .before .before .before .before .before .before .before .before .before .before .before .before .args in
+returns-2 c =
+    let a = c .before .before .before .before .before .before .before .before .before .before .before .before .args in
     c .sending .ensures ∙ ap (λ (m : Message). sending (a .p) 1 m) (c .before .request-to .ensures) ∙ done-is (a .p) _ _ _ (answer-is (c .before .before .before)) (c .before .before .if1 .left)
 
 pub request-spec : {M : Type 1} → statement M

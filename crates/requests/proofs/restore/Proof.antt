@@ -1,15 +1,15 @@
-use borrow.Author.Needs.{needs}
-use mathlib.Core.Path.{ap, refl, _∙_, _≡_}
-use Rattle.transition.specs.Plan.{changeOf, planOf}
-use Rattle.transition.specs.Refusal.{refusalIn}
 use Prim.Native.Nat.{ℕ}
+use mathlib.Core.Path.{ap, refl, _∙_, _≡_}
 use mathlib.Core.Bool.{Bool, false, not}
+use borrow.Author.Needs.{needs}
 use lib.Dec.{eqb}
 use Rattle.commit_log.specs.Replay.{replayOf}
 use Rattle.commit_log.specs.declared.Replay.{Replay}
 use Rattle.steps.specs.declared.Step.the-variants.{Restore}
 use Rattle.protocol.specs.Message.{restoreTo}
 use Rattle.protocol.specs.declared.Message.{Message}
+use Rattle.transition.specs.Plan.{changeOf, planOf}
+use Rattle.transition.specs.Refusal.{refusalIn}
 use Rattle.transition.specs.Change.{sending}
 use Rattle.transition.proofs.PlanLaws.{done-is, refused-is, same-first}
 use Rattle.requests.proofs.TestLaws.{or-is}
@@ -58,7 +58,8 @@ sending-requires c κs = search needs
 
 returns-2 : tie.Need-returns-2
 unfolding planOf changeOf
-returns-2 c = let a = c .before .before .before .before .before .before .before .before .before .before .before .before .before .args in
+returns-2 c =
+    let a = c .before .before .before .before .before .before .before .before .before .before .before .before .before .args in
     let k = a .p .coordinator in
     let store = c .before .before .before .held-store in
     let rows = ap (λ (rows : Replay). restoreTo (a .process) (store .result) (k .applied) rows) (c .before .before .replay .ensures) in

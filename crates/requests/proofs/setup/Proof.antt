@@ -1,8 +1,8 @@
-use borrow.Author.Needs.{needs}
 use mathlib.Core.Path.{_∙_, _≡_}
+use borrow.Author.Needs.{needs}
+use Rattle.steps.specs.declared.Step.the-variants.{Setup}
 use Rattle.transition.specs.Plan.{changeOf, planOf}
 use Rattle.transition.specs.Refusal.{refusalIn}
-use Rattle.steps.specs.declared.Step.the-variants.{Setup}
 use Rattle.transition.proofs.PlanLaws.{done-is, refused-is}
 use Rattle.requests.proofs.setup.Statement.{statement}
 use Rattle.requests.proofs.setup.Tie as tie

@@ -1,14 +1,14 @@
-use borrow.Author.Needs.{needs}
 use mathlib.Core.Path.{ap, refl, _∙_, _≡_}
-use Rattle.transition.specs.Plan.{changeOf, planOf}
-use Rattle.transition.specs.Refusal.{refusalIn}
 use mathlib.Core.Bool.{false}
+use borrow.Author.Needs.{needs}
 use lib.Dec.{eqb}
 use Rattle.commit_log.specs.Outcome.{isOpen}
 use Rattle.commit_log.specs.declared.Outcome.{Outcome}
 use Rattle.steps.specs.declared.Step.the-variants.{Tell}
 use Rattle.protocol.specs.Message.{tellTo}
 use Rattle.protocol.specs.declared.Message.{Message}
+use Rattle.transition.specs.Plan.{changeOf, planOf}
+use Rattle.transition.specs.Refusal.{refusalIn}
 use Rattle.transition.specs.Change.{sending}
 use Rattle.transition.proofs.PlanLaws.{done-is, refused-is, same-first}
 use Rattle.requests.proofs.TestLaws.{or-is}
@@ -18,7 +18,7 @@ use Rattle.requests.proofs.tell.Tie as tie
 answer-is : (c : tie.After-first-of) → c .first-of .result ≡ refusalIn (c .before .before .before .before .before .before .before .before .args .p) (Tell (c .before .before .before .before .before .before .before .before .args .coord) (c .before .before .before .before .before .before .before .before .args .process) (c .before .before .before .before .before .before .before .before .args .tx))
 unfolding refusalIn
 answer-is c =
-    let unmet = or-is (eqb (c .before .before .before .before .before .before .before .before .args .p .acceptors) 0) (c .before .before .before .either .ensures) (c .before .before .before .before .is-open .ensures ∙ ap isOpen (c .before .before .before .before .before .before .outcome .ensures)) in
+    let unmet = or-is (eqb (c .before .before .before .before .before .before .before .before .args .p .acceptors) 0) (c .before .before .before .either .ensures) (c .before .before .before .before .before .is-open .ensures ∙ ap isOpen (c .before .before .before .before .before .before .outcome .ensures)) in
     c .first-of .ensures ∙ same-first false false _ _ _ _ _ _ false false refl (c .before .before .deaf .ensures) unmet (c .before .lacks-numbers .ensures) refl
 
 outcome-requires : tie.Need-outcome-requires
@@ -54,7 +54,8 @@ sending-requires c κs = search needs
 
 returns-2 : tie.Need-returns-2
 unfolding planOf changeOf
-returns-2 c = let a = c .before .before .before .before .before .before .before .before .before .before .before .args in
+returns-2 c =
+    let a = c .before .before .before .before .before .before .before .before .before .before .before .args in
     let told = c .before .tell-to .ensures ∙ ap (λ (o : Outcome). tellTo (a .process) (a .tx) o) (c .before .before .before .before .before .before .before .before .before .outcome .ensures) in
     c .sending .ensures ∙ ap (λ (m : Message). sending (a .p) 1 m) told ∙ done-is (a .p) _ _ _ (answer-is (c .before .before .before)) (c .before .before .if1 .left)
 

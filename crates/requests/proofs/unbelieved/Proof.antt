@@ -1,6 +1,6 @@
-use borrow.Author.Needs.{needs}
 use mathlib.Core.Bool.{Bool, not}
 use mathlib.Core.Path.{ap}
+use borrow.Author.Needs.{needs}
 use Rattle.requests.proofs.TestLaws.{of-vote}
 use Rattle.requests.proofs.unbelieved.Statement.{statement}
 use Rattle.requests.proofs.unbelieved.Tie as tie
