@@ -1,0 +1,3 @@
+pub mod BallotLaws
+pub mod ProposalLaws
+pub mod RoundLaws
