@@ -70,7 +70,11 @@ putWrapped w at p = record {
 
 -- the arrays of a world have their lengths
 abbrev pub Lengths : World → Type 0
-Lengths w = (length (w .cells) ≡ cellPlaces) × (length (w .coordinators) ≡ coordinators) × (length (w .processes) ≡ processPlaces)
+Lengths w =
+    (length (w .cells) ≡ cellPlaces)
+    × (length (w .coordinators) ≡ coordinators)
+    × (length (w .processes) ≡ processPlaces)
+    × (length (w .messages) ≡ messages)
 
 module _ (w : World) (at : Places) (m : Message) (long : Lengths w) where
   standing-is : standingAt at (wrapped w at m) ≡ partsAt w at m

@@ -4,3 +4,5 @@ pub mod Changes
 pub mod Stepping
 pub mod Room
 pub mod KeptLaws
+pub mod ChangeLaws
+pub mod AdvanceLaws

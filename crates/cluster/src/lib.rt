@@ -1,6 +1,8 @@
 // The world: its steps.
+pub mod advance;
 pub mod fresh;
 mod kept;
+mod plan;
 
 use protocol::World;
 use steps::Step;

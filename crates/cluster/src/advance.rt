@@ -1,0 +1,97 @@
+// The world's steps, taken in place.
+ghost use mathlib.Core.Path.{_≡_};
+ghost use Rattle.protocol.specs.Step.{stepOf};
+ghost use Prim.Native.Nat.{min};
+ghost use Rattle.cluster.specs.Orders.{advanced, blockOrders};
+use crate::Advanced;
+use crate::Block;
+use crate::Order;
+use crate::plan;
+use protocol::Stepped;
+use protocol::World;
+use steps::Step;
+use steps::limits::COORDINATORS;
+use transition::Parts;
+use transition::place;
+
+fn at_most(count: u8) -> u8
+    ensures { λ r. ⌜ r ≡ min count blockOrders ⌝ }
+{
+    if count < 32 {
+        return count;
+    }
+    32
+}
+
+// The orders of the block, one after the other.
+pub fn advance(mut w: World, block: Block) -> Advanced
+    ensures { λ r. ⌜ r ≡ advanced w block ⌝ }
+{
+    let mut answers = [0u8; 32];
+    let count = at_most(block.count);
+    let mut k: u8 = 0;
+    while k < count {
+        let o = block.orders[k as usize];
+        let s = o.step;
+        let delivered = w.messages[place::message_at(s) as usize];
+        let at = place::places(s, delivered);
+        let c = (at.coordinator % COORDINATORS) as usize;
+        let x = at.cell % 80;
+        let h = (at.process % 16) as usize;
+        let p = Parts {
+            acceptors: w.acceptors,
+            sent: w.sent,
+            down: w.down,
+            coordinator: w.coordinators[c],
+            cell: w.cells[x],
+            process: w.processes[h],
+            message: delivered,
+        };
+        let change = plan::change(o, at, p);
+        let after = change.parts;
+        w.acceptors = after.acceptors;
+        let down = after.down;
+        w.down = down;
+        let coordinator = after.coordinator;
+        w.coordinators[c] = coordinator;
+        let cell = after.cell;
+        w.cells[x] = cell;
+        let process = after.process;
+        w.processes[h] = process;
+        let mut m = change.message;
+        let mut i: u8 = 0;
+        while i < change.count {
+            let n = w.sent;
+            w.messages[n as usize] = m;
+            w.sent = n + 1;
+            i += 1;
+            m.acceptor = i;
+        }
+        answers[k as usize] = change.answer;
+        k += 1;
+    }
+    Advanced {
+        world: w,
+        answers: answers,
+    }
+}
+
+pub fn step(w: World, s: Step) -> Stepped
+    ensures { λ r. ⌜ r ≡ stepOf w s ⌝ }
+{
+    let o = Order {
+        refused: 0,
+        step: s,
+    };
+    let block = Block {
+        orders: [o; 32],
+        count: 1,
+    };
+    let after = advance(w, block);
+    let answers = after.answers;
+    let world = after.world;
+    Stepped {
+        world: world,
+        answer: answers[0],
+    }
+}
