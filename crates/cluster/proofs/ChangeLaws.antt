@@ -1,9 +1,12 @@
 -- What an order does, by its tests.
-use mathlib.Core.Bool.{false, true}
-use mathlib.Core.Path.{_≡_}
+use mathlib.Core.Bool.{Bool, false, false≢true, true, _&&_}
+use mathlib.Core.Path.{_≡_, refl}
 use borrow.Author.Tests.{eq-eqb, ne-eqb}
+use lib.Dec.{ltb}
 use Rattle.entry.specs.Refusal.{outsideLimits}
-use Rattle.steps.specs.Limits.{outsideStep}
+use Rattle.steps.specs.declared.Step.{Step}
+use Rattle.steps.specs.Limits.{coordinators, outsideStep}
+use Rattle.protocol.specs.Limits.{cellPlaces, processPlaces}
 use Rattle.transition.specs.declared.Change.{Change}
 use Rattle.transition.specs.declared.Parts.{Parts}
 use Rattle.transition.specs.declared.Places.{Places}
@@ -30,3 +33,15 @@ module _ (o : Order) (at : Places) (p : Parts) where
       → keptBy at (planOf (standingAt at p) (o .step)) p ≡ changeIn o at p
   unfolding changeIn
   order-planned h inside = rw (eq-eqb (o .refused) 0 h, inside)
+
+-- where the world has all places, there is nothing to make up or to keep
+there : (c x h : Bool) (at : Places) (p : Parts) (s : Step) → ltb (at .coordinator) coordinators ≡ c → ltb (at .cell) cellPlaces ≡ x
+    → ltb (at .process) processPlaces ≡ h → (c && x && h) ≡ true → planOf p s ≡ keptBy at (planOf (standingAt at p) s) p
+there true true true at p s ec ex eh all = rw (ec, ex, eh)
+there true true false at p s ec ex eh all = absurd (false≢true all)
+there true false h at p s ec ex eh all = absurd (false≢true all)
+there false x h at p s ec ex eh all = absurd (false≢true all)
+
+pub all-there : (at : Places) (p : Parts) (s : Step) → (ltb (at .coordinator) coordinators && ltb (at .cell) cellPlaces && ltb (at .process) processPlaces) ≡ true
+    → planOf p s ≡ keptBy at (planOf (standingAt at p) s) p
+all-there at p s all = there _ _ _ at p s refl refl refl all

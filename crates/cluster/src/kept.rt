@@ -1,6 +1,6 @@
 // The part that stands at a place of the world: the first where there is such a place, and else the second.
 ghost use mathlib.Core.Path.{_≡_};
-ghost use mathlib.Core.Bool.{cond};
+ghost use mathlib.Core.Bool.{_&&_, cond};
 ghost use lib.Dec.{ltb};
 ghost use Rattle.protocol.specs.Limits.{cellPlaces, processPlaces};
 ghost use Rattle.steps.specs.Limits.{coordinators};
@@ -13,6 +13,19 @@ use protocol::Process;
 use steps::limits::COORDINATORS;
 use transition::Parts;
 use transition::Places;
+
+// Whether the world has all these places.
+pub fn are_there(at: Places) -> bool
+    ensures { λ r. ⌜ r ≡ (ltb (at .coordinator) coordinators && ltb (at .cell) cellPlaces && ltb (at .process) processPlaces) ⌝ }
+{
+    if COORDINATORS <= at.coordinator {
+        return false;
+    }
+    if 80 <= at.cell {
+        return false;
+    }
+    at.process < 16
+}
 
 fn coordinator(place: u8, there: Coordinator, other: Coordinator) -> Coordinator
     ensures { λ r. ⌜ r ≡ cond (ltb place coordinators) there other ⌝ }

@@ -60,6 +60,9 @@ pub fn change(o: Order, at: Places, p: Parts) -> Change
     if limits::outside(counted(p.acceptors), s) {
         return changes::still(p, OUTSIDE_LIMITS);
     }
+    if kept::are_there(at) {
+        return plan(p, s);
+    }
     let mut c = plan(kept::standing(at, p), s);
     c.parts = kept::kept(at, c.parts, p);
     c
