@@ -3,18 +3,29 @@ use Prim.Native.Nat.{ℕ, _≤_, _<_}
 use native.Mathlib.Omega.{arith}
 use native.Mathlib.Decide.{decLt}
 use mathlib.Core.Bool.{Bool, true, false, _&&_, _||_, not, cond, true≢false, false≢true}
-use mathlib.Core.Logic.{_⊎_, inl, inr, ⊎-elim}
+use mathlib.Core.List.{List, [], _∷_}
+use mathlib.Core.Logic.{_⊎_, inl, inr}
 use mathlib.Core.Path.{_≡_, refl, sym, _∙_, ap, subst}
 use lib.Dec.{eqb, leb, ltb}
 use borrow.Author.Tests.{leb-true, le-leb, lt-ltb}
 use Rattle.entry.specs.declared.Entry.{Entry}
 use Rattle.entry.specs.Entry.{takeEntry, voteEntry, noProcess, outside}
 use Rattle.entry.specs.Limits.{stores, transactions, processes, lists, updates}
-use Rattle.step_text.specs.Entry.{HasText, noByte, beyond}
+use Rattle.step_text.specs.Entry.{HasText, beyond, numbers}
+use Rattle.step_text.specs.Table.{anyBeyond, noByte}
 
-or-cases : (a b : Bool) → (a || b) ≡ true → (a ≡ true) ⊎ (b ≡ true)
-or-cases true b h = inl refl
-or-cases false b h = inr h
+-- one of the numbers is beyond a byte
+abbrev pub Whichever : Type 0 → List ℕ → Type 0
+Whichever P [] = Unit {0}
+Whichever P (n ∷ ns) = (256 ≤ n → P) × Whichever P ns
+
+pub beyond-cases : (P : Type 0) (ns : List ℕ) → Whichever P ns → anyBeyond ns ≡ true → P
+beyond-cases P [] c h = absurd (false≢true h)
+beyond-cases P (n ∷ ns) c h = go (noByte n) refl h (beyond-cases P ns (c .1))
+  where
+    go : (b : Bool) → noByte n ≡ b → (b || anyBeyond ns) ≡ true → (anyBeyond ns ≡ true → P) → P
+    go true k h later = c .0 (leb-true 256 n k)
+    go false k h later = later h
 
 module _ (a b c : Bool) where
   pub first-of : a ≡ true → (a || b || c) ≡ true
@@ -26,7 +37,7 @@ module _ (a b c : Bool) where
   pub third-of : c ≡ true → (a || b || c) ≡ true
   third-of h = elim (a || b) as (λ x. (x || c) ≡ true) [ true ↦ refl | false ↦ h ]
 
-no-such-process : (p : ℕ) → 256 ≤ p → noProcess p ≡ true
+pub no-such-process : (p : ℕ) → 256 ≤ p → noProcess p ≡ true
 no-such-process p h = elim (eqb p 0) as (λ x. (x || ltb processes p) ≡ true) [ true ↦ refl | false ↦ lt-ltb processes p (omega arith) ]
 
 -- the parts of a vote's limits that a take has none of
@@ -54,29 +65,32 @@ module _ (e : Entry) where
       others-outside
       (ap (λ (b : Bool). b || leb updates (e .update)) (second-of (leb stores (e .by)) (leb transactions (e .tx)) (leb lists (e .participants)) (le-leb transactions (e .tx) (omega arith))))
 
--- a take has neither `by` nor `tx`
+  list-outside : 256 ≤ e .participants → e .take ≡ false → outside e ≡ true
+  list-outside h =
+      others-outside
+      (ap (λ (b : Bool). b || leb updates (e .update)) (third-of (leb stores (e .by)) (leb transactions (e .tx)) (leb lists (e .participants)) (le-leb lists (e .participants) h)))
+
+-- what a take does not use is no number beyond a byte
 no-number : (n : ℕ) → n ≡ 0 → 256 ≤ n → ⊥
 no-number n h k = omega arith
 
 pub beyond-is-outside : (e : Entry) → HasText e → beyond e ≡ true → outside e ≡ true
-beyond-is-outside e h b =
-    ⊎-elim
-    (λ (k : (noByte (e .process) || noByte (e .by) || noByte (e .store)) ≡ true).
-    ⊎-elim
-    (λ (k : (noByte (e .process) || noByte (e .by)) ≡ true).
-    ⊎-elim
-    (λ (k : noByte (e .process) ≡ true). process-outside e (leb-true 256 (e .process) k))
-    (λ (k : noByte (e .by) ≡ true). by-outside′ (leb-true 256 (e .by) k) h)
-    (or-cases (noByte (e .process)) (noByte (e .by)) k))
-    (λ (k : noByte (e .store) ≡ true). store-outside e (leb-true 256 (e .store) k))
-    (or-cases (noByte (e .process) || noByte (e .by)) (noByte (e .store)) k))
-    (λ (k : noByte (e .tx) ≡ true). tx-outside′ (leb-true 256 (e .tx) k) h)
-    (or-cases (noByte (e .process) || noByte (e .by) || noByte (e .store)) (noByte (e .tx)) b)
-  where
-    by-outside′ : 256 ≤ e .by → HasText e → outside e ≡ true
-    by-outside′ m (inl h) = absurd (no-number (e .by) (ap (λ (x : Entry). x .by) h) m)
-    by-outside′ m (inr h) = by-outside e m (h .0)
-
-    tx-outside′ : 256 ≤ e .tx → HasText e → outside e ≡ true
-    tx-outside′ m (inl h) = absurd (no-number (e .tx) (ap (λ (x : Entry). x .tx) h) m)
-    tx-outside′ m (inr h) = tx-outside e m (h .0)
+beyond-is-outside e (inl h) =
+    beyond-cases (outside e ≡ true) (numbers e) (
+      process-outside e,
+      (
+        (λ m. absurd (no-number (e .by) (ap (λ (x : Entry). x .by) h) m)),
+        (
+          store-outside e,
+          (
+            (λ m. absurd (no-number (e .tx) (ap (λ (x : Entry). x .tx) h) m)),
+            ((λ m. absurd (no-number (e .participants) (ap (λ (x : Entry). x .participants) h) m)), tt),
+          ),
+        ),
+      ),
+    )
+beyond-is-outside e (inr h) =
+    beyond-cases (outside e ≡ true) (numbers e) (
+      process-outside e,
+      ((λ m. by-outside e m (h .0)), (store-outside e, ((λ m. tx-outside e m (h .0)), ((λ m. list-outside e m (h .0)), tt)))),
+    )

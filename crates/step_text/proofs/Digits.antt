@@ -104,26 +104,3 @@ hex-grown done n d h k = rw (add-one, pow-suc) (omega arith)
 
 pub hex-fits : (done n : ℕ) → done ≤ 8 → n < 16 ^ done → n < 2 ^ 32
 hex-fits done n h k = le-trans k (pow-le-pow-right {n = 16} (omega arith) h)
-
--- what is in the range of two digits
-two-digits : (s : List ℕ) → readHex 2 0 s .value < 256
-unfolding readHex
-two-digits [] = lit< tt
-two-digits (a ∷ []) = go (isHexDigit a)
-  where
-    go : (h : Bool) → cond h unreadable unreadable .value < 256
-    go true = lit< tt
-    go false = lit< tt
-two-digits (a ∷ b ∷ s) = go (isHexDigit a) (isHexDigit b) refl refl
-  where
-    go : (h k : Bool) → isHexDigit a ≡ h → isHexDigit b ≡ k → cond h (cond k (part (hexGrown (hexGrown 0 a) b) s) unreadable) unreadable .value < 256
-    go true true e f =
-        let m : hexDigitOf a < 16 = hex-digit-bound a e in
-        let n : hexDigitOf b < 16 = hex-digit-bound b f in
-        omega arith
-    go true false e f = lit< tt
-    go false k e f = lit< tt
-
-pub list-fits : (p : Part) → valueAfter (inHex 2) p .value < 256
-unfolding readValue
-list-fits p = elim (p .readable) as (λ b. cond b (readHex 2 0 (p .rest)) unreadable .value < 256) [ true ↦ two-digits (p .rest) | false ↦ lit< tt ]

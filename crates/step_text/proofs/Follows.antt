@@ -11,22 +11,8 @@ use Rattle.ascii.specs.Hex.{isHexDigit, hexGrown, hexDigitOf}
 use Rattle.ascii.proofs.Hexes.{hex-digit-bound}
 use Rattle.step_text.specs.Fields.{Form, inDecimal, inHex, inWords, Field, field}
 use Rattle.step_text.specs.Read.{Part, part, unreadable, after, valueAfter, readValue, readHex, readField, isEnd, with, readFields}
+use Rattle.step_text.specs.Follows.{counted, countedPart, Follows}
 use Rattle.step_text.specs.Seen.{capped, most}
-
--- what the reader counts of a value
-abbrev pub counted : Form → ℕ → ℕ
-counted inDecimal v = min v most
-counted (inHex k) v = v
-counted (inWords ws) v = v
-
-abbrev pub countedPart : Form → Part → Part
-countedPart f p = record { readable = p .readable; value = counted f (p .value); rest = p .rest }
-
-abbrev pub Follows : List Field → Part → List Part → Type 0
-Follows [] p [] = Unit {0}
-Follows [] p (q ∷ qs) = ⊥
-Follows (f ∷ fs) p [] = ⊥
-Follows (f ∷ fs) p (q ∷ qs) = (q ≡ countedPart (f .form) (readField f p)) × Follows fs q qs
 
 abbrev pub last : Part → List Part → Part
 last p [] = p

@@ -1,9 +1,12 @@
 pub mod Agreement
 pub mod Beyond
+pub mod Counts
+pub mod DecimalLaws
 pub mod Digits
-pub mod Entries
 pub mod Follows
 pub mod Parts
 pub mod ReadsText
+pub mod Table
 pub mod TextReads
+pub mod Votes
 pub mod Words

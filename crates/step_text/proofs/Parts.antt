@@ -3,12 +3,12 @@ use Prim.Native.Nat.{ℕ, suc, _≤_, _<_, _+_}
 use native.Mathlib.Omega.{arith}
 use native.Mathlib.Decide.{decLt}
 use borrow.Author.Tests.{le-leb, lt-leb}
-use mathlib.Core.Bool.{Bool, true, false, _&&_, not, cond, false≢true, true≢false}
-use mathlib.Core.List.{List, [], _∷_}
+use mathlib.Core.Bool.{Bool, true, false, _&&_, and-assoc, not, cond, false≢true, true≢false}
+use mathlib.Core.List.{List, [], _∷_, _++_}
 use mathlib.Core.Path.{_≡_, refl, sym, _∙_, ap}
-use lib.Dec.{leb}
-use lib.ListN.{length, drop, drop-of-length-le, length-drop}
-use lib.Seq.{drop-cons}
+use lib.Dec.{eqb, leb}
+use lib.ListN.{length, drop, drop-of-length-le, length-append, length-drop}
+use lib.Seq.{drop-cons, drop-drop}
 use Rattle.ascii.specs.Bytes.{begins}
 use Rattle.step_text.specs.Fields.{Form, inWords}
 use Rattle.step_text.specs.Seen.{wordAfter}
@@ -30,6 +30,28 @@ module _ (w : List ℕ) (p : Part) where
   pub after-there : p .readable ≡ true → begins (p .rest) w ≡ true → part 0 (drop (length w) (p .rest)) ≡ after w p
   unfolding after
   after-there h k = rw (h, k)
+
+-- two words, one behind the other, are one word
+begins-both : (s v w : List ℕ) → begins s (v ++ w) ≡ (begins s v && begins (drop (length v) s) w)
+unfolding begins
+begins-both [] [] w = refl
+begins-both (c ∷ s) [] w = refl
+begins-both [] (x ∷ v) w = refl
+begins-both (c ∷ s) (x ∷ v) w = ap (λ (b : Bool). eqb c x && b) (begins-both s v w) ∙ sym (and-assoc (eqb c x) (begins s v) (begins (drop (length v) s) w))
+
+pub after-both : (v w : List ℕ) (p : Part) → after w (after v p) ≡ after (v ++ w) p
+unfolding after
+after-both v w p = go (p .readable) (begins (p .rest) v) (begins (p .rest) (v ++ w)) (begins-both (p .rest) v w)
+  where
+    drop-both : (s : List ℕ) → drop (length w) (drop (length v) s) ≡ drop (length (v ++ w)) s
+    drop-both s = rw length-append (drop-drop (length w) (length v) s)
+
+    go : (a b c : Bool) → c ≡ (b && begins (drop (length v) (p .rest)) w)
+        → (let q = cond (a && b) (part 0 (drop (length v) (p .rest))) unreadable in cond (q .readable && begins (q .rest) w) (part 0 (drop (length w) (q .rest))) unreadable)
+        ≡ cond (a && c) (part 0 (drop (length (v ++ w)) (p .rest))) unreadable
+    go false b c h = refl
+    go true false c h = rw h
+    go true true c h = rw h (ap (λ (s : List ℕ). cond (begins (drop (length v) (p .rest)) w) (part 0 s) unreadable) (drop-both (p .rest)))
 
 pub value-stopped : (f : Form) (p : Part) → p .readable ≡ false → unreadable ≡ valueAfter f p
 value-stopped f p h = rw h

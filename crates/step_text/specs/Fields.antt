@@ -33,9 +33,13 @@ valueText inDecimal n = decimal n
 valueText (inHex digits) n = hex digits n
 valueText (inWords words) n = getD words n []
 
+-- a key, as it stands before its value
+abbrev pub keyed : List ℕ → List ℕ
+keyed key = ascii " " ++ key ++ ascii "="
+
 -- what stands before a field's value
 abbrev pub keyText : Field → List ℕ
-keyText f = ascii " " ++ f .key ++ ascii "="
+keyText f = keyed (f .key)
 
 -- the fields with their values
 unfoldable pub fieldsText : List Field → List ℕ → List ℕ
@@ -43,9 +47,13 @@ fieldsText [] vs = []
 fieldsText (f ∷ fs) [] = []
 fieldsText (f ∷ fs) (v ∷ vs) = keyText f ++ (valueText (f .form) v ++ fieldsText fs vs)
 
+-- a step's name, as a line begins with it
+abbrev pub named : List ℕ → List ℕ
+named name = ascii "do=" ++ name
+
 -- what stands before a step's fields
 abbrev pub nameText : Kind → List ℕ
-nameText k = ascii "do=" ++ k .name
+nameText k = named (k .name)
 
 -- the line of a step of this kind with these values
 unfoldable pub lineText : Kind → List ℕ → List ℕ

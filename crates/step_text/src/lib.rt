@@ -1,18 +1,22 @@
 // The text of steps: document 01's "Step files".
-mod value;
+pub mod decimals;
+pub mod fields;
+pub mod value;
 
-ghost use mathlib.Core.Bool.{_&&_, _||_, not};
-ghost use Prim.Native.Nat.{_<_};
 ghost use mathlib.Core.Option.{some};
 ghost use mathlib.Core.Path.{_≡_};
 ghost use lib.Dec.{eqb};
-ghost use lib.ListN.{drop};
-ghost use Rattle.entry.specs.Entry.{takeEntry, voteEntry};
-ghost use Rattle.step_text.specs.Fields.{inDecimal};
-ghost use Rattle.step_text.specs.Kinds.{say};
-ghost use Rattle.step_text.specs.Read.{part, after, valueAfter, isEnd};
-ghost use Rattle.step_text.specs.Seen.{seen, capped};
-ghost use Rattle.step_text.specs.Entry.{noByte, readTake, readVote, readingOf, reading};
+ghost use Rattle.entry.specs.Entry.{voteEntry};
+ghost use Rattle.step_text.specs.Decimals.{answerBy};
+ghost use Rattle.step_text.specs.declared.Reading.the-variants.{Read, Outside, Unreadable};
+ghost use Rattle.step_text.specs.Fields.{nameText};
+ghost use Rattle.step_text.specs.Follows.{Follows, voteParts};
+ghost use Rattle.step_text.specs.Kinds.{say, takeKind, voteKind};
+ghost use Rattle.step_text.specs.Read.{part, after, readKind, valueAfter};
+ghost use Rattle.step_text.specs.Seen.{seen};
+ghost use Rattle.step_text.specs.Table.{made};
+ghost use Rattle.step_text.specs.Entry.{readingOf, reading, takeOf, voteOf};
+use decimals::Decimals;
 use entry::Entry;
 use value::Value;
 
@@ -23,87 +27,40 @@ pub enum Reading {
     Unreadable,
 }
 
-// Where a line begins with its step's name.
-fn named(line: &[u8], name: &[u8]) -> Value
-    ensures { λ r. ⌜ seen (now (line .entry)) r ≡ after (now (name .entry)) (part 0 (now (line .entry))) ⌝ }
-{
-    let start = Value {
-        readable: true,
-        number: 0,
-        end: 0,
-    };
-    value::after(line, start, name)
+// The values of a vote's fields.
+pub struct VoteParts {
+    pub process: Value,
+    pub by: Value,
+    pub store: Value,
+    pub tx: Value,
+    pub list: Value,
+    pub say: Value,
+    pub update: Value,
 }
 
-// A key and its decimal.
-fn decimal(line: &[u8], before: Value, key: &[u8]) -> Value
-    ensures { λ r. ⌜ seen (now (line .entry)) r ≡ capped (valueAfter inDecimal (after (now (key .entry)) (seen (now (line .entry)) before))) ⌝ }
+// The answer to a line of these decimals that stands for the entry.
+fn answer(d: Decimals, entry: Entry) -> Reading
+    ensures { λ r. ⌜ r ≡ answerBy Read Outside Unreadable d entry ⌝ }
 {
-    value::decimal(line, value::after(line, before, key))
-}
-
-// Whether the line ends behind the value.
-fn ends(line: &[u8], last: Value) -> bool
-    ensures { λ r. ⌜ r ≡ (last .readable && isEnd (drop (last .end) (now (line .entry)))) ⌝ }
-{
-    if !last.readable {
-        return false;
+    if !d.readable {
+        return Reading::Unreadable;
     }
-    line.len() <= last.end
-}
-
-// Whether each number fits a byte.
-fn bytes(a: u32, b: u32, c: u32, d: u32) -> bool
-    ensures { λ r. ⌜ r ≡ not (noByte a || noByte b || noByte c || noByte d) ⌝ }
-{
-    if 256 <= a {
-        return false;
-    }
-    if 256 <= b {
-        return false;
-    }
-    if 256 <= c {
-        return false;
-    }
-    if 256 <= d {
-        return false;
-    }
-    true
-}
-
-// The take of these numbers.
-fn made_take(process: u32, store: u32) -> Reading
-    ensures { λ r. ⌜ r ≡ readingOf (some (takeEntry process store)) ⌝ }
-{
-    if !bytes(process, 0, store, 0) {
+    if !d.fit {
         return Reading::Outside;
     }
-    Reading::Read(Entry {
-        take: true,
-        process: process as u8,
-        by: 0,
-        store: store as u8,
-        tx: 0,
-        participants: 0,
-        commit: false,
-        update: 0,
-    })
+    Reading::Read(entry)
 }
 
 fn read_take(line: &[u8]) -> Reading
-    ensures { λ r. ⌜ r ≡ readingOf (readTake (now (line .entry))) ⌝ }
+    ensures { λ r. ⌜ r ≡ readingOf (made takeOf (readKind takeKind (now (line .entry)))) ⌝ }
 {
-    let name = named(line, b"do=take");
-    let process = decimal(line, name, b" proc=");
-    let store = decimal(line, process, b" store=");
-    if !ends(line, store) {
-        return Reading::Unreadable;
-    }
-    made_take(process.number, store.number)
+    let d = decimals::two(line, b"take", b"proc", b"store");
+    let entry = Entry::take_of(d.first, d.second);
+    answer(d, entry)
 }
 
 // The vote of these numbers.
-fn made_vote(
+pub fn made_vote(
     process: u32,
     by: u32,
     store: u32,
@@ -112,10 +69,9 @@ fn made_vote(
     say: u32,
     update: u32,
 ) -> Reading
-    requires { ⌜ list < 256 ⌝ }
     ensures { λ r. ⌜ r ≡ readingOf (some (voteEntry process by store tx list (eqb say 1) update)) ⌝ }
 {
-    if !bytes(process, by, store, tx) {
+    if !decimals::bytes(process, by, store, tx, list) {
         return Reading::Outside;
     }
     Reading::Read(Entry {
@@ -130,28 +86,44 @@ fn made_vote(
     })
 }
 
-fn read_vote(line: &[u8]) -> Reading
-    ensures { λ r. ⌜ r ≡ readingOf (readVote (now (line .entry))) ⌝ }
+// The values of a line that begins with a vote's name and fields.
+pub fn vote_parts(line: &[u8]) -> VoteParts
+    ensures { λ r. ⌜ Follows (voteKind .fields) (after (nameText voteKind) (part 0 (now (line .entry)))) (voteParts (now (line .entry)) r) ⌝ }
 {
-    let name = named(line, b"do=vote");
-    let process = decimal(line, name, b" proc=");
-    let by = decimal(line, process, b" by=");
-    let store = decimal(line, by, b" store=");
-    let tx = decimal(line, store, b" tx=");
-    let list = value::two_digits(line, value::after(line, tx, b" list="));
-    let say = said(line, value::after(line, list, b" say="));
-    let update = value::eight_digits(line, value::after(line, say, b" upd="));
-    if !ends(line, update) {
+    let name = fields::named(line, b"vote");
+    let process = fields::decimal(line, name, b"proc");
+    let by = fields::decimal(line, process, b"by");
+    let store = fields::decimal(line, by, b"store");
+    let tx = fields::decimal(line, store, b"tx");
+    let list = value::two_digits(line, fields::keyed(line, tx, b"list"));
+    let say = said(line, fields::keyed(line, list, b"say"));
+    let update = value::eight_digits(line, fields::keyed(line, say, b"upd"));
+    VoteParts {
+        process,
+        by,
+        store,
+        tx,
+        list,
+        say,
+        update,
+    }
+}
+
+fn read_vote(line: &[u8]) -> Reading
+    ensures { λ r. ⌜ r ≡ readingOf (made voteOf (readKind voteKind (now (line .entry)))) ⌝ }
+{
+    let v = vote_parts(line);
+    if !fields::ends(line, v.update) {
         return Reading::Unreadable;
     }
     made_vote(
-        process.number,
-        by.number,
-        store.number,
-        tx.number,
-        list.number,
-        say.number,
-        update.number,
+        v.process.number,
+        v.by.number,
+        v.store.number,
+        v.tx.number,
+        v.list.number,
+        v.say.number,
+        v.update.number,
     )
 }
 

@@ -1,16 +1,15 @@
-use mathlib.Core.Path.{_≡_, sym, _∙_}
 use mathlib.Core.Bool.{false}
+use mathlib.Core.List.{[], _∷_}
+use mathlib.Core.Path.{_≡_, sym, _∙_}
 use lib.Dec.{eqb}
 use borrow.Author.Tests.{not-true, not-false}
 use Rattle.entry.specs.Entry.{voteEntry}
 use Rattle.step_text.specs.Entry.{beyond}
-use Rattle.step_text.proofs.Entries.{bytes-fit, outside-by, read-by}
+use Rattle.step_text.proofs.DecimalLaws.{all-fit}
+use Rattle.step_text.proofs.Votes.{outside-by, read-by}
 use borrow.Author.Needs.{needs}
 use Rattle.step_text.proofs.made_vote.Statement.{statement}
 use Rattle.step_text.proofs.made_vote.Tie as tie
-
-fitting : (c : tie.Else1) → let a = c .before .before .args in beyond (voteEntry (a .process) (a .by) (a .store) (a .tx) (a .list) (eqb (a .say) 1) (a .update)) ≡ false
-fitting c = not-true _ (sym (c .before .bytes .ensures) ∙ not-false _ (c .if1 .left))
 
 bytes-requires : tie.Need-bytes-requires
 bytes-requires c κs = search needs
@@ -20,32 +19,23 @@ returns c =
     let a = c .before .before .args in
     sym (outside-by (voteEntry (a .process) (a .by) (a .store) (a .tx) (a .list) (eqb (a .say) 1) (a .update)) (not-false _ (sym (c .before .bytes .ensures) ∙ not-true _ (c .if1 .taken))))
 
+fitting : (c : tie.Else1) → let a = c .before .before .args in beyond (voteEntry (a .process) (a .by) (a .store) (a .tx) (a .list) (eqb (a .say) 1) (a .update)) ≡ false
+fitting c = not-true _ (sym (c .before .bytes .ensures) ∙ not-false _ (c .if1 .left))
+
 cast-t10 : tie.Need-cast-t10
-cast-t10 c =
-    let a = c .before .before .args in
-    let h = bytes-fit (a .process) (a .by) (a .store) (a .tx) (fitting c) in
-    record { fits = h .0 }
+cast-t10 c = let a = c .before .before .args in record { fits = all-fit (a .process ∷ a .by ∷ a .store ∷ a .tx ∷ a .list ∷ []) (fitting c) .0 }
 
 cast-t11 : tie.Need-cast-t11
-cast-t11 c =
-    let a = c .before .before .args in
-    let h = bytes-fit (a .process) (a .by) (a .store) (a .tx) (fitting c) in
-    record { fits = h .1 }
+cast-t11 c = let a = c .before .before .args in record { fits = all-fit (a .process ∷ a .by ∷ a .store ∷ a .tx ∷ a .list ∷ []) (fitting c) .1 .0 }
 
 cast-t12 : tie.Need-cast-t12
-cast-t12 c =
-    let a = c .before .before .args in
-    let h = bytes-fit (a .process) (a .by) (a .store) (a .tx) (fitting c) in
-    record { fits = h .2 }
+cast-t12 c = let a = c .before .before .args in record { fits = all-fit (a .process ∷ a .by ∷ a .store ∷ a .tx ∷ a .list ∷ []) (fitting c) .1 .1 .0 }
 
 cast-t13 : tie.Need-cast-t13
-cast-t13 c =
-    let a = c .before .before .args in
-    let h = bytes-fit (a .process) (a .by) (a .store) (a .tx) (fitting c) in
-    record { fits = h .3 }
+cast-t13 c = let a = c .before .before .args in record { fits = all-fit (a .process ∷ a .by ∷ a .store ∷ a .tx ∷ a .list ∷ []) (fitting c) .1 .1 .1 .0 }
 
 cast-t14 : tie.Need-cast-t14
-cast-t14 c = search needs
+cast-t14 c = let a = c .before .before .args in record { fits = all-fit (a .process ∷ a .by ∷ a .store ∷ a .tx ∷ a .list ∷ []) (fitting c) .1 .1 .1 .1 .0 }
 
 returns-2 : tie.Need-returns-2
 returns-2 c =

@@ -1,6 +1,13 @@
+use mathlib.Core.List.{List, [], _∷_}
+use mathlib.Core.Option.{Option, none, some}
 use mathlib.Core.Path.{sym, _∙_}
-use Rattle.step_text.specs.Entry.{readTake, readVote, readEntry}
-use Rattle.step_text.proofs.Entries.{take-decides, vote-decides, read-not-unreadable, outside-not-unreadable}
+use Rattle.step_text.specs.declared.Reading.the-variants.{Read, Outside, Unreadable}
+use Rattle.step_text.specs.Entry.{beyond, readEntry, takeOf, voteOf}
+use Rattle.step_text.specs.Kinds.{takeKind, voteKind}
+use Rattle.step_text.specs.Read.{readKind}
+use Rattle.step_text.specs.Table.{made, readFirst, reader}
+use Rattle.step_text.proofs.Agreement.{distinct}
+use Rattle.step_text.proofs.Table.{first-decides, last-is, next-decides}
 use borrow.Author.Needs.{needs}
 use Rattle.step_text.proofs.read_entry.Statement.{statement}
 use Rattle.step_text.proofs.read_entry.Tie as tie
@@ -21,22 +28,22 @@ read-vote-requires : tie.Need-read-vote-requires
 read-vote-requires c κs = search needs
 
 returns : tie.Need-returns
-unfolding readEntry
+unfolding readEntry readFirst
 returns c =
     let s = c .before .before .before .before .before .args .line .now in
-    take-decides (readTake s) (readVote s) _ (sym (c .before .before .before .read-take .ensures) ∙ c .before .entry .given .1) (read-not-unreadable _)
+    first-decides Read Outside Unreadable beyond distinct (made takeOf (readKind takeKind s)) (readFirst (reader voteKind voteOf ∷ []) s) _ (sym (c .before .before .before .read-take .ensures) ∙ c .before .entry .given .1) (distinct .read-unreadable _)
 
 returns-2 : tie.Need-returns-2
-unfolding readEntry
+unfolding readEntry readFirst
 returns-2 c =
     let s = c .before .before .before .before .args .line .now in
-    take-decides (readTake s) (readVote s) _ (sym (c .before .before .read-take .ensures) ∙ c .enum-told .given .1) outside-not-unreadable
+    first-decides Read Outside Unreadable beyond distinct (made takeOf (readKind takeKind s)) (readFirst (reader voteKind voteOf ∷ []) s) _ (sym (c .before .before .read-take .ensures) ∙ c .enum-told .given .1) (distinct .outside-unreadable)
 
 returns-3 : tie.Need-returns-3
-unfolding readEntry
+unfolding readEntry readFirst
 returns-3 c =
     let s = c .before .before .before .before .before .args .line .now in
-    c .read-vote .ensures ∙ vote-decides (readTake s) (readVote s) (sym (c .before .before .before .read-take .ensures) ∙ c .before .enum-told2 .given .1)
+    c .read-vote .ensures ∙ sym (last-is Read Outside Unreadable beyond (reader voteKind voteOf) s) ∙ next-decides Read Outside Unreadable beyond distinct (made takeOf (readKind takeKind s)) (readFirst (reader voteKind voteOf ∷ []) s) (sym (c .before .before .before .read-take .ensures) ∙ c .before .enum-told2 .given .1)
 
 pub read-entry-spec : {M : Type 1} → statement M
 read-entry-spec =

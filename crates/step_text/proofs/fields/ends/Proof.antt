@@ -1,7 +1,7 @@
 use borrow.Author.Tests.{not-true, not-false}
 use Rattle.step_text.proofs.Parts.{ends-there}
-use Rattle.step_text.proofs.ends.Statement.{statement}
-use Rattle.step_text.proofs.ends.Tie as tie
+use Rattle.step_text.proofs.fields.ends.Statement.{statement}
+use Rattle.step_text.proofs.fields.ends.Tie as tie
 
 returns : tie.Need-returns
 returns c =
