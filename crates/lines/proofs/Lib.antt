@@ -1,3 +1,5 @@
+pub mod Feeding
 pub mod Gathering
 pub mod Good
+pub mod Noting
 pub mod Stream

@@ -1,26 +1,25 @@
 -- However the input is cut into pieces, what the functions under `main` print is what `plain` says.
 use Rattle.entry.specs.Refusal.{noPlace, unreadable}
-use Prim.Native.Nat.{ℕ, suc, _≤_, _<_, _+_}
+use Prim.Native.Nat.{ℕ, _≤_}
 use native.Mathlib.Omega.{arith}
 use native.Mathlib.Decide.{decLt}
-use native.Mathlib.Numerals.{add-one}
 use mathlib.Core.Bool.{Bool, true, false, cond}
 use mathlib.Core.List.{List, [], _∷_, _++_}
-use mathlib.Core.Path.{_≡_, refl, sym, _∙_, ap, subst}
+use mathlib.Core.Path.{_≡_, refl, sym, _∙_, ap}
 use lib.Dec.{leb, ltb}
-use lib.ListN.{length, take, set, length-set, length-take}
-use lib.Seq.{take-suc-set, length-take-le}
+use lib.ListN.{length, take}
 use borrow.Author.Tests.{lt-ltb, le-ltb, ltb-false}
 use Rattle.commit_log.specs.declared.Entered.{Entered}
 use Rattle.commit_log.specs.declared.Log.{Log}
 use Rattle.commit_log.specs.Enter.{answered}
-use Rattle.lines.specs.declared.Answers.{Answers}
 use Rattle.lines.specs.declared.Line.{Line}
-use Rattle.lines.specs.Answers.{answersOf, noted as Answers·noted}
+use Rattle.lines.specs.Answers.{answersOf}
 use Rattle.lines.specs.Feed.{Fed, fed, fedLines, finished, fresh}
 use Rattle.lines.specs.Line.{bytesOf, tooLong}
 use Rattle.lines.specs.Lines.{lines, longest, most}
-use Rattle.lines.proofs.Stream.{Holds, fed-in-pieces, stream-is-lines}
+use Rattle.lines.proofs.Feeding.{all-is-joined, fedAll, joined}
+use Rattle.lines.proofs.Noting.{Sound, counts, noted-answers, noted-sound}
+use Rattle.lines.proofs.Stream.{Holds, stream-is-lines}
 use Rattle.plain_run.specs.declared.Session.{Session}
 use Rattle.plain_run.specs.Plain.{Run, afterLine, enterLine, entering, noLines, noted as Plain·noted, over, plain, printed}
 use Rattle.plain_run.specs.Session.{answerLine, enterHeld, freshSession, isOver, noted, output, runOf}
@@ -47,25 +46,6 @@ unfolding answerLine answerBytes
 meets s line b h = ap (λ (e : Entered). noted s (cond (leb most (s .answers .count)) (answered (s .log) noPlace) e)) (held-is-line (s .log) line b h)
 
 -- ---- a session stands for a run
-
--- there is room for the answers that are counted
-record Sound (a : Answers) : Type 0 where
-  pub room : length (a .answers) ≡ most + 1
-  pub count : a .count ≤ most + 1
-
-counts : (a : Answers) → Sound a → length (answersOf a) ≡ a .count
-counts a h = length-take-le (a .count) (a .answers) (omega (arith, h .room, h .count))
-
-noted-answers : (a : Answers) (n : ℕ) → Sound a → a .count ≤ most → answersOf (Answers·noted a n) ≡ answersOf a ++ n ∷ []
-unfolding Answers·noted
-noted-answers a n h k =
-    rw (le-ltb most (a .count) k)
-    (ap (λ (m : ℕ). take m (set (a .answers) (a .count) n)) (add-one (a .count)) ∙ take-suc-set (a .answers) (a .count) n (omega (arith, h .room)))
-
-noted-sound : (a : Answers) (n : ℕ) → Sound a → a .count ≤ most → Sound (Answers·noted a n)
-unfolding Answers·noted
-noted-sound a n h k =
-    rw (le-ltb most (a .count) k) (record { room = length-set (a .answers) (a .count) n ∙ h .room; count = omega arith })
 
 over-is : (s : Session) → Sound (s .answers) → over (runOf s) ≡ isOver s
 over-is s h = ap (ltb most) (counts (s .answers) h)
@@ -99,21 +79,7 @@ output-is-plain input =
     ap output (stream-is-lines isOver answerLine answerBytes meets freshSession input)
     ∙ ap printed (lines-are freshSession (lines input) (record { room = refl; count = omega arith }))
 
--- fed piece by piece
-abbrev pub fedAll : Fed Session → List (List ℕ) → Fed Session
-fedAll f [] = f
-fedAll f (p ∷ ps) = fedAll (fed isOver answerLine f p) ps
-
-abbrev pub joined : List (List ℕ) → List ℕ
-joined [] = []
-joined (p ∷ ps) = p ++ joined ps
-
-all-is-joined : (f : Fed Session) (ps : List (List ℕ)) → fedAll f ps ≡ fed isOver answerLine f (joined ps)
-unfolding fed
-all-is-joined f [] = refl
-all-is-joined f (p ∷ ps) = all-is-joined (fed isOver answerLine f p) ps ∙ sym (fed-in-pieces isOver answerLine f p (joined ps))
-
 -- However the input was cut into pieces, the same is printed.
-pub pieces-are-plain : (pieces : List (List ℕ)) → output (finished isOver answerLine (fedAll (fresh freshSession) pieces)) ≡ plain (joined pieces)
+pub pieces-are-plain : (pieces : List (List ℕ)) → output (finished isOver answerLine (fedAll isOver answerLine (fresh freshSession) pieces)) ≡ plain (joined pieces)
 pieces-are-plain pieces =
-    ap (λ (f : Fed Session). output (finished isOver answerLine f)) (all-is-joined (fresh freshSession) pieces) ∙ output-is-plain (joined pieces)
+    ap (λ (f : Fed Session). output (finished isOver answerLine f)) (all-is-joined isOver answerLine (fresh freshSession) pieces) ∙ output-is-plain (joined pieces)

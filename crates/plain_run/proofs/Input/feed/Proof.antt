@@ -1,5 +1,4 @@
 use native.Mathlib.Omega.{arith}
-use native.Mathlib.Omega.{arith}
 use borrow.Author.Needs.{needs}
 use Prim.Native.Nat.{_-_, _<_}
 use mathlib.Core.Bool.{true}
@@ -8,9 +7,9 @@ use lib.ListN.{length, drop, length-drop}
 use borrow.Author.Tests.{not-true, not-false}
 use Rattle.lines.specs.Feed.{fed}
 use Rattle.lines.specs.Line.{Part, gathered, seen}
+use Rattle.lines.proofs.Feeding.{fed-at-end, fed-begun, fed-line, gathered-shorter}
 use Rattle.lines.proofs.Stream.{fed-over}
 use Rattle.plain_run.specs.Session.{answerLine, isOver}
-use Rattle.plain_run.proofs.Sessions.{fed-at-end, fed-begun, fed-line, gathered-shorter}
 use Rattle.plain_run.proofs.Input.feed.Statement.{statement}
 use Rattle.plain_run.proofs.Input.feed.Tie as tie
 
@@ -38,7 +37,7 @@ returns-2 : tie.Need-returns-2 Inv-loop μ-loop
 returns-2 c =
     let l = c .before .before .before .before .before .before .before .loop in
     let s = c .before .before .before .before .before .before .before .before .before .before .before .args .piece .now in
-    sym (l .inv ∙ fed-begun (record { state = l .session; line = l .line }) (drop (l .at) s) (seen s (c .before .before .before .gather .result)) (sym (c .before .before .before .before .before .is-over .ensures) ∙ c .before .before .before .before .if1 .left) (c .before .before .before .gather .ensures) (not-true _ (c .if2 .taken)))
+    sym (l .inv ∙ fed-begun isOver answerLine (record { state = l .session; line = l .line }) (drop (l .at) s) (seen s (c .before .before .before .gather .result)) (sym (c .before .before .before .before .before .is-over .ensures) ∙ c .before .before .before .before .if1 .left) (c .before .before .before .gather .ensures) (not-true _ (c .if2 .taken)))
 
 answer-requires : tie.Need-answer-requires Inv-loop μ-loop
 answer-requires c κs = search needs
@@ -61,13 +60,13 @@ loop-again c =
     let s = c .before .before .before .before .before .before .before .before .before .before .before .before .before .args .piece .now in
     let g = c .before .before .before .before .before .gather .result in
     l .inv
-    ∙ fed-line (record { state = l .session; line = l .line }) (drop (l .at) s) (seen s g) (sym (c .before .before .before .before .before .before .before .is-over .ensures) ∙ c .before .before .before .before .before .before .if1 .left) (c .before .before .before .before .before .gather .ensures) (not-false _ (c .before .before .if2 .left))
+    ∙ fed-line isOver answerLine (record { state = l .session; line = l .line }) (drop (l .at) s) (seen s g) (sym (c .before .before .before .before .before .before .before .is-over .ensures) ∙ c .before .before .before .before .before .before .if1 .left) (c .before .before .before .before .before .gather .ensures) (not-false _ (c .before .before .if2 .left))
     ∙ (λ i. fed isOver answerLine (record { state = sym (c .before .answer .ensures) i; line = sym (c .none .ensures) i }) (drop (g .next) s))
 
 returns-3 : tie.Need-returns-3 Inv-loop μ-loop
 returns-3 c =
     let l = c .before .loop in
-    sym (l .inv ∙ fed-at-end (record { state = l .session; line = l .line }) (c .before .before .before .before .before .args .piece .now) (l .at) (c .loop-test .left))
+    sym (l .inv ∙ fed-at-end isOver answerLine (record { state = l .session; line = l .line }) (c .before .before .before .before .before .args .piece .now) (l .at) (c .loop-test .left))
 
 pub feed-spec : {M : Type 1} → statement M
 feed-spec =

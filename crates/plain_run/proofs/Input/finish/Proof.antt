@@ -1,6 +1,6 @@
 use mathlib.Core.Path.{sym, _∙_}
-use Rattle.plain_run.specs.Session.{stateOf}
-use Rattle.plain_run.proofs.Sessions.{finished-over, finished-empty, finished-line}
+use Rattle.lines.proofs.Feeding.{finished-over, finished-empty, finished-line}
+use Rattle.plain_run.specs.Session.{answerLine, isOver, stateOf}
 use borrow.Author.Needs.{needs}
 use Rattle.plain_run.proofs.Input.finish.Statement.{statement}
 use Rattle.plain_run.proofs.Input.finish.Tie as tie
@@ -9,16 +9,16 @@ is-over-requires : tie.Need-is-over-requires
 is-over-requires c κs = search needs
 
 returns : tie.Need-returns
-returns c = finished-over (stateOf (c .before .before .before .before .args .self)) (sym (c .before .is-over .ensures) ∙ c .if1 .taken)
+returns c = finished-over isOver answerLine (stateOf (c .before .before .before .before .args .self)) (sym (c .before .is-over .ensures) ∙ c .if1 .taken)
 
 returns-2 : tie.Need-returns-2
-returns-2 c = finished-empty (stateOf (c .before .before .before .before .before .before .args .self)) (sym (c .before .before .before .is-over .ensures) ∙ c .before .before .if1 .left) (c .if2 .taken)
+returns-2 c = finished-empty isOver answerLine (stateOf (c .before .before .before .before .before .before .args .self)) (sym (c .before .before .before .is-over .ensures) ∙ c .before .before .if1 .left) (c .if2 .taken)
 
 answer-requires : tie.Need-answer-requires
 answer-requires c κs = search needs
 
 returns-3 : tie.Need-returns-3
-returns-3 c = c .answer .ensures ∙ finished-line (stateOf (c .before .before .before .before .before .before .before .args .self)) (sym (c .before .before .before .before .is-over .ensures) ∙ c .before .before .before .if1 .left) (c .before .if2 .left)
+returns-3 c = c .answer .ensures ∙ finished-line isOver answerLine (stateOf (c .before .before .before .before .before .before .before .args .self)) (sym (c .before .before .before .before .is-over .ensures) ∙ c .before .before .before .if1 .left) (c .before .if2 .left)
 
 pub finish-spec : {M : Type 1} → statement M
 finish-spec = tie.close (tie.spec is-over-requires returns returns-2 answer-requires returns-3)
