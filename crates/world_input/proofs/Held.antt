@@ -1,0 +1,36 @@
+-- What a gathered line asks for, by its reading.
+use Prim.Native.Nat.{ℕ, _≤_, _<_}
+use native.Mathlib.Omega.{arith}
+use mathlib.Core.List.{List, [], _∷_}
+use mathlib.Core.Logic.{_⊎_, inl, inr}
+use mathlib.Core.Path.{_≡_, refl, sym, _∙_, ap}
+use borrow.Author.Tests.{le-ltb, lt-ltb}
+use denote.Enum.Declared.{tagOf}
+use types.Run.{OneOf}
+use Rattle.entry.specs.Refusal.{unreadable}
+use Rattle.lines.specs.declared.Line.{Line}
+use Rattle.lines.specs.Line.{bytesOf}
+use Rattle.lines.specs.Lines.{longest}
+use Rattle.world_text.specs.declared.Reading.{Reading}
+use Rattle.world_text.specs.declared.Reading.the-variants.{Read, Outside, Unreadable}
+use Rattle.world_text.specs.Step.{reading}
+use Rattle.world_text.proofs.Reading.{the-type as reading-type}
+use Rattle.world_input.specs.Orders.{orderTo, refusing}
+use Rattle.world_input.specs.State.{heldOrder}
+
+module _ (line : Line) where
+  pub held-long : longest < line .length → refusing unreadable ≡ heldOrder line
+  unfolding heldOrder
+  held-long h = rw (lt-ltb longest (line .length) h)
+
+  pub held-short : line .length ≤ longest → (r : Reading) → reading (bytesOf line) ≡ r → orderTo r ≡ heldOrder line
+  unfolding heldOrder
+  held-short h r e = rw (le-ltb longest (line .length) h) (ap orderTo (sym e))
+
+-- a reading that is neither `Outside` nor `Read`
+pub neither : (r : Reading) → OneOf (0 ∷ 2 ∷ []) (tagOf reading-type r) → OneOf (1 ∷ 2 ∷ []) (tagOf reading-type r) → r ≡ Unreadable
+neither (Read e) a (inl b) = absurd (let z : ⊥ = omega arith in z)
+neither (Read e) a (inr b) = absurd (let z : ⊥ = omega arith in z)
+neither Outside (inl a) b = absurd (let z : ⊥ = omega arith in z)
+neither Outside (inr a) b = absurd (let z : ⊥ = omega arith in z)
+neither Unreadable a b = refl

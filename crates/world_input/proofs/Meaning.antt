@@ -1,0 +1,71 @@
+-- However the input is cut into pieces, what the reader finds is what the input asks for.
+use Prim.Native.Nat.{ℕ, suc, _≤_, _<_, _+_}
+use native.Mathlib.Omega.{arith}
+use native.Mathlib.Decide.{decLt}
+use mathlib.Core.Bool.{Bool, true, false, cond}
+use mathlib.Core.List.{List, [], _∷_, _++_, append-assoc, append-nil}
+use mathlib.Core.Path.{_≡_, refl, sym, _∙_, ap}
+use lib.Dec.{leb, ltb}
+use lib.ListN.{length, length-append, take}
+use borrow.Author.Tests.{le-leb, le-ltb, lt-leb, lt-ltb, leb-true, leb-false}
+use Rattle.entry.specs.Refusal.{noPlace}
+use Rattle.lines.specs.declared.Line.{Line}
+use Rattle.lines.specs.Feed.{Fed, fed, fedLines, finished, fresh}
+use Rattle.lines.specs.Line.{bytesOf}
+use Rattle.lines.specs.Lines.{lines, longest, most}
+use Rattle.lines.proofs.Feeding.{all-is-joined, fedAll, joined}
+use Rattle.lines.proofs.Stream.{Holds, stream-is-lines}
+use Rattle.world_text.specs.Step.{reading}
+use Rattle.cluster.specs.declared.Order.{Order}
+use Rattle.world_input.specs.Orders.{orderOf, orderTo, ordersFrom, ordersOf, refusing}
+use Rattle.world_input.specs.State.{heldOrder, orderAt, over, withLine}
+
+-- a gathered line asks for what its bytes ask for
+held-is-line : (line : Line) (b : List ℕ) → Holds line b → heldOrder line ≡ orderOf b
+unfolding heldOrder orderOf
+held-is-line line b h = elim (decLt longest (length b)) [
+  | yes k ↦ rw (lt-ltb longest (length b) k, lt-ltb longest (line .length) (omega (arith, h .long k)))
+  | no k ↦
+      let n : line .length ≡ length b = h .count (omega arith) in
+      let e : bytesOf line ≡ b = ap (λ (m : ℕ). take m (line .bytes)) n ∙ h .bytes (omega arith) in
+      rw (le-ltb longest (length b) (omega arith), le-ltb longest (line .length) (omega arith)) (ap (λ (s : List ℕ). orderTo (reading s)) e)
+]
+
+abbrev withBytes : List Order → List ℕ → List Order
+withBytes os b = os ++ cond (leb most (length os)) (refusing noPlace) (orderOf b) ∷ []
+
+meets : (os : List Order) (line : Line) (b : List ℕ) → Holds line b → withLine os line ≡ withBytes os b
+meets os line b h = ap (λ (o : Order). os ++ cond (leb most (length os)) (refusing noPlace) o ∷ []) (held-is-line line b h)
+
+lines-over : (os : List Order) (ls : List (List ℕ)) → over os ≡ true → fedLines over withBytes os ls ≡ os
+unfolding fedLines
+lines-over os [] h = refl
+lines-over os (l ∷ ls) h = rw h
+
+lines-ask : (os : List Order) (ls : List (List ℕ)) → length os ≤ most → fedLines over withBytes os ls ≡ os ++ ordersFrom (length os) ls
+unfolding fedLines ordersFrom
+lines-ask os [] h = sym (append-nil os)
+lines-ask os (l ∷ ls) h = rw (le-ltb most (length os) h) (go (leb most (length os)) refl (lines-ask (os ++ orderOf l ∷ []) ls))
+  where
+    longer : (o : Order) → length (os ++ o ∷ []) ≡ suc (length os)
+    longer o = length-append os (o ∷ []) ∙ omega arith
+
+    go : (b : Bool) → leb most (length os) ≡ b
+        → (length (os ++ orderOf l ∷ []) ≤ most → fedLines over withBytes (os ++ orderOf l ∷ []) ls ≡ (os ++ orderOf l ∷ []) ++ ordersFrom (length (os ++ orderOf l ∷ [])) ls)
+        → fedLines over withBytes (os ++ cond b (refusing noPlace) (orderOf l) ∷ []) ls ≡ os ++ cond b (refusing noPlace ∷ []) (orderOf l ∷ ordersFrom (suc (length os)) ls)
+    go true k ih =
+        let m : most ≤ length os = leb-true most (length os) k in
+        lines-over (os ++ refusing noPlace ∷ []) ls (lt-ltb most (length (os ++ refusing noPlace ∷ [])) (omega (arith, longer (refusing noPlace))))
+    go false k ih =
+        let m : length os < most = leb-false most (length os) k in
+        ih (omega (arith, longer (orderOf l)))
+        ∙ append-assoc os (orderOf l ∷ []) (ordersFrom (length (os ++ orderOf l ∷ [])) ls)
+        ∙ ap (λ (n : ℕ). os ++ (orderOf l ∷ ordersFrom n ls)) (longer (orderOf l))
+
+-- Fed the bytes of an input, the reader ends with what the input asks for.
+pub fed-is-orders : (input : List ℕ) → finished over withLine (fed over withLine (fresh []) input) ≡ ordersOf input
+fed-is-orders input = stream-is-lines over withLine withBytes meets [] input ∙ lines-ask [] (lines input) (omega arith)
+
+-- However the input was cut into pieces, the reader ends the same.
+pub pieces-are-orders : (pieces : List (List ℕ)) → finished over withLine (fedAll over withLine (fresh []) pieces) ≡ ordersOf (joined pieces)
+pieces-are-orders pieces = ap (finished over withLine) (all-is-joined over withLine (fresh []) pieces) ∙ fed-is-orders (joined pieces)

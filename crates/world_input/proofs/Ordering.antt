@@ -1,0 +1,37 @@
+-- The orders of an input as a list.
+use Prim.Native.Nat.{ℕ, _≤_, _<_, _+_}
+use native.Mathlib.Omega.{arith}
+use native.Mathlib.Numerals.{add-one}
+use mathlib.Core.Bool.{true, false}
+use mathlib.Core.List.{List, [], _∷_, _++_}
+use mathlib.Core.Path.{_≡_, refl, sym, _∙_, ap}
+use lib.ListN.{length, length-take, set, take}
+use lib.Seq.{length-take-le, take-suc-set}
+use borrow.Author.Tests.{le-leb, le-ltb, lt-leb, lt-ltb}
+use Rattle.entry.specs.Refusal.{noPlace}
+use Rattle.lines.specs.declared.Line.{Line}
+use Rattle.lines.specs.Lines.{most}
+use Rattle.cluster.specs.declared.Order.{Order}
+use Rattle.world_input.specs.declared.Orders.{Orders}
+use Rattle.world_input.specs.Orders.{refusing}
+use Rattle.world_input.specs.State.{heldOrder, orderAt, ordersIn, over, withLine}
+
+module _ (n : ℕ) (line : Line) where
+  pub order-last : most ≤ n → refusing noPlace ≡ orderAt n line
+  order-last h = rw (le-leb most n h)
+
+  pub order-usual : n < most → heldOrder line ≡ orderAt n line
+  order-usual h = rw (lt-leb most n h)
+
+module _ (o : Orders) (room : length (o .orders) ≡ 1001) where
+  pub over-last : most < o .count → over (ordersIn o) ≡ true
+  over-last h = lt-ltb most (length (ordersIn o)) (omega (arith, length-take (o .count) (o .orders)))
+
+  pub over-not : o .count ≤ most → over (ordersIn o) ≡ false
+  over-not h = le-ltb most (length (ordersIn o)) (omega (arith, length-take (o .count) (o .orders)))
+
+  pub with-line : (line : Line) → o .count ≤ most → withLine (ordersIn o) line ≡ take (o .count + 1) (set (o .orders) (o .count) (orderAt (o .count) line))
+  with-line line h =
+      ap (λ (n : ℕ). ordersIn o ++ orderAt n line ∷ []) (length-take-le (o .count) (o .orders) (omega arith))
+      ∙ sym (take-suc-set (o .orders) (o .count) (orderAt (o .count) line) (omega arith))
+      ∙ ap (λ (n : ℕ). take n (set (o .orders) (o .count) (orderAt (o .count) line))) (sym (add-one (o .count)))

@@ -1,0 +1,36 @@
+-- What the lines of an input ask for: a step each, or an answer to what is none.
+use Prim.Native.Nat.{ℕ, suc}
+use mathlib.Core.Bool.{cond}
+use mathlib.Core.List.{List, [], _∷_}
+use lib.Dec.{leb, ltb}
+use lib.ListN.{length}
+use Rattle.entry.specs.Refusal.{accepted, noPlace, outsideLimits, unreadable}
+use Rattle.steps.specs.declared.Step.the-variants.{Setup}
+use Rattle.lines.specs.Lines.{lines, longest, most}
+use Rattle.world_text.specs.declared.Reading.{Reading}
+use Rattle.world_text.specs.declared.Reading.the-variants.{Read, Outside, Unreadable}
+use Rattle.world_text.specs.Step.{reading}
+use Rattle.cluster.specs.declared.Order.{Order}
+
+-- it is answered n, and the world stays as it was
+abbrev pub refusing : ℕ → Order
+refusing n = record { refused = n; step = Setup 0 }
+
+abbrev pub orderTo : Reading → Order
+orderTo (Read s) = record { refused = accepted; step = s }
+orderTo Outside = refusing outsideLimits
+orderTo Unreadable = refusing unreadable
+
+-- "a line that does not read as a step of this program, or is over 100 bytes without its LF" is answered 1, one with a number that no byte
+-- holds 2; every other asks for its step
+unfoldable pub orderOf : List ℕ → Order
+orderOf line = cond (ltb longest (length line)) (refusing unreadable) (orderTo (reading line))
+
+-- "line 1,001, good or bad, is answered 6 and ends the reading": what lines ask for, behind n others
+unfoldable pub ordersFrom : ℕ → List (List ℕ) → List Order
+ordersFrom n [] = []
+ordersFrom n (l ∷ ls) = cond (leb most n) (refusing noPlace ∷ []) (orderOf l ∷ ordersFrom (suc n) ls)
+
+-- what an input asks for
+abbrev pub ordersOf : List ℕ → List Order
+ordersOf input = ordersFrom 0 (lines input)
