@@ -29,3 +29,7 @@ pub noted-sound : (a : Answers) (n : ℕ) → Sound a → a .count ≤ most → 
 unfolding noted
 noted-sound a n h k =
     rw (le-ltb most (a .count) k) (record { room = length-set (a .answers) (a .count) n ∙ h .room; count = omega arith })
+
+pub noted-count : (a : Answers) (n : ℕ) → a .count ≤ most → noted a n .count ≡ a .count + 1
+unfolding noted
+noted-count a n k = rw (le-ltb most (a .count) k)

@@ -1,0 +1,71 @@
+-- The world of an input is that of its steps, and demand 3 holds for them.
+use Prim.Native.Nat.{ℕ, suc, _≤_, _<_, _+_, _-_}
+use native.Mathlib.Omega.{arith}
+use mathlib.Core.Bool.{Bool, true, false, cond}
+use mathlib.Core.List.{List, [], _∷_, _++_}
+use mathlib.Core.Path.{_≡_, refl, sym, _∙_, ap, subst}
+use lib.Dec.{leb, ltb}
+use lib.ListN.{length, take}
+use borrow.Author.Tests.{leb-false, leb-true}
+use Rattle.agreement.specs.Claim.{Claim}
+use Rattle.agreement.specs.History.{history}
+use Rattle.agreement.proofs.Theorem.{demand-3}
+use Rattle.cluster.specs.declared.Order.{Order}
+use Rattle.cluster.specs.Orders.{worldAfter}
+use Rattle.entry.specs.Refusal.{noPlace, unreadable}
+use Rattle.lines.specs.Lines.{lines, longest, most}
+use Rattle.protocol.specs.declared.World.{World}
+use Rattle.protocol.specs.Step.{run, stepOf}
+use Rattle.protocol.specs.World.{freshWorld}
+use Rattle.steps.specs.declared.Step.{Step}
+use Rattle.world_text.specs.declared.Reading.{Reading}
+use Rattle.world_text.specs.declared.Reading.the-variants.{Read, Outside, Unreadable}
+use Rattle.world_text.specs.Step.{reading}
+use Rattle.world_input.specs.Orders.{orderOf, orderTo, ordersFrom, ordersOf, refusing}
+use Rattle.world_run.specs.Program.{worldFor}
+use Rattle.world_run.specs.Steps.{stepIn, stepOfLine, stepsIn, stepsOf}
+
+-- the world after a line's order is that after its step, if it has one
+line-runs : (w : World) (l : List ℕ) (os : List Order) (ss : List Step) → ((v : World) → worldAfter v os ≡ run v ss) → worldAfter w (orderOf l ∷ os) ≡ run w (stepOfLine l ++ ss)
+unfolding orderOf worldAfter run
+line-runs w l os ss later = go (ltb longest (length l)) (reading l)
+  where
+    go : (b : Bool) (r : Reading) → worldAfter w (cond b (refusing unreadable) (orderTo r) ∷ os) ≡ run w (cond b [] (stepIn r) ++ ss)
+    go true r = later w
+    go false (Read s) = later (stepOf w s .world)
+    go false Outside = later w
+    go false Unreadable = later w
+
+no-lines : (k : ℕ) (w : World) → worldAfter w [] ≡ run w (stepsIn (take k []))
+unfolding worldAfter run stepsIn
+no-lines ℕ.zero w = refl
+no-lines (suc k) w = refl
+
+line-1001 : (w : World) (k : ℕ) (ls : List (List ℕ)) → k ≡ 0 → worldAfter w (refusing noPlace ∷ []) ≡ run w (stepsIn (take k ls))
+unfolding worldAfter run stepsIn
+line-1001 w k ls e = rw e
+
+first-steps : (k j : ℕ) (l : List ℕ) (ls : List (List ℕ)) → k ≡ suc j → stepOfLine l ++ stepsIn (take j ls) ≡ stepsIn (take k (l ∷ ls))
+unfolding stepsIn
+first-steps k j l ls e = rw e
+
+lines-run : (ls : List (List ℕ)) (n : ℕ) (w : World) → worldAfter w (ordersFrom n ls) ≡ run w (stepsIn (take (most - n) ls))
+unfolding ordersFrom
+lines-run [] n w = no-lines (most - n) w
+lines-run (l ∷ ls) n w = go (leb most n) refl (lines-run ls (suc n))
+  where
+    go : (b : Bool) → leb most n ≡ b → ((v : World) → worldAfter v (ordersFrom (suc n) ls) ≡ run v (stepsIn (take (most - suc n) ls)))
+        → worldAfter w (cond b (refusing noPlace ∷ []) (orderOf l ∷ ordersFrom (suc n) ls)) ≡ run w (stepsIn (take (most - n) (l ∷ ls)))
+    go true k later = let m : most ≤ n = leb-true most n k in line-1001 w (most - n) (l ∷ ls) (omega arith)
+    go false k later =
+        let m : n < most = leb-false most n k in
+        line-runs w l (ordersFrom (suc n) ls) (stepsIn (take (most - suc n) ls)) later
+        ∙ ap (run w) (first-steps (most - n) (most - suc n) l ls (omega arith))
+
+-- The world of an input is the fresh world after the input's steps.
+pub input-runs : (input : List ℕ) → worldFor input ≡ run freshWorld (stepsOf input)
+input-runs input = lines-run (lines input) 0 freshWorld
+
+-- Demand 3 holds of the world of an input, for the input's steps.
+pub input-agrees : (input : List ℕ) → Claim (stepsOf input) (history (stepsOf input)) (worldFor input)
+input-agrees input = subst (Claim (stepsOf input) (history (stepsOf input))) (sym (input-runs input)) (demand-3 (stepsOf input))

@@ -1,0 +1,47 @@
+-- What the functions under `main` keep, and what they promise of it.
+use Prim.Native.Nat.{ℕ, _+_}
+use mathlib.Core.List.{List, [], _∷_}
+use mathlib.Core.Path.{_≡_}
+use lib.ListN.{drop, length, take}
+use Rattle.agreement.specs.Claim.{Claim}
+use Rattle.agreement.specs.History.{history}
+use Rattle.cluster.specs.declared.Block.{Block}
+use Rattle.cluster.specs.declared.Order.{Order}
+use Rattle.cluster.specs.Orders.{answersTo, blockOrders, ordersOf as Block·ordersOf, worldAfter}
+use Rattle.lines.specs.declared.Answers.{Answers}
+use Rattle.lines.specs.Answers.{answersOf, noted}
+use Rattle.protocol.specs.World.{freshWorld}
+use Rattle.report.specs.Within.{longestAnswers}
+use Rattle.world_report.specs.Longest.{longestWorld}
+use Rattle.world_run.specs.declared.Session.{Session}
+use Rattle.world_run.specs.Program.{answersFor, printed, worldFor}
+use Rattle.world_run.specs.Steps.{stepsOf}
+
+-- the session after these orders
+pub record Ran (os : List Order) (s : Session) : Type 0 where
+  pub world : s .world ≡ worldAfter freshWorld os
+  pub answers : answersOf (s .answers) ≡ answersTo freshWorld os
+
+-- the session of a whole input, for which demand 3 holds
+pub record Agreed (input : List ℕ) (s : Session) : Type 0 where
+  pub world : s .world ≡ worldFor input
+  pub answers : answersOf (s .answers) ≡ answersFor input
+  pub demand-3 : Claim (stepsOf input) (history (stepsOf input)) (s .world)
+
+-- a block of the orders from a place on
+pub record BlockAt (os : List Order) (at : ℕ) (b : Block) : Type 0 where
+  pub orders : Block·ordersOf b ≡ take blockOrders (drop at os)
+  pub count : b .count ≡ length (take blockOrders (drop at os))
+
+-- the answers with more
+abbrev pub notedAll : Answers → List ℕ → Answers
+notedAll a [] = a
+notedAll a (n ∷ ns) = notedAll (noted a n) ns
+
+-- what a session prints
+abbrev pub output : Session → List ℕ
+output s = printed (answersOf (s .answers)) (s .world)
+
+-- all that any session prints has room in so many bytes
+abbrev pub room : ℕ
+room = longestAnswers + longestWorld

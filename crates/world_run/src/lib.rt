@@ -1,0 +1,68 @@
+// The program `world` from the bytes that it reads to the bytes that it prints.
+ghost use Prim.Native.Nat.{min};
+ghost use mathlib.Core.Path.{_≡_};
+ghost use lib.ListN.{take};
+ghost use Rattle.report.specs.Within.{Within};
+ghost use Rattle.world_input.specs.State.{ordersIn};
+ghost use Rattle.world_run.specs.Ran.{Agreed, BlockAt, Ran, notedAll, output, room};
+use cluster::Block;
+use lines::Answers;
+use protocol::World;
+use world_input::Orders;
+
+// The world, and the answers to the lines.
+pub struct Session {
+    pub world: World,
+    pub answers: Answers,
+}
+
+// The orders from a place on, as many as a block has.
+fn block_at(orders: Orders, at: u16) -> Block
+    ensures { λ r. ⌜ BlockAt (ordersIn orders) at r ⌝ }
+{
+    let first = orders.orders[0];
+    let mut block = Block {
+        orders: [first; 32],
+        count: 0,
+    };
+    let mut i = at;
+    while block.count < 32 {
+        if 1001 <= i {
+            return block;
+        }
+        if orders.count <= i {
+            return block;
+        }
+        let n = block.count;
+        let order = orders.orders[i as usize];
+        block.orders[n as usize] = order;
+        block.count = n + 1;
+        i += 1;
+    }
+    block
+}
+
+// The first of these answers noted, so many of them.
+fn note_all(mut answers: Answers, more: [u8; 32], count: u8) -> Answers
+    ensures { λ r. ⌜ r ≡ notedAll answers (take count more) ⌝ }
+{
+    let mut i: u8 = 0;
+    while i < count {
+        if 32 <= i {
+            return answers;
+        }
+        answers = answers.noted(more[i as usize]);
+        i += 1;
+    }
+    answers
+}
+
+// What a session prints, put into a buffer.
+pub fn put_output(out: &mut [u8], session: Session) -> usize
+    ensures { λ r. ⌜ Within room (now (out .entry)) 0 (output session) (now (out .exit)) r ⌝ }
+{
+    let answers = session.answers;
+    let world = session.world;
+    let at = report::put_answers(out, 0, answers);
+    world_report::put_world(out, at, world)
+}
