@@ -7,9 +7,10 @@ use mathlib.Core.List.{List, [], _∷_, _++_, append-assoc, append-nil}
 use mathlib.Core.Path.{_≡_, refl, sym, _∙_, ap, subst}
 use lib.ListN.{drop, drop-of-length-le, getD, length, length-append, length-set, length-take, replicate, set, take, take-append-drop}
 use lib.Seq.{drop-cons, drop-drop, getD-take, length-take-le, take-append-seam, take-suc-set, sets, sets-eq}
+use Rattle.cluster.specs.declared.Advanced.{Advanced}
 use Rattle.cluster.specs.declared.Block.{Block}
 use Rattle.cluster.specs.declared.Order.{Order}
-use Rattle.cluster.specs.Orders.{answersTo, blockOrders, ordered, ordersOf as Block·ordersOf, worldAfter}
+use Rattle.cluster.specs.Orders.{advanced, answersTo, blockOrders, ordered, ordersOf as Block·ordersOf, worldAfter}
 use Rattle.lines.specs.declared.Answers.{Answers}
 use Rattle.lines.specs.Answers.{answersOf, noAnswers, noted}
 use Rattle.lines.specs.Lines.{most}
@@ -130,7 +131,7 @@ told : (vs : List ℕ) (n : ℕ) → n ≡ length vs → length vs ≤ blockOrde
 told vs n e h =
     (λ i. take (e i) (sets-eq vs (replicate blockOrders 0) 0 (omega arith) i)) ∙ take-append-seam vs (drop (0 + length vs) (replicate blockOrders 0))
 
-pub going-more : (os : List Order) (at : ℕ) (w : World) (a : Answers) (b : Block) → length os ≤ most + 1 → BlockAt os at b → Going os at w a
+going-more : (os : List Order) (at : ℕ) (w : World) (a : Answers) (b : Block) → length os ≤ most + 1 → BlockAt os at b → Going os at w a
     → Going os (at + blockOrders) (worldAfter w (Block·ordersOf b)) (notedAll a (take (b .count) (sets (replicate blockOrders 0) 0 (answersTo w (Block·ordersOf b)))))
 going-more os at w a b short block g =
     let xs = Block·ordersOf b in
@@ -152,6 +153,13 @@ going-more os at w a b short block g =
           ∙ ap (λ (r : List ℕ). answersOf a ++ r) (sym (ap (answersTo w) split ∙ answers-parts w xs ys))
           ∙ g .answers;
     })
+
+pub going-next : (os : List Order) (at : ℕ) (w : World) (a : Answers) (b : Block) (after : Advanced) (all : Answers) → length os ≤ most + 1 → BlockAt os at b
+    → after ≡ advanced w b → all ≡ notedAll a (take (b .count) (after .answers)) → Going os at w a → Going os (at + blockOrders) (after .world) all
+unfolding advanced
+going-next os at w a b after all short block e n g =
+    subst (λ (x : Answers). Going os (at + blockOrders) (after .world) x) (sym n)
+    (subst (λ (x : Advanced). Going os (at + blockOrders) (x .world) (notedAll a (take (b .count) (x .answers)))) (sym e) (going-more os at w a b short block g))
 
 pub going-end : (os : List Order) (at : ℕ) (w : World) (a : Answers) → length os ≤ at → Going os at w a → Ran os (record { world = w; answers = a })
 unfolding worldAfter answersTo

@@ -11,7 +11,7 @@ use Rattle.agreement.specs.Claim.{Claim}
 use Rattle.agreement.specs.History.{history}
 use Rattle.agreement.proofs.Theorem.{demand-3}
 use Rattle.cluster.specs.declared.Order.{Order}
-use Rattle.cluster.specs.Orders.{worldAfter}
+use Rattle.cluster.specs.Orders.{answersTo, worldAfter}
 use Rattle.entry.specs.Refusal.{noPlace, unreadable}
 use Rattle.lines.specs.Lines.{lines, longest, most}
 use Rattle.protocol.specs.declared.World.{World}
@@ -22,7 +22,9 @@ use Rattle.world_text.specs.declared.Reading.{Reading}
 use Rattle.world_text.specs.declared.Reading.the-variants.{Read, Outside, Unreadable}
 use Rattle.world_text.specs.Step.{reading}
 use Rattle.world_input.specs.Orders.{orderOf, orderTo, ordersFrom, ordersOf, refusing}
-use Rattle.world_run.specs.Program.{worldFor}
+use Rattle.world_run.specs.declared.Session.{Session}
+use Rattle.world_run.specs.Program.{printed, world, worldFor}
+use Rattle.world_run.specs.Ran.{Agreed, Ran, output}
 use Rattle.world_run.specs.Steps.{stepIn, stepOfLine, stepsIn, stepsOf}
 
 -- the world after a line's order is that after its step, if it has one
@@ -69,3 +71,18 @@ input-runs input = lines-run (lines input) 0 freshWorld
 -- Demand 3 holds of the world of an input, for the input's steps.
 pub input-agrees : (input : List ℕ) → Claim (stepsOf input) (history (stepsOf input)) (worldFor input)
 input-agrees input = subst (Claim (stepsOf input) (history (stepsOf input))) (sym (input-runs input)) (demand-3 (stepsOf input))
+
+-- A session after what an input asks for is the input's.
+pub ran-agrees : (input : List ℕ) (os : List Order) (s : Session) → os ≡ ordersOf input → Ran os s → Agreed input s
+ran-agrees input os s e r =
+    let w : s .world ≡ worldFor input = r .world ∙ ap (worldAfter freshWorld) e in
+    record {
+      world = w;
+      answers = r .answers ∙ ap (answersTo freshWorld) e;
+      demand-3 = subst (Claim (stepsOf input) (history (stepsOf input))) (sym w) (input-agrees input);
+    }
+
+-- What is printed of it is what `world` writes.
+pub agreed-prints : (input : List ℕ) (s : Session) → Agreed input s → output s ≡ world input
+unfolding world
+agreed-prints input s a = λ i. printed (a .answers i) (a .world i)

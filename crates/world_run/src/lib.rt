@@ -6,8 +6,11 @@ ghost use Rattle.report.specs.Within.{Within};
 ghost use Rattle.world_input.specs.State.{ordersIn};
 ghost use Rattle.world_run.specs.Ran.{Agreed, BlockAt, Ran, notedAll, output, room};
 use cluster::Block;
+use cluster::advance::advance;
+use cluster::fresh::fresh_world;
 use lines::Answers;
 use protocol::World;
+use world_input::Input;
 use world_input::Orders;
 
 // The world, and the answers to the lines.
@@ -55,6 +58,47 @@ fn note_all(mut answers: Answers, more: [u8; 32], count: u8) -> Answers
         i += 1;
     }
     answers
+}
+
+fn at_most(count: u16) -> u16
+    ensures { λ r. ⌜ r ≡ min count 1001 ⌝ }
+{
+    if count < 1001 {
+        return count;
+    }
+    1001
+}
+
+// The fresh world after these orders.
+pub fn run(orders: Orders) -> Session
+    ensures { λ r. ⌜ Ran (ordersIn orders) r ⌝ }
+{
+    let count = at_most(orders.count);
+    let mut world = fresh_world();
+    let mut answers = Answers::none();
+    let mut at: u16 = 0;
+    while at < count {
+        let block = block_at(orders, at);
+        let after = advance(world, block);
+        world = after.world;
+        let more = after.answers;
+        answers = note_all(answers, more, block.count);
+        at += 32;
+    }
+    Session {
+        world: world,
+        answers: answers,
+    }
+}
+
+// The session of a whole input.
+pub fn run_input(input: &[u8]) -> Session
+    ensures { λ r. ⌜ Agreed (now (input .entry)) r ⌝ }
+{
+    let fresh = Input::fresh();
+    let fed = fresh.feed(input);
+    let orders = fed.finish();
+    run(orders)
 }
 
 // What a session prints, put into a buffer.
