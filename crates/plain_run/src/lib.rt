@@ -2,7 +2,8 @@
 ghost use mathlib.Core.Path.{_≡_};
 ghost use Rattle.lines.specs.Feed.{fed, finished, fresh};
 ghost use Rattle.plain_run.specs.Session.{answerLine, enterHeld, freshSession, isOver, output, stateOf};
-ghost use Rattle.plain_run.specs.Printed.{Printed};
+ghost use Rattle.plain_run.specs.Printed.{room};
+ghost use Rattle.report.specs.Printed.{Printed};
 use commit_log::Entered;
 use commit_log::Log;
 use entry::refusal::NO_PLACE;
@@ -159,7 +160,7 @@ impl Input {
 
 // What a session prints, put into a buffer.
 pub fn put_output(out: &mut [u8], session: Session) -> usize
-    ensures { λ r. ⌜ Printed (now (out .entry)) (output session) (now (out .exit)) r ⌝ }
+    ensures { λ r. ⌜ Printed room (now (out .entry)) (output session) (now (out .exit)) r ⌝ }
 {
     let answers = session.answers;
     let log = session.log;

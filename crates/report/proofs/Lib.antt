@@ -1,2 +1,3 @@
 pub mod Lengths
 pub mod Texts
+pub mod PrintedLaws

@@ -2,7 +2,7 @@
 ghost use Prim.Native.Nat.{min};
 ghost use mathlib.Core.Path.{_≡_};
 ghost use lib.ListN.{take};
-ghost use Rattle.report.specs.Within.{Within};
+ghost use Rattle.report.specs.Printed.{Printed};
 ghost use Rattle.world_input.specs.State.{ordersIn};
 ghost use Rattle.world_run.specs.Ran.{Agreed, BlockAt, Ran, notedAll, output, room};
 use cluster::Block;
@@ -103,7 +103,7 @@ pub fn run_input(input: &[u8]) -> Session
 
 // What a session prints, put into a buffer.
 pub fn put_output(out: &mut [u8], session: Session) -> usize
-    ensures { λ r. ⌜ Within room (now (out .entry)) 0 (output session) (now (out .exit)) r ⌝ }
+    ensures { λ r. ⌜ Printed room (now (out .entry)) (output session) (now (out .exit)) r ⌝ }
 {
     let answers = session.answers;
     let world = session.world;

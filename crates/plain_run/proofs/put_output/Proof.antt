@@ -1,5 +1,5 @@
 use Rattle.report.proofs.Lengths.{within-more}
-use Rattle.plain_run.proofs.Sessions.{printed-whole}
+use Rattle.report.proofs.PrintedLaws.{printed-whole}
 use borrow.Author.Needs.{needs}
 use Rattle.plain_run.proofs.put_output.Statement.{statement}
 use Rattle.plain_run.proofs.put_output.Tie as tie
@@ -14,7 +14,7 @@ same-length : tie.Need-same-length
 same-length c = search needs
 
 returns : tie.Need-returns
-returns c = printed-whole _ _ _ _ (within-more (c .before .before .before .before .before .before .put-answers .ensures) (c .before .before .put-log .ensures))
+returns c = printed-whole _ _ _ _ _ (within-more (c .before .before .before .before .before .before .put-answers .ensures) (c .before .before .put-log .ensures))
 
 pub put-output-spec : {M : Type 1} → statement M
 put-output-spec = tie.close (tie.spec put-answers-requires put-log-requires same-length returns)

@@ -1,5 +1,6 @@
 use Rattle.report.proofs.Lengths.{within-more}
 use borrow.Author.Needs.{needs}
+use Rattle.report.proofs.PrintedLaws.{printed-whole}
 use Rattle.world_run.proofs.put_output.Statement.{statement}
 use Rattle.world_run.proofs.put_output.Tie as tie
 
@@ -13,7 +14,7 @@ same-length : tie.Need-same-length
 same-length c = search needs
 
 returns : tie.Need-returns
-returns c = within-more (c .before .before .before .before .before .before .put-answers .ensures) (c .before .before .put-world .ensures)
+returns c = printed-whole _ _ _ _ _ (within-more (c .before .before .before .before .before .before .put-answers .ensures) (c .before .before .put-world .ensures))
 
 pub put-output-spec : {M : Type 1} → statement M
 put-output-spec = tie.close (tie.spec put-answers-requires put-world-requires same-length returns)
