@@ -4,7 +4,6 @@ ghost use Prim.Native.Nat.{min};
 
 pub(crate) const BATCH_ENTRIES: u8 = 4;
 
-pub(crate) const QUEUE_PLACES: u8 = 8;
 // The acceptors that a set has a bit for.
 pub(crate) const SET_PLACES: u8 = 8;
 

@@ -4,9 +4,10 @@ ghost use Rattle.protocol.specs.Queue.{firstBatch, isFull, isIn, leftBy, queued
 ghost use Rattle.coordinator.specs.Join.{joining};
 use crate::fresh::no_entry;
 use crate::limits::BATCH_ENTRIES;
-use crate::limits::QUEUE_PLACES;
 use crate::limits::least;
 use entry::Entry;
+use lent_queue::QUEUE_PLACES;
+use lent_queue::is_among_first;
 use protocol::Batch;
 use protocol::Queue;
 
@@ -14,16 +15,8 @@ use protocol::Queue;
 pub fn is_queued(queue: Queue, e: Entry) -> bool
     ensures { λ r. ⌜ r ≡ isIn e (queued queue) ⌝ }
 {
-    let count = least(queue.count, QUEUE_PLACES);
-    let mut i: u8 = 0;
-    while i < count {
-        let f = queue.entries[i as usize];
-        if e.same(f) {
-            return true;
-        }
-        i += 1;
-    }
-    false
+    let entries = queue.entries;
+    is_among_first(entries, queue.count, e)
 }
 
 pub fn is_full(queue: Queue) -> bool

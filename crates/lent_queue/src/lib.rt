@@ -1,0 +1,41 @@
+// Document 01's queue, lent as a row of entries, at most eight.
+ghost use mathlib.Core.Path.{_≡_};
+ghost use Prim.Native.Nat.{_≤_};
+ghost use lib.ListN.{take};
+ghost use Rattle.protocol.specs.Limits.{queuePlaces};
+ghost use Rattle.protocol.specs.Queue.{isIn};
+use entry::Entry;
+
+pub const QUEUE_PLACES: u8 = 8;
+
+// Whether an equal entry stands in a lent row.
+pub fn is_among(entries: &[Entry], e: Entry) -> bool
+    ensures { λ r. ⌜ r ≡ isIn e (now (entries .entry)) ⌝ }
+{
+    let mut i: usize = 0;
+    while i < entries.len() {
+        if e.same(entries[i]) {
+            return true;
+        }
+        i += 1;
+    }
+    false
+}
+
+// Lends the first n entries of a row by value.
+fn lend(entries: [Entry; 8], n: usize, e: Entry) -> bool
+    requires { ⌜ n ≤ queuePlaces ⌝ }
+    ensures { λ r. ⌜ r ≡ isIn e (take n entries) ⌝ }
+{
+    is_among(&entries[..n], e)
+}
+
+// Whether an equal entry is among the first `count`; all are meant where there are not so many.
+pub fn is_among_first(entries: [Entry; 8], count: u8, e: Entry) -> bool
+    ensures { λ r. ⌜ r ≡ isIn e (take count entries) ⌝ }
+{
+    if QUEUE_PLACES <= count {
+        return lend(entries, QUEUE_PLACES as usize, e);
+    }
+    lend(entries, count as usize, e)
+}
