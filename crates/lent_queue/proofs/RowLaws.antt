@@ -1,25 +1,37 @@
--- What the next entry of a row decides of the rest of it.
-use Prim.Native.Nat.{ℕ, _+_, _<_, _≤_}
-use mathlib.Core.Bool.{false, true}
-use mathlib.Core.List.{List}
-use mathlib.Core.Path.{_≡_, refl}
-use native.Mathlib.Numerals.{add-one}
-use lib.ListN.{drop, drop-of-length-le, getD, length}
-use lib.Seq.{drop-cons}
+-- What the last of the first entries of a row decides.
+use Prim.Native.Nat.{ℕ, suc, _<_}
+use mathlib.Core.Bool.{Bool, false, true, _||_}
+use mathlib.Core.List.{List, [], _∷_, _++_}
+use mathlib.Core.Path.{_≡_, refl, _∙_, ap}
+use lib.ListN.{getD, length, take}
+use lib.Seq.{take-suc}
 use Rattle.entry.specs.declared.Entry.{Entry}
 use Rattle.entry.specs.Entry.{sameEntry}
 use Rattle.protocol.specs.Batch.{noEntry}
 use Rattle.protocol.specs.Queue.{isIn}
 
-module _ (e : Entry) (es : List Entry) (i : ℕ) where
-  pub hit : i < length es → sameEntry e (getD es i noEntry) ≡ true → isIn e (drop i es) ≡ true
-  unfolding isIn
-  hit h k = rw (drop-cons es i noEntry h, k)
+or-true : (b : Bool) → (b || true) ≡ true
+or-true true = refl
+or-true false = refl
 
-  pub miss : i < length es → sameEntry e (getD es i noEntry) ≡ false → isIn e (drop i es) ≡ isIn e (drop (i + 1) es)
+module _ (e f : Entry) where
+  last-equal : sameEntry e f ≡ true → (es : List Entry) → isIn e (es ++ (f ∷ [])) ≡ true
   unfolding isIn
-  miss h k = rw (drop-cons es i noEntry h, k, add-one)
+  last-equal k [] = rw k
+  last-equal k (x ∷ es) = ap (λ (b : Bool). sameEntry e x || b) (last-equal k es) ∙ or-true (sameEntry e x)
 
-  pub past : length es ≤ i → isIn e (drop i es) ≡ false
+  last-differs : sameEntry e f ≡ false → (es : List Entry) → isIn e (es ++ (f ∷ [])) ≡ isIn e es
   unfolding isIn
-  past h = rw (drop-of-length-le es {i = i} h)
+  last-differs k [] = rw k
+  last-differs k (x ∷ es) = ap (λ (b : Bool). sameEntry e x || b) (last-differs k es)
+
+module _ (e : Entry) (es : List Entry) (i : ℕ) (h : i < length es) where
+  pub hit : sameEntry e (getD es i noEntry) ≡ true → isIn e (take (suc i) es) ≡ true
+  hit k = ap (isIn e) (take-suc es i noEntry h) ∙ last-equal e (getD es i noEntry) k (take i es)
+
+  pub miss : sameEntry e (getD es i noEntry) ≡ false → isIn e (take (suc i) es) ≡ isIn e (take i es)
+  miss k = ap (isIn e) (take-suc es i noEntry h) ∙ last-differs e (getD es i noEntry) k (take i es)
+
+pub none : (e : Entry) (es : List Entry) → isIn e (take 0 es) ≡ false
+unfolding isIn
+none e es = refl

@@ -6,23 +6,24 @@ ghost use Rattle.protocol.specs.Limits.{queuePlaces};
 ghost use Rattle.protocol.specs.Queue.{isIn};
 use entry::Entry;
 
+// `queuePlaces` of protocol has the same number for the contracts.
 pub const QUEUE_PLACES: u8 = 8;
 
-// Whether an equal entry stands in a lent row.
+// Whether an equal entry is in a lent row.
 pub fn is_among(entries: &[Entry], e: Entry) -> bool
     ensures { λ r. ⌜ r ≡ isIn e (now (entries .entry)) ⌝ }
 {
-    let mut i: usize = 0;
-    while i < entries.len() {
+    let mut i = entries.len();
+    while 0 < i {
+        i -= 1;
         if e.same(entries[i]) {
             return true;
         }
-        i += 1;
     }
     false
 }
 
-// Lends the first n entries of a row by value.
+// Lends the first n entries.
 fn lend(entries: [Entry; 8], n: usize, e: Entry) -> bool
     requires { ⌜ n ≤ queuePlaces ⌝ }
     ensures { λ r. ⌜ r ≡ isIn e (take n entries) ⌝ }
@@ -30,7 +31,7 @@ fn lend(entries: [Entry; 8], n: usize, e: Entry) -> bool
     is_among(&entries[..n], e)
 }
 
-// Whether an equal entry is among the first `count`; all are meant where there are not so many.
+// Whether an equal entry is among the first `count`, or among all if there are fewer. Its parameters are plain: a caller lends nothing.
 pub fn is_among_first(entries: [Entry; 8], count: u8, e: Entry) -> bool
     ensures { λ r. ⌜ r ≡ isIn e (take count entries) ⌝ }
 {

@@ -1,10 +1,8 @@
-use mathlib.Core.List.{List}
 use mathlib.Core.Path.{_≡_, _∙_, sym, ap}
 use native.Mathlib.Omega.{arith}
 use borrow.Author.Needs.{needs}
 use lib.ListN.{length}
 use lib.Seq.{take-all}
-use Rattle.entry.specs.declared.Entry.{Entry}
 use Rattle.protocol.specs.Limits.{queuePlaces}
 use Rattle.protocol.specs.Queue.{isIn}
 use Rattle.lent_queue.proofs.is_among_first.Statement.{statement}
