@@ -179,7 +179,7 @@ module _ {M : Type 1} (𝓤 : URA M) (H : Heap 𝓤) (A : Atoms 𝓤) (W : Given
         rewrite ! 0 (λ (k : ℕ). ‵ (fat fullShare word l₃ 0 (vint w64 k))) (one-less i) refl $
         assigns ! (bin ! (load ! (from ! (stop !)) (look ! 0 refl)) (lit ! tt) (record { fits = omega (arith, g .1) })) (from ! (stop !)) (init ! 3 refl (tt, record { fits = omega (arith, g .1) })) $
         assigns ! (bin ! (load ! (from ! (fld ! refl (stop !))) (look-in ! 6 (sub ! 0 refl (whole !)))) (load ! (from ! (stop !)) (look ! 3 refl)) tt) (from ! (stop !)) (init ! 4 refl (tt, tt)) $
-        rewrite ! 4 (λ (p : ℕ). ‵ (fat fullShare tyPtr l₇ 0 (vptr b p))) (sym (place-is 12 o i)) refl $
+        rewrite ! 4 (λ (p : ℕ). ‵ (fat fullShare tyPtr l₇ 0 (vptr b p))) (sym (place-is _ o i)) refl $
         move ! (10 ∷ 9 ∷ []) $
         looks-slice ! tt R (Is R) (shows 𝓤 H A R) vals tells (copies 𝓤 H A W) ys b o (λ q′. elem-out ! R (Is R) (shows 𝓤 H A R) vals tells q′ ys i noEntry b o l (λ gi.
         -- [q[i]; what it owns; the others; what shuts; the fractured borrow; _3; _4; _5; _6; _7; _8; _1; _2; _0; …]
