@@ -1,6 +1,6 @@
 -- The answer to an entry, by the tests that lead to it.
 use Prim.Native.Nat.{ℕ}
-use mathlib.Core.Bool.{Bool, cond, false, false≢true, true, true≢false}
+use mathlib.Core.Bool.{Bool, cond, false, false≢true, true, true≢false, _||_}
 use mathlib.Core.Path.{_≡_, ap, refl, sym, _∙_}
 use native.Mathlib.Omega.{arith}
 use borrow.Author.Tests.{eq-eqb, ne-eqb}
@@ -34,18 +34,13 @@ module _ (l : Log) (e : Entry) (take : e .take ≡ true) where
   take-outside h = rw (take-checked l e take, h)
 
   module _ (inside : outside e ≡ false) where
-    pub take-holds : holdsAny (l .holders) (e .process) ≡ true → holdsOrHeld ≡ refusalOf l e
+    pub take-holds-or-held : (holdsAny (l .holders) (e .process) || heldBefore l (e .process) (e .store)) ≡ true → holdsOrHeld ≡ refusalOf l e
     unfolding firstRefusal
-    take-holds h = rw (take-checked l e take, inside, h)
+    take-holds-or-held h = rw (take-checked l e take, inside, h)
 
-    module _ (free : holdsAny (l .holders) (e .process) ≡ false) where
-      pub take-held : heldBefore l (e .process) (e .store) ≡ true → holdsOrHeld ≡ refusalOf l e
-      unfolding firstRefusal
-      take-held h = rw (take-checked l e take, inside, free, h)
-
-      pub take-accepted : heldBefore l (e .process) (e .store) ≡ false → accepted ≡ refusalOf l e
-      unfolding firstRefusal
-      take-accepted h = rw (take-checked l e take, inside, free, h)
+    pub take-accepted : (holdsAny (l .holders) (e .process) || heldBefore l (e .process) (e .store)) ≡ false → accepted ≡ refusalOf l e
+    unfolding firstRefusal
+    take-accepted h = rw (take-checked l e take, inside, h)
 
 module _ (r : Row) (holder : ℕ) (e : Entry) where
   pub vote-outside : outside e ≡ true → outsideLimits ≡ voteRefusal r holder e

@@ -67,14 +67,7 @@ impl Log {
             };
         }
         let store = e.store as usize;
-        row.votes[store] = Vote {
-            kept: true,
-            commit: e.commit,
-            participants: e.participants,
-            process: e.process,
-            by: e.by,
-            update: e.update,
-        };
+        row.votes[store] = Vote::of(e);
         Entered {
             log: self.voted(e.tx, row),
             answer: ACCEPTED,

@@ -1,7 +1,9 @@
 // The groups of committed transactions.
 ghost use mathlib.Core.Path.{_≡_};
 ghost use mathlib.Core.Bool.{cond};
-ghost use Prim.Native.Nat.{_<_};
+ghost use Prim.Native.Nat.{_-_, _<_};
+ghost use lib.Dec.{eqb};
+ghost use lib.ListN.{getD};
 ghost use Rattle.entry.specs.Limits.{transactions};
 ghost use Rattle.commit_log.specs.Group.{committing, nextGroup, remembered, runningSet};
 use crate::Log;
@@ -14,6 +16,20 @@ fn digit(b: bool) -> u32
     ensures { λ r. ⌜ r ≡ cond b 1 0 ⌝ }
 {
     if b { 1 } else { 0 }
+}
+
+// What the group remembers, of what all groups remember.
+pub fn remembered_in(all: [u32; TRANSACTION_PLACES], g: u8) -> u32
+    ensures { λ r. ⌜ r ≡ cond (eqb g 0) 0 (getD all (g - 1) 0) ⌝ }
+{
+    if g == 0 {
+        return 0;
+    }
+    if TRANSACTIONS < g {
+        return 0;
+    }
+    let i = g - 1;
+    all[i as usize]
 }
 
 impl Log {
@@ -35,14 +51,8 @@ impl Log {
     pub fn remembered_by(self, g: u8) -> u32
         ensures { λ r. ⌜ r ≡ remembered self g ⌝ }
     {
-        if g == 0 {
-            return 0;
-        }
-        if TRANSACTIONS < g {
-            return 0;
-        }
-        let i = g - 1;
-        self.remembered[i as usize]
+        let all = self.remembered;
+        remembered_in(all, g)
     }
 
     // The number of a new group.

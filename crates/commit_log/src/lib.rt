@@ -5,10 +5,10 @@ use entry::limits::STORE_PLACES;
 use entry::limits::TRANSACTION_PLACES;
 
 pub mod enter;
-mod group;
+pub mod group;
 mod outcomes;
 pub mod query;
-mod refusal;
+pub mod refusal;
 pub mod replays;
 mod votes;
 

@@ -1,5 +1,7 @@
 // Why an entry is refused.
 ghost use mathlib.Core.Path.{_≡_};
+ghost use mathlib.Core.Bool.{_||_};
+ghost use Rattle.entry.specs.Bits.{has};
 ghost use Rattle.entry.specs.Entry.{takeEntry};
 ghost use Rattle.commit_log.specs.Enter.{refusalOf};
 ghost use Rattle.commit_log.specs.Refusal.{anyClash, holdsAny, voteRefusal};
@@ -51,21 +53,21 @@ impl Row {
     }
 }
 
-impl Log {
-    // Whether the process holds some store.
-    pub fn holds_any(self, process: u8) -> bool
-        ensures { λ r. ⌜ r ≡ holdsAny (self .holders) process ⌝ }
-    {
-        let mut i: usize = 0;
-        while i < STORE_PLACES {
-            if self.holders[i] == process {
-                return true;
-            }
-            i += 1;
+// Whether the process holds some store, or held the one that the processes `past` took.
+pub fn holds_or_held(holders: [u8; STORE_PLACES], past: u16, process: u8) -> bool
+    ensures { λ r. ⌜ r ≡ (holdsAny holders process || has past process) ⌝ }
+{
+    let mut i: usize = 0;
+    while i < STORE_PLACES {
+        if holders[i] == process {
+            return true;
         }
-        false
+        i += 1;
     }
+    sets::has16(past, process)
+}
 
+impl Log {
     // The answer to a take.
     pub fn take_refusal(self, process: u8, store: u8) -> u8
         ensures { λ r. ⌜ r ≡ refusalOf self (takeEntry process store) ⌝ }
@@ -74,11 +76,9 @@ impl Log {
         if e.outside() {
             return refusal::OUTSIDE_LIMITS;
         }
-        if self.holds_any(process) {
-            return refusal::HOLDS_OR_HELD;
-        }
         let s = store as usize;
-        if sets::has16(self.past[s], process) {
+        let holders = self.holders;
+        if holds_or_held(holders, self.past[s], process) {
             return refusal::HOLDS_OR_HELD;
         }
         refusal::ACCEPTED

@@ -2,6 +2,7 @@
 ghost use mathlib.Core.Path.{_≡_};
 ghost use mathlib.Core.Bool.{_&&_, _||_, not};
 ghost use Rattle.entry.specs.Bits.{has};
+ghost use Rattle.commit_log.specs.Log.{voteOfEntry};
 ghost use Rattle.commit_log.specs.Outcome.{isAbort, isCommit};
 ghost use Rattle.commit_log.specs.Refusal.{clashes};
 use crate::Vote;
@@ -9,6 +10,20 @@ use entry::Entry;
 use entry::sets;
 
 impl Vote {
+    // What is kept of a vote: all it said.
+    pub fn of(e: Entry) -> Vote
+        ensures { λ r. ⌜ r ≡ voteOfEntry e ⌝ }
+    {
+        Vote {
+            kept: true,
+            commit: e.commit,
+            participants: e.participants,
+            process: e.process,
+            by: e.by,
+            update: e.update,
+        }
+    }
+
     pub fn is_commit(self) -> bool
         ensures { λ r. ⌜ r ≡ (self .kept && self .commit) ⌝ }
     {

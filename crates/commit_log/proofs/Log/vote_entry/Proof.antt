@@ -2,12 +2,15 @@ use borrow.Author.Needs.{needs}
 use mathlib.Core.Path.{_≡_, ap, sym, _∙_}
 use native.Mathlib.Omega.{arith}
 use mathlib.Core.Bool.{false}
+use lib.ListN.{set}
 use Prim.Native.Nat.{ℕ, _<_}
 use Rattle.entry.specs.Entry.{outside}
 use Rattle.entry.specs.Refusal.{accepted}
 use Rattle.entry.proofs.InsideLaws.{inside-store, inside-vote}
 use Rattle.commit_log.specs.declared.Log.{Log}
-use Rattle.commit_log.specs.Enter.{answered, refusalOf}
+use Rattle.commit_log.specs.declared.Vote.{Vote}
+use Rattle.commit_log.specs.Enter.{answered, refusalOf, voted}
+use Rattle.commit_log.specs.Log.{rowOf}
 use Rattle.commit_log.proofs.EnterLaws.{refused-with, vote-entered}
 use Rattle.commit_log.proofs.RefusalLaws.{outside-refused, vote-checked}
 use Rattle.commit_log.proofs.Log.vote_entry.Statement.{statement}
@@ -50,17 +53,26 @@ returns-2 c = let a = c .before .before .before .before .before .before .before 
 cast-store : tie.Need-cast-store
 cast-store c = search needs
 
+of-requires : tie.Need-of-requires
+of-requires c κs = search needs
+
 mul-t11 : tie.Need-mul-t11
 mul-t11 c = search needs
 
 element-set-from-row : tie.Need-element-set-from-row
-element-set-from-row c = inside-store (c .before .before .before .before .before .before .before .before .before .args .e) (inside (c .before .before .before .before .before .before .before))
+element-set-from-row c = inside-store (c .before .before .before .before .before .before .before .before .before .before .args .e) (inside (c .before .before .before .before .before .before .before .before))
 
 voted-requires : tie.Need-voted-requires
-voted-requires c κs = inside-vote (c .before .before .before .before .before .before .before .before .before .args .e) (inside (c .before .before .before .before .before .before .before)) (c .before .before .before .before .before .before .before .before .before .pre) .tx
+voted-requires c κs = inside-vote (c .before .before .before .before .before .before .before .before .before .before .args .e) (inside (c .before .before .before .before .before .before .before .before)) (c .before .before .before .before .before .before .before .before .before .before .pre) .tx
 
 returns-3 : tie.Need-returns-3
-returns-3 c = let a = c .before .before .before .before .before .before .before .before .before .before .args in ap (λ (m : Log). answered m accepted) (c .voted .ensures) ∙ vote-entered (a .t1) (a .e) (c .before .before .before .before .before .before .before .before .before .before .pre) (sym (asked (c .before .before .before)) ∙ c .before .before .if2 .left)
+returns-3 c =
+    let s = c .before .before .before .before .before .before .before .before .before .before .before in
+    let l = s .args .t1 in
+    let e = s .args .e in
+    ap (λ (m : Log). answered m accepted) (c .voted .ensures)
+    ∙ ap (λ (v : Vote). answered (voted l (e .tx) (record { votes = set (rowOf l (e .tx) .votes) (e .store) v; group = rowOf l (e .tx) .group })) accepted) (c .before .of .ensures)
+    ∙ vote-entered l e (s .pre) (sym (asked (c .before .before .before .before)) ∙ c .before .before .before .if2 .left)
 
 pub vote-entry-spec : {M : Type 1} → statement M
 vote-entry-spec =
@@ -76,6 +88,7 @@ vote-entry-spec =
     vote-refusal-requires
     returns-2
     cast-store
+    of-requires
     mul-t11
     element-set-from-row
     voted-requires
