@@ -1,6 +1,8 @@
 // The commit log, document 01's plain log: it keeps the stores' votes, and decides.
 ghost use mathlib.Core.Path.{_≡_};
-ghost use Rattle.commit_log.specs.Log.{emptyLog};
+ghost use lib.ListN.{replicate};
+ghost use Rattle.entry.specs.Limits.{stores};
+ghost use Rattle.commit_log.specs.Log.{emptyLog, noVote};
 use entry::limits::STORE_PLACES;
 use entry::limits::TRANSACTION_PLACES;
 
@@ -72,9 +74,10 @@ pub struct Replay {
     pub rows: [Replayed; TRANSACTION_PLACES],
 }
 
-impl Log {
-    pub fn empty() -> Log
-        ensures { λ r. ⌜ r ≡ emptyLog ⌝ }
+impl Row {
+    // The row without votes.
+    pub fn none() -> Row
+        ensures { λ r. ⌜ r ≡ record { votes = replicate stores noVote; group = 0 } ⌝ }
     {
         let vote = Vote {
             kept: false,
@@ -84,10 +87,18 @@ impl Log {
             by: 0,
             update: 0,
         };
-        let row = Row {
+        Row {
             votes: [vote; STORE_PLACES],
             group: 0,
-        };
+        }
+    }
+}
+
+impl Log {
+    pub fn empty() -> Log
+        ensures { λ r. ⌜ r ≡ emptyLog ⌝ }
+    {
+        let row = Row::none();
         Log {
             rows: [row; TRANSACTION_PLACES],
             holders: [0; STORE_PLACES],

@@ -1,11 +1,13 @@
-use mathlib.Core.Path.{refl}
-use Rattle.commit_log.specs.Log.{emptyLog}
+use borrow.Author.Needs.{needs}
+use Rattle.commit_log.proofs.EmptyLaws.{rows-without-votes}
 use Rattle.commit_log.proofs.Log.empty.Statement.{statement}
 use Rattle.commit_log.proofs.Log.empty.Tie as tie
 
+none-requires : tie.Need-none-requires
+none-requires c κs = search needs
+
 returns : tie.Need-returns
-unfolding emptyLog
-returns c = refl
+returns c = rows-without-votes (c .none .result) (c .none .ensures)
 
 pub empty-spec : {M : Type 1} → statement M
-empty-spec = tie.close (tie.spec returns)
+empty-spec = tie.close (tie.spec none-requires returns)
