@@ -48,18 +48,18 @@ one-shifted : (width p : ℕ) → p < width → 1 * 2 ^ p % 2 ^ width ≡ 2 ^ p
 one-shifted width p h = rw (one-mul (2 ^ p)) (mod-eq-of-lt (pow-lt h))
 
 -- the log after an accepted take, its new past holder a shifted one
-pub take-stored : (l : Log) (p s : ℕ) → p < 16 → refusalOf l (takeEntry p s) ≡ accepted
+pub take-stored : (l : Log) (e : Entry) → e .take ≡ true → e .process < 16 → refusalOf l e ≡ accepted
     → answered
     (record {
       rows = l .rows;
-      holders = set (l .holders) s p;
-      past = set (l .past) s (bitOr (getD (l .past) s 0) (1 * 2 ^ p % 65536));
+      holders = set (l .holders) (e .store) (e .process);
+      past = set (l .past) (e .store) (bitOr (getD (l .past) (e .store) 0) (1 * 2 ^ e .process % 65536));
       groups = l .groups;
       remembered = l .remembered;
     })
     accepted
-    ≡ enter l (takeEntry p s)
-take-stored l p s h k = rw (one-shifted 16 p h) (take-entered l (takeEntry p s) refl k)
+    ≡ enter l e
+take-stored l e take h k = rw (one-shifted 16 (e .process) h) (take-entered l e take k)
 
 -- a vote that commits its transaction, and one that does not
 module _ (l : Log) (tx : ℕ) (r : Row) where

@@ -2,13 +2,14 @@
 use Prim.Native.Nat.{ℕ}
 use mathlib.Core.Bool.{Bool, cond, false, true, _&&_}
 use mathlib.Core.List.{List}
-use mathlib.Core.Path.{_≡_}
+use mathlib.Core.Path.{_≡_, ap, sym, _∙_}
 use native.Mathlib.Omega.{arith}
 use lib.Dec.{eqb}
 use lib.ListN.{getD, length}
 use Rattle.entry.specs.declared.Entry.{Entry}
+use Rattle.entry.specs.Entry.{outside}
 use Rattle.entry.specs.Refusal.{accepted, unreadable as unreadableNumber}
-use Rattle.records.proofs.ReadingLaws.{entry-read, refusal-read}
+use Rattle.records.proofs.ReadingLaws.{entry-read, passed-read, refusal-read}
 use Rattle.records.specs.Numbers.{readNumbers}
 use Rattle.records.specs.Record.{entryIn, numbersIn, readRecord, recordSize, zeroAt}
 use Rattle.records.specs.declared.Numbers.{Numbers}
@@ -27,6 +28,12 @@ module _ (bytes : List ℕ) where
   pub record-entry : {e : Entry} → readRecord bytes ≡ Of e → entryIn bytes ≡ e
   unfolding readRecord
   record-entry h = entry-read (numbersIn bytes) (tested-entry (numbersIn bytes) (eqb (length bytes) recordSize && eqb (getD bytes zeroAt 0) 0) h)
+
+  pub record-inside : {e : Entry} → readRecord bytes ≡ Of e → outside e ≡ false
+  unfolding readRecord
+  record-inside h =
+      ap (λ (f : Entry). outside f) (sym (record-entry h))
+      ∙ passed-read (numbersIn bytes) (tested-entry (numbersIn bytes) (eqb (length bytes) recordSize && eqb (getD bytes zeroAt 0) 0) h) .1
 
   pub record-refusal : {k : ℕ} → readRecord bytes ≡ Refused k → k ≡ accepted → ⊥
   unfolding readRecord

@@ -26,6 +26,13 @@ module _ (l : Log) {r : Reading} where
   unfolding enterReading
   refused h = rw h
 
+-- a refusal is no entry, and has one number
+pub not-refused : {e : Entry} {n k : ℕ} → Of e ≡ Refused n → k ≡ n
+not-refused {e} {n} {k} h = cc
+
+pub refused-once : {n k : ℕ} → Refused k ≡ Refused n → k ≡ n
+refused-once {n} {k} h = cc
+
 module _ (l : Log) (bytes : List ℕ) (count : ℕ) where
   pub count-beyond : length bytes / recordSize < count → answered l outsideLimits ≡ logAfterLent l bytes count
   unfolding logAfterLent

@@ -1,50 +1,108 @@
 // The log behind lent records.
 ghost use mathlib.Core.Path.{_≡_};
-ghost use Rattle.release_log.specs.Behind.{enterReading, logAfterLent};
+ghost use Prim.Native.Nat.{ℕ};
+ghost use lib.ListN.{replicate};
+ghost use Rattle.entry.specs.Limits.{stores};
+ghost use Rattle.commit_log.specs.Enter.{answered};
+ghost use Rattle.commit_log.specs.Log.{noVote};
+ghost use Rattle.records.specs.declared.Reading.the-variants.{Refused};
+ghost use Rattle.release_log.specs.Behind.{logBehind};
 use commit_log::Entered;
 use commit_log::Log;
+use commit_log::Row;
+use commit_log::Vote;
+use commit_log::group::remembered_in;
+use commit_log::refusal::holds_or_held;
+use entry::limits::STORE_PLACES;
+use entry::limits::TRANSACTION_PLACES;
 use entry::refusal::ACCEPTED;
+use entry::refusal::HOLDS_OR_HELD;
 use entry::refusal::OUTSIDE_LIMITS;
+use entry::sets;
 use records::RECORD_SIZE;
 use records::Reading;
 
-// The log after what was read, and the answer.
-pub(crate) fn enter_reading(log: Log, reading: Reading) -> Entered
-    ensures { λ r. ⌜ r ≡ enterReading log reading ⌝ }
+fn answered(log: Log, answer: u8) -> Entered
+    ensures { λ r. ⌜ r ≡ answered log answer ⌝ }
 {
-    match reading {
-        Reading::Of(e) => log.enter(e),
-        Reading::Refused(answer) => Entered {
-            log: log,
-            answer: answer,
-        },
+    Entered {
+        log: log,
+        answer: answer,
     }
 }
 
-// The log after the lent records, or the first refusal found.
-pub(crate) fn log_after_lent(mut log: Log, lent: &[u8], count: usize) -> Entered
-    ensures { λ r. ⌜ r ≡ logAfterLent log (now (lent .entry)) count ⌝ }
+// The number of a refusal that was read.
+fn refusal_in(reading: Reading) -> u8
+    ensures { λ r. ⌜ ((n : ℕ) → reading ≡ Refused n → r ≡ n) ⌝ }
 {
+    match reading {
+        Reading::Of(e) => ACCEPTED,
+        Reading::Refused(answer) => answer,
+    }
+}
+
+// The log behind the lent records, or the first refusal found. All is stored in place, so that no record copies the log; and the row without
+// votes is a parameter, so that the compiler copies it as one piece.
+pub(crate) fn log_behind(none: Row, lent: &[u8], count: usize) -> Entered
+    requires { ⌜ none ≡ record { votes = replicate stores noVote; group = 0 } ⌝ }
+    ensures { λ r. ⌜ r ≡ logBehind (now (lent .entry)) count ⌝ }
+{
+    let mut log = Log {
+        rows: [none; TRANSACTION_PLACES],
+        holders: [0; STORE_PLACES],
+        past: [0; STORE_PLACES],
+        groups: 0,
+        remembered: [0; TRANSACTION_PLACES],
+    };
     if lent.len() / RECORD_SIZE < count {
-        return Entered {
-            log: log,
-            answer: OUTSIDE_LIMITS,
-        };
+        return answered(log, OUTSIDE_LIMITS);
     }
     let mut at: usize = 0;
     let mut left = count;
     while 0 < left {
         let end = at + RECORD_SIZE;
-        let after = enter_reading(log, records::read(&lent[at..end]));
-        if after.answer != ACCEPTED {
-            return after;
-        }
-        log = after.log;
+        let reading = records::read(&lent[at..end]);
+        let Reading::Of(e) = reading else {
+            return answered(log, refusal_in(reading));
+        };
         at = end;
         left -= 1;
+        let store = e.store as usize;
+        if e.take {
+            let holders = log.holders;
+            if holds_or_held(holders, log.past[store], e.process) {
+                return answered(log, HOLDS_OR_HELD);
+            }
+            log.holders[store] = e.process;
+            log.past[store] = log.past[store] | (1u16 << e.process);
+            continue;
+        }
+        let tx = e.tx as usize;
+        let by = e.by as usize;
+        let mut row = log.rows[tx];
+        let answer = row.vote_refusal(log.holders[by], e);
+        if answer != ACCEPTED {
+            return answered(log, answer);
+        }
+        row.votes[store] = Vote::of(e);
+        if !row.outcome().is_commit() {
+            log.rows[tx] = row;
+            continue;
+        }
+        let groups = log.groups;
+        let remembered = log.remembered;
+        if sets::has32(remembered_in(remembered, groups), e.tx) {
+            row.group = groups;
+            log.rows[tx] = row;
+            continue;
+        }
+        let running = log.running_set();
+        let g = log.next_group();
+        row.group = g;
+        log.rows[tx] = row;
+        log.groups = g;
+        let i = g - 1;
+        log.remembered[i as usize] = running;
     }
-    Entered {
-        log: log,
-        answer: ACCEPTED,
-    }
+    answered(log, ACCEPTED)
 }

@@ -7,9 +7,10 @@ ghost use Rattle.records.specs.Record.{recordSize};
 ghost use Rattle.release_log.specs.Add.{addAnswer, addBytes};
 ghost use Rattle.release_log.specs.Parts.{entryAnswer, entryBytes};
 ghost use Rattle.release_log.specs.Query.{answerTo, bytesAfter, involvementQuery, outcomeQuery, replayQuery};
-use behind::log_after_lent;
+use behind::log_behind;
 use bytes::NO_PLACE;
 use commit_log::Log;
+use commit_log::Row;
 use entry::Entry;
 use entry::limits::STORES;
 use entry::limits::TRANSACTIONS;
@@ -59,7 +60,7 @@ pub extern "C" fn release_log_add(
     ensures { λ r. ⌜ r ≡ addAnswer (now (records .entry)) count (numbers kind process by store tx list say update) ⌝ }
     ensures { λ r. ⌜ now (records .exit) ≡ addBytes (now (records .entry)) count (numbers kind process by store tx list say update) ⌝ }
 {
-    let behind = log_after_lent(Log::empty(), &records[..], count);
+    let behind = log_behind(Row::none(), &records[..], count);
     if behind.answer != ACCEPTED {
         return behind.answer as u32;
     }
@@ -85,7 +86,7 @@ pub extern "C" fn release_log_outcome(records: &[u8], count: usize, tx: u32, out
     ensures { λ r. ⌜ r ≡ answerTo (outcomeQuery (now (records .entry)) count tx) (now (out .entry)) ⌝ }
     ensures { λ r. ⌜ now (out .exit) ≡ bytesAfter (outcomeQuery (now (records .entry)) count tx) (now (out .entry)) ⌝ }
 {
-    let behind = log_after_lent(Log::empty(), records, count);
+    let behind = log_behind(Row::none(), records, count);
     if behind.answer != ACCEPTED {
         return behind.answer as u32;
     }
@@ -107,7 +108,7 @@ pub extern "C" fn release_log_involvement(
     ensures { λ r. ⌜ r ≡ answerTo (involvementQuery (now (records .entry)) count tx store) (now (out .entry)) ⌝ }
     ensures { λ r. ⌜ now (out .exit) ≡ bytesAfter (involvementQuery (now (records .entry)) count tx store) (now (out .entry)) ⌝ }
 {
-    let behind = log_after_lent(Log::empty(), records, count);
+    let behind = log_behind(Row::none(), records, count);
     if behind.answer != ACCEPTED {
         return behind.answer as u32;
     }
@@ -131,7 +132,7 @@ pub extern "C" fn release_log_replay(
     ensures { λ r. ⌜ r ≡ answerTo (replayQuery (now (records .entry)) count store) (now (out .entry)) ⌝ }
     ensures { λ r. ⌜ now (out .exit) ≡ bytesAfter (replayQuery (now (records .entry)) count store) (now (out .entry)) ⌝ }
 {
-    let behind = log_after_lent(Log::empty(), records, count);
+    let behind = log_behind(Row::none(), records, count);
     if behind.answer != ACCEPTED {
         return behind.answer as u32;
     }

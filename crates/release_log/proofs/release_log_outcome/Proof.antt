@@ -13,16 +13,14 @@ use Rattle.release_log.proofs.release_log_outcome.Statement.{statement}
 use Rattle.release_log.proofs.release_log_outcome.Tie as tie
 
 -- the log behind the lent records
-behind : (c : tie.After-log-after-lent) → let a = c .before .before .before .before .args in c .log-after-lent .result ≡ logBehind (a .records .now) (a .count)
-behind c =
-    let a = c .before .before .before .before .args in
-    c .log-after-lent .ensures ∙ ap (λ (l : Log). logAfterLent l (a .records .now) (a .count)) (c .before .empty .ensures)
+behind : (c : tie.After-log-behind) → let a = c .before .before .before .before .args in c .log-behind .result ≡ logBehind (a .records .now) (a .count)
+behind c = c .log-behind .ensures
 
-empty-requires : tie.Need-empty-requires
-empty-requires c κs = search needs
+none-requires : tie.Need-none-requires
+none-requires c κs = search needs
 
-log-after-lent-requires : tie.Need-log-after-lent-requires
-log-after-lent-requires c κs = search needs
+log-behind-requires : tie.Need-log-behind-requires
+log-behind-requires c κs = c .none .ensures
 
 cast-result : tie.Need-cast-result
 cast-result c = search needs
@@ -74,8 +72,8 @@ pub release-log-outcome-spec : {M : Type 1} → statement M
 release-log-outcome-spec =
     tie.close
     (tie.spec
-    empty-requires
-    log-after-lent-requires
+    none-requires
+    log-behind-requires
     cast-result
     returns
     cast-if2

@@ -19,24 +19,22 @@ use Rattle.release_log.proofs.release_log_replay.Statement.{statement}
 use Rattle.release_log.proofs.release_log_replay.Tie as tie
 
 -- the log behind the lent records
-behind : (c : tie.After-log-after-lent) → let a = c .before .before .before .before .args in c .log-after-lent .result ≡ logBehind (a .records .now) (a .count)
-behind c =
-    let a = c .before .before .before .before .args in
-    c .log-after-lent .ensures ∙ ap (λ (l : Log). logAfterLent l (a .records .now) (a .count)) (c .before .empty .ensures)
+behind : (c : tie.After-log-behind) → let a = c .before .before .before .before .args in c .log-behind .result ≡ logBehind (a .records .now) (a .count)
+behind c = c .log-behind .ensures
 
 -- no more rows than transactions
-few : (c : tie.After-replay) → let t = c .before .before .before .before .before .log-after-lent .result in length (replayRows (t .log) (c .before .before .before .before .before .before .before .before .before .args .store)) ≤ transactions
+few : (c : tie.After-replay) → let t = c .before .before .before .before .before .log-behind .result in length (replayRows (t .log) (c .before .before .before .before .before .before .before .before .before .args .store)) ≤ transactions
 few c =
-    let t = c .before .before .before .before .before .log-after-lent in
+    let t = c .before .before .before .before .before .log-behind in
     let h = replay-length (t .result .log) (c .before .before .before .before .before .before .before .before .before .args .store) in
     let k = log-rows-length (t .result) _ (t .ok) in
     omega arith
 
-empty-requires : tie.Need-empty-requires
-empty-requires c κs = search needs
+none-requires : tie.Need-none-requires
+none-requires c κs = search needs
 
-log-after-lent-requires : tie.Need-log-after-lent-requires
-log-after-lent-requires c κs = search needs
+log-behind-requires : tie.Need-log-behind-requires
+log-behind-requires c κs = c .none .ensures
 
 cast-result : tie.Need-cast-result
 cast-result c = search needs
@@ -61,7 +59,7 @@ replay-requires c κs = search needs
 
 answer-rows-requires : tie.Need-answer-rows-requires
 answer-rows-requires c κs =
-    let t = c .before .before .before .before .before .log-after-lent .result in
+    let t = c .before .before .before .before .before .log-behind .result in
     let h = replay-count (t .log) (c .before .before .before .before .before .before .before .before .before .args .store) (c .replay .ensures) in
     let k = few c in
     omega arith
@@ -72,7 +70,7 @@ same-length c = search needs
 returns-3 : tie.Need-returns-3
 returns-3 c =
     let a = c .before .before .before .before .before .before .before .before .before .before .before .before .args in
-    let t = c .before .before .before .before .before .before .before .before .log-after-lent .result in
+    let t = c .before .before .before .before .before .before .before .before .log-behind .result in
     let log = behind (c .before .before .before .before .before .before .before .before) in
     value-placed
     _
@@ -89,8 +87,8 @@ pub release-log-replay-spec : {M : Type 1} → statement M
 release-log-replay-spec =
     tie.close
     (tie.spec
-    empty-requires
-    log-after-lent-requires
+    none-requires
+    log-behind-requires
     cast-result
     returns
     cast-if2

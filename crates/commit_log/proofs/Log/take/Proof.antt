@@ -50,7 +50,7 @@ element-write-self-2 : tie.Need-element-write-self-2
 element-write-self-2 c = inside (c .before) .0
 
 returns-2 : tie.Need-returns-2
-returns-2 c = let a = c .before .before .before .args in take-stored (a .t1) (a .process) (a .store) (inside (c .before) .1) (sym (c .before .before .take-refusal .ensures) ∙ c .before .if1 .left)
+returns-2 c = let a = c .before .before .before .args in take-stored (a .t1) (takeEntry (a .process) (a .store)) refl (inside (c .before) .1) (sym (c .before .before .take-refusal .ensures) ∙ c .before .if1 .left)
 
 pub take-spec : {M : Type 1} → statement M
 take-spec =
