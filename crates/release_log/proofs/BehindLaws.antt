@@ -1,7 +1,7 @@
 -- The log behind lent records, record by record.
 use Prim.Native.Nat.{ℕ, zero, suc, _+_, _-_, _*_, _/_, _<_, _≤_}
 use mathlib.Core.List.{List}
-use mathlib.Core.Path.{_≡_, refl}
+use mathlib.Core.Path.{_≡_, ap, refl}
 use native.Mathlib.Nat.{suc-sub-suc, sub-zero}
 use native.Mathlib.Omega.{arith}
 use borrow.Author.Tests.{eq-eqb, le-ltb, lt-ltb, ne-eqb}
@@ -25,6 +25,13 @@ module _ (l : Log) {r : Reading} where
   pub refused : {n : ℕ} → r ≡ Refused n → answered l n ≡ enterReading l r
   unfolding enterReading
   refused h = rw h
+
+-- a log and an answer are those of an `Entered`
+pub parts : {l : Log} {n : ℕ} {t : Entered} → answered l n ≡ t → (l ≡ t .log) × (n ≡ t .answer)
+parts h = (ap (λ (t : Entered). t .log) h, ap (λ (t : Entered). t .answer) h)
+
+pub whole-of : {l : Log} {n : ℕ} {t : Entered} → l ≡ t .log → n ≡ t .answer → answered l n ≡ t
+whole-of h k = λ i. record { log = h i; answer = k i }
 
 -- a refusal is no entry, and has one number
 pub not-refused : {e : Entry} {n k : ℕ} → Of e ≡ Refused n → k ≡ n

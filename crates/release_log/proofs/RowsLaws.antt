@@ -11,9 +11,7 @@ use denote.Struct.Declared.{row}
 use lib.ListN.{drop, drop-of-length-le, getD, length, length-map, length-replicate, length-take, replicate, set, take}
 use lib.Seq.{drop-cons, getD-take, sets, sets-eq, take-at}
 use Rattle.entry.specs.Limits.{transactions}
-use Rattle.commit_log.proofs.Entered.{the-type as entered-type}
 use Rattle.commit_log.proofs.Replay.{the-type as replay-type}
-use Rattle.commit_log.specs.declared.Entered.{Entered}
 use Rattle.commit_log.specs.declared.Log.{Log}
 use Rattle.commit_log.specs.declared.Replay.{Replay}
 use Rattle.commit_log.specs.declared.Replayed.{Replayed}
@@ -27,10 +25,6 @@ row-of r h = rw h
 
 pub rows-length : (r : Replay) (vs : List Val) → Is (row replay-type) r vs → length (r .rows) ≡ transactions
 rows-length r vs g = simp length-map at (g .1 .1 .1 .0 .1 .0 .1)
-
--- of a log that a call handed back
-pub log-rows-length : (t : Entered) (vs : List Val) → Is (row entered-type) t vs → length (t .log .rows) ≡ transactions
-log-rows-length t vs g = simp length-map at (g .1 .1 .0 .1 .1 .0 .1 .0 .1)
 
 pub rows-bytes-length : (rs : List Replayed) → length (rowsBytes rs) ≡ length rs * rowSize
 unfolding rowsBytes

@@ -3,11 +3,9 @@ ghost use mathlib.Core.Path.{_≡_};
 ghost use Prim.Native.Nat.{ℕ};
 ghost use lib.ListN.{replicate};
 ghost use Rattle.entry.specs.Limits.{stores};
-ghost use Rattle.commit_log.specs.Enter.{answered};
 ghost use Rattle.commit_log.specs.Log.{noVote};
 ghost use Rattle.records.specs.declared.Reading.the-variants.{Refused};
 ghost use Rattle.release_log.specs.Behind.{logBehind};
-use commit_log::Entered;
 use commit_log::Log;
 use commit_log::Row;
 use commit_log::Vote;
@@ -22,30 +20,22 @@ use entry::sets;
 use records::RECORD_SIZE;
 use records::Reading;
 
-fn answered(log: Log, answer: u8) -> Entered
-    ensures { λ r. ⌜ r ≡ answered log answer ⌝ }
-{
-    Entered {
-        log: log,
-        answer: answer,
-    }
-}
-
 // The number of a refusal that was read.
 fn refusal_in(reading: Reading) -> u8
     ensures { λ r. ⌜ ((n : ℕ) → reading ≡ Refused n → r ≡ n) ⌝ }
 {
     match reading {
         Reading::Of(e) => ACCEPTED,
-        Reading::Refused(answer) => answer,
+        Reading::Refused(n) => n,
     }
 }
 
-// The log behind the lent records, or the first refusal found. All is stored in place, so that no record copies the log; and the row without
-// votes is a parameter, so that the compiler copies it as one piece.
-pub(crate) fn log_behind(none: Row, lent: &[u8], count: usize) -> Entered
+// The log behind the lent records, and the answer: the first refusal found, or that all were accepted. All is stored in place, so that no
+// record copies the log; and the row without votes is a parameter, so that the compiler copies it as one piece.
+pub(crate) fn log_behind(none: Row, lent: &[u8], count: usize, answer: &mut u8) -> Log
     requires { ⌜ none ≡ record { votes = replicate stores noVote; group = 0 } ⌝ }
-    ensures { λ r. ⌜ r ≡ logBehind (now (lent .entry)) count ⌝ }
+    ensures { λ r. ⌜ r ≡ logBehind (now (lent .entry)) count .log ⌝ }
+    ensures { λ r. ⌜ now (answer .exit) ≡ logBehind (now (lent .entry)) count .answer ⌝ }
 {
     let mut log = Log {
         rows: [none; TRANSACTION_PLACES],
@@ -55,7 +45,8 @@ pub(crate) fn log_behind(none: Row, lent: &[u8], count: usize) -> Entered
         remembered: [0; TRANSACTION_PLACES],
     };
     if lent.len() / RECORD_SIZE < count {
-        return answered(log, OUTSIDE_LIMITS);
+        *answer = OUTSIDE_LIMITS;
+        return log;
     }
     let mut at: usize = 0;
     let mut left = count;
@@ -63,7 +54,8 @@ pub(crate) fn log_behind(none: Row, lent: &[u8], count: usize) -> Entered
         let end = at + RECORD_SIZE;
         let reading = records::read(&lent[at..end]);
         let Reading::Of(e) = reading else {
-            return answered(log, refusal_in(reading));
+            *answer = refusal_in(reading);
+            return log;
         };
         at = end;
         left -= 1;
@@ -71,7 +63,8 @@ pub(crate) fn log_behind(none: Row, lent: &[u8], count: usize) -> Entered
         if e.take {
             let holders = log.holders;
             if holds_or_held(holders, log.past[store], e.process) {
-                return answered(log, HOLDS_OR_HELD);
+                *answer = HOLDS_OR_HELD;
+                return log;
             }
             log.holders[store] = e.process;
             log.past[store] = log.past[store] | (1u16 << e.process);
@@ -80,9 +73,10 @@ pub(crate) fn log_behind(none: Row, lent: &[u8], count: usize) -> Entered
         let tx = e.tx as usize;
         let by = e.by as usize;
         let mut row = log.rows[tx];
-        let answer = row.vote_refusal(log.holders[by], e);
-        if answer != ACCEPTED {
-            return answered(log, answer);
+        let said = row.vote_refusal(log.holders[by], e);
+        if said != ACCEPTED {
+            *answer = said;
+            return log;
         }
         row.votes[store] = Vote::of(e);
         if !row.outcome().is_commit() {
@@ -104,5 +98,6 @@ pub(crate) fn log_behind(none: Row, lent: &[u8], count: usize) -> Entered
         let i = g - 1;
         log.remembered[i as usize] = running;
     }
-    answered(log, ACCEPTED)
+    *answer = ACCEPTED;
+    log
 }

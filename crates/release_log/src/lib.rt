@@ -60,9 +60,10 @@ pub extern "C" fn release_log_add(
     ensures { λ r. ⌜ r ≡ addAnswer (now (records .entry)) count (numbers kind process by store tx list say update) ⌝ }
     ensures { λ r. ⌜ now (records .exit) ≡ addBytes (now (records .entry)) count (numbers kind process by store tx list say update) ⌝ }
 {
-    let behind = log_behind(Row::none(), &records[..], count);
-    if behind.answer != ACCEPTED {
-        return behind.answer as u32;
+    let mut answer: u8 = ACCEPTED;
+    let log = log_behind(Row::none(), &records[..], count, &mut answer);
+    if answer != ACCEPTED {
+        return answer as u32;
     }
     let numbers = Numbers {
         kind: kind,
@@ -75,8 +76,8 @@ pub extern "C" fn release_log_add(
         update: update,
     };
     match numbers.read() {
-        Reading::Refused(answer) => answer as u32,
-        Reading::Of(e) => add_entry(records, count, behind.log, e),
+        Reading::Refused(n) => n as u32,
+        Reading::Of(e) => add_entry(records, count, log, e),
     }
 }
 
@@ -86,14 +87,17 @@ pub extern "C" fn release_log_outcome(records: &[u8], count: usize, tx: u32, out
     ensures { λ r. ⌜ r ≡ answerTo (outcomeQuery (now (records .entry)) count tx) (now (out .entry)) ⌝ }
     ensures { λ r. ⌜ now (out .exit) ≡ bytesAfter (outcomeQuery (now (records .entry)) count tx) (now (out .entry)) ⌝ }
 {
-    let behind = log_behind(Row::none(), records, count);
-    if behind.answer != ACCEPTED {
-        return behind.answer as u32;
+    let mut answer: u8 = ACCEPTED;
+    let log = log_behind(Row::none(), records, count, &mut answer);
+    if answer != ACCEPTED {
+        return answer as u32;
     }
     if TRANSACTIONS as u32 <= tx {
         return OUTSIDE_LIMITS as u32;
     }
-    values::answer_byte(out, behind.log.outcome(tx as u8).number())
+    let t = tx as usize;
+    let row = log.rows[t];
+    values::answer_byte(out, row.outcome().number())
 }
 
 // Whether a store is involved in a transaction.
@@ -108,9 +112,10 @@ pub extern "C" fn release_log_involvement(
     ensures { λ r. ⌜ r ≡ answerTo (involvementQuery (now (records .entry)) count tx store) (now (out .entry)) ⌝ }
     ensures { λ r. ⌜ now (out .exit) ≡ bytesAfter (involvementQuery (now (records .entry)) count tx store) (now (out .entry)) ⌝ }
 {
-    let behind = log_behind(Row::none(), records, count);
-    if behind.answer != ACCEPTED {
-        return behind.answer as u32;
+    let mut answer: u8 = ACCEPTED;
+    let log = log_behind(Row::none(), records, count, &mut answer);
+    if answer != ACCEPTED {
+        return answer as u32;
     }
     if TRANSACTIONS as u32 <= tx {
         return OUTSIDE_LIMITS as u32;
@@ -118,7 +123,9 @@ pub extern "C" fn release_log_involvement(
     if STORES as u32 <= store {
         return OUTSIDE_LIMITS as u32;
     }
-    values::answer_byte(out, behind.log.involvement(tx as u8, store as u8).number())
+    let t = tx as usize;
+    let row = log.rows[t];
+    values::answer_byte(out, row.involvement(store as u8).number())
 }
 
 // A store's replay.
@@ -132,12 +139,13 @@ pub extern "C" fn release_log_replay(
     ensures { λ r. ⌜ r ≡ answerTo (replayQuery (now (records .entry)) count store) (now (out .entry)) ⌝ }
     ensures { λ r. ⌜ now (out .exit) ≡ bytesAfter (replayQuery (now (records .entry)) count store) (now (out .entry)) ⌝ }
 {
-    let behind = log_behind(Row::none(), records, count);
-    if behind.answer != ACCEPTED {
-        return behind.answer as u32;
+    let mut answer: u8 = ACCEPTED;
+    let log = log_behind(Row::none(), records, count, &mut answer);
+    if answer != ACCEPTED {
+        return answer as u32;
     }
     if STORES as u32 <= store {
         return OUTSIDE_LIMITS as u32;
     }
-    values::answer_rows(out, behind.log.replay(store as u8))
+    values::answer_rows(out, log.replay(store as u8))
 }

@@ -1,39 +1,30 @@
 use borrow.Author.Needs.{needs}
-use mathlib.Core.Path.{_∙_, _≡_, ap, sym}
-use Rattle.commit_log.specs.declared.Log.{Log}
-use Rattle.commit_log.specs.declared.Entered.{Entered}
-use Rattle.release_log.specs.Behind.{logAfterLent, logBehind}
+use mathlib.Core.Path.{sym, _∙_}
 use Rattle.release_log.proofs.AddLaws.{count-fits, entry-added, numbers-refused, records-refused}
+use Rattle.release_log.proofs.BehindLaws.{whole-of}
 use Rattle.release_log.proofs.release_log_add.Statement.{statement}
 use Rattle.release_log.proofs.release_log_add.Tie as tie
-
--- the log behind the lent records
-behind : (c : tie.After-log-behind) → let a = c .before .before .before .before .args in c .log-behind .result ≡ logBehind (a .records .now) (a .count)
-behind c = c .log-behind .ensures
 
 none-requires : tie.Need-none-requires
 none-requires c κs = search needs
 
 log-behind-requires : tie.Need-log-behind-requires
-log-behind-requires c κs = c .before .none .ensures
-
-cast-result : tie.Need-cast-result
-cast-result c = search needs
+log-behind-requires c κs = c .before .before .none .ensures
 
 same-length : tie.Need-same-length
 same-length c = search needs
 
 returns : tie.Need-returns
-returns c = let a = c .before .before .before .before .before .before .before .args in records-refused (a .records .now) (a .count) _ (behind (c .before .before .before)) (c .before .if1 .taken)
+returns c = let a = c .before .before .before .before .before .before .before .args in records-refused (a .records .now) (a .count) _ (whole-of (c .before .before .log-behind .ensures .0) (c .before .before .log-behind .ensures .1)) (c .before .if1 .taken)
 
 read-requires : tie.Need-read-requires
 read-requires c κs = search needs
 
-enum-known-answer : tie.Need-enum-known-answer
-enum-known-answer c = search needs
+enum-known-n : tie.Need-enum-known-n
+enum-known-n c = search needs
 
-cast-result-2 : tie.Need-cast-result-2
-cast-result-2 c = search needs
+cast-result : tie.Need-cast-result
+cast-result c = search needs
 
 enum-known-e : tie.Need-enum-known-e
 enum-known-e c = search needs
@@ -41,7 +32,7 @@ enum-known-e c = search needs
 add-entry-requires : tie.Need-add-entry-requires
 add-entry-requires c κs =
     let a = c .before .before .before .before .before .before .before .before .before .before .before .args in
-    count-fits (a .records .now) (a .count) (ap (λ (t : Entered). t .answer) (sym (behind (c .before .before .before .before .before .before .before))) ∙ c .before .before .before .before .before .if1 .left)
+    count-fits (a .records .now) (a .count) (sym (c .before .before .before .before .before .before .log-behind .ensures .1) ∙ c .before .before .before .before .before .if1 .left)
 
 same-length-2 : tie.Need-same-length-2
 same-length-2 c = search needs
@@ -49,7 +40,7 @@ same-length-2 c = search needs
 returns-2 : tie.Need-returns-2
 returns-2 c =
     let a = c .before .before .before .before .before .before .before .before .before .before .args in
-    numbers-refused (a .records .now) (a .count) _ (behind (c .before .before .before .before .before .before)) (c .before .before .before .before .if1 .left) (c .before .before .before .read .ensures) (c .before .answer .given .1)
+    numbers-refused (a .records .now) (a .count) _ (whole-of (c .before .before .before .before .before .log-behind .ensures .0) (c .before .before .before .before .before .log-behind .ensures .1)) (c .before .before .before .before .if1 .left) (c .before .before .before .read .ensures) (c .before .n .given .1)
 
 same-length-3 : tie.Need-same-length-3
 same-length-3 c = search needs
@@ -61,7 +52,7 @@ returns-3 c =
     (a .records .now)
     (a .count)
     _
-    (behind (c .before .before .before .before .before .before .before .before .before .before))
+    (whole-of (c .before .before .before .before .before .before .before .before .before .log-behind .ensures .0) (c .before .before .before .before .before .before .before .before .before .log-behind .ensures .1))
     (c .before .before .before .before .before .before .before .before .if1 .left)
     (c .before .before .before .before .before .before .before .read .ensures)
     (c .before .before .before .before .before .e .given .1)
@@ -74,12 +65,11 @@ release-log-add-spec =
     (tie.spec
     none-requires
     log-behind-requires
-    cast-result
     same-length
     returns
     read-requires
-    enum-known-answer
-    cast-result-2
+    enum-known-n
+    cast-result
     enum-known-e
     add-entry-requires
     same-length-2

@@ -1,44 +1,39 @@
-use borrow.Author.Tests.{le-leb, lt-leb}
 use borrow.Author.Needs.{needs}
+use borrow.Author.Tests.{le-leb, lt-leb}
 use Prim.Native.Nat.{ℕ}
-use mathlib.Core.Path.{_∙_, _≡_, ap}
 use mathlib.Core.List.{[], _∷_}
+use mathlib.Core.Path.{ap, _∙_}
 use Rattle.entry.specs.Limits.{transactions}
 use Rattle.commit_log.specs.declared.Log.{Log}
-use Rattle.commit_log.specs.declared.Entered.{Entered}
 use Rattle.commit_log.specs.Outcome.{outcomeNumber, outcomeOf}
-use Rattle.release_log.specs.Behind.{logAfterLent, logBehind}
+use Rattle.release_log.proofs.BehindLaws.{whole-of}
 use Rattle.release_log.proofs.QueryLaws.{numbers-outside, records-refused, value-placed}
 use Rattle.release_log.proofs.release_log_outcome.Statement.{statement}
 use Rattle.release_log.proofs.release_log_outcome.Tie as tie
-
--- the log behind the lent records
-behind : (c : tie.After-log-behind) → let a = c .before .before .before .before .args in c .log-behind .result ≡ logBehind (a .records .now) (a .count)
-behind c = c .log-behind .ensures
 
 none-requires : tie.Need-none-requires
 none-requires c κs = search needs
 
 log-behind-requires : tie.Need-log-behind-requires
-log-behind-requires c κs = c .none .ensures
-
-cast-result : tie.Need-cast-result
-cast-result c = search needs
+log-behind-requires c κs = c .before .none .ensures
 
 returns : tie.Need-returns
-returns c = records-refused _ _ (behind (c .before .before .before)) (c .before .if1 .taken)
+returns c = records-refused _ _ (whole-of (c .before .before .log-behind .ensures .0) (c .before .before .log-behind .ensures .1)) (c .before .if1 .taken)
 
 cast-if2 : tie.Need-cast-if2
 cast-if2 c = search needs
 
-cast-result-2 : tie.Need-cast-result-2
-cast-result-2 c = search needs
+cast-result : tie.Need-cast-result
+cast-result c = search needs
 
 returns-2 : tie.Need-returns-2
-returns-2 c = numbers-outside _ _ (behind (c .before .before .before)) (c .before .if1 .left) (le-leb transactions (c .before .before .before .before .before .before .before .args .tx) (c .if2 .taken))
+returns-2 c = numbers-outside _ _ (whole-of (c .before .before .log-behind .ensures .0) (c .before .before .log-behind .ensures .1)) (c .before .if1 .left) (le-leb transactions (c .before .before .before .before .before .before .before .args .tx) (c .if2 .taken))
 
-cast-outcome : tie.Need-cast-outcome
-cast-outcome c = search needs
+mul-row : tie.Need-mul-row
+mul-row c = search needs
+
+element-copy-out-row : tie.Need-element-copy-out-row
+element-copy-out-row c = search needs
 
 outcome-requires : tie.Need-outcome-requires
 outcome-requires c κs = search needs
@@ -54,18 +49,17 @@ same-length c = search needs
 
 returns-3 : tie.Need-returns-3
 returns-3 c =
-    let a = c .before .before .before .before .before .before .before .before .before .before .before .before .before .args in
-    let log = behind (c .before .before .before .before .before .before .before .before .before) in
+    let a = c .before .before .before .before .before .before .before .before .before .before .before .before .before .before .args in
     value-placed
     _
     _
-    log
-    (c .before .before .before .before .before .before .before .if1 .left)
-    (lt-leb transactions (a .tx) (c .before .before .before .before .before .before .if2 .left))
+    (whole-of (c .before .before .before .before .before .before .before .before .before .log-behind .ensures .0) (c .before .before .before .before .before .before .before .before .before .log-behind .ensures .1))
+    (c .before .before .before .before .before .before .before .before .if1 .left)
+    (lt-leb transactions (a .tx) (c .before .before .before .before .before .before .before .if2 .left))
     (ap (λ (n : ℕ). n ∷ [])
     (c .before .before .before .number .ensures
     ∙ ap outcomeNumber (c .before .before .before .before .outcome .ensures)
-    ∙ ap (λ (t : Entered). outcomeNumber (outcomeOf (t .log) (a .tx))) log))
+    ∙ ap (λ (l : Log). outcomeNumber (outcomeOf l (a .tx))) (c .before .before .before .before .before .before .before .before .before .log-behind .ensures .0)))
     (c .before .before .answer-byte .ensures)
 
 pub release-log-outcome-spec : {M : Type 1} → statement M
@@ -74,12 +68,12 @@ release-log-outcome-spec =
     (tie.spec
     none-requires
     log-behind-requires
-    cast-result
     returns
     cast-if2
-    cast-result-2
+    cast-result
     returns-2
-    cast-outcome
+    mul-row
+    element-copy-out-row
     outcome-requires
     number-requires
     answer-byte-requires

@@ -1,55 +1,48 @@
-use borrow.Author.Tests.{le-leb, lt-leb}
 use borrow.Author.Needs.{needs}
+use borrow.Author.Tests.{le-leb, lt-leb}
 use Prim.Native.Nat.{_≤_}
-use mathlib.Core.Path.{_∙_, _≡_, ap}
 use mathlib.Core.List.{List}
+use mathlib.Core.Path.{ap, _∙_}
 use native.Mathlib.Omega.{arith}
 use lib.ListN.{length}
 use Rattle.entry.specs.Limits.{stores, transactions}
+use Rattle.commit_log.proofs.Good.{rows-length}
+use Rattle.commit_log.proofs.ReplayLength.{replay-length}
 use Rattle.commit_log.specs.declared.Log.{Log}
-use Rattle.commit_log.specs.declared.Entered.{Entered}
 use Rattle.commit_log.specs.declared.Replayed.{Replayed}
 use Rattle.commit_log.specs.Replay.{replayRows}
-use Rattle.commit_log.proofs.ReplayLength.{replay-length}
-use Rattle.release_log.specs.Behind.{logAfterLent, logBehind}
-use Rattle.release_log.proofs.QueryLaws.{numbers-outside, records-refused, value-placed}
 use Rattle.release_log.specs.Query.{replayValue}
-use Rattle.release_log.proofs.RowsLaws.{log-rows-length, replay-count, replay-taken}
+use Rattle.release_log.proofs.BehindLaws.{whole-of}
+use Rattle.release_log.proofs.QueryLaws.{numbers-outside, records-refused, value-placed}
+use Rattle.release_log.proofs.RowsLaws.{replay-count, replay-taken}
 use Rattle.release_log.proofs.release_log_replay.Statement.{statement}
 use Rattle.release_log.proofs.release_log_replay.Tie as tie
 
--- the log behind the lent records
-behind : (c : tie.After-log-behind) → let a = c .before .before .before .before .args in c .log-behind .result ≡ logBehind (a .records .now) (a .count)
-behind c = c .log-behind .ensures
-
 -- no more rows than transactions
-few : (c : tie.After-replay) → let t = c .before .before .before .before .before .log-behind .result in length (replayRows (t .log) (c .before .before .before .before .before .before .before .before .before .args .store)) ≤ transactions
+few : (c : tie.After-replay) → length (replayRows (c .before .before .before .before .log-behind .result) (c .before .before .before .before .before .before .before .before .before .args .store)) ≤ transactions
 few c =
-    let t = c .before .before .before .before .before .log-behind in
-    let h = replay-length (t .result .log) (c .before .before .before .before .before .before .before .before .before .args .store) in
-    let k = log-rows-length (t .result) _ (t .ok) in
+    let t = c .before .before .before .before .log-behind in
+    let h = replay-length (t .result) (c .before .before .before .before .before .before .before .before .before .args .store) in
+    let k = rows-length (t .result) _ (t .ok) in
     omega arith
 
 none-requires : tie.Need-none-requires
 none-requires c κs = search needs
 
 log-behind-requires : tie.Need-log-behind-requires
-log-behind-requires c κs = c .none .ensures
-
-cast-result : tie.Need-cast-result
-cast-result c = search needs
+log-behind-requires c κs = c .before .none .ensures
 
 returns : tie.Need-returns
-returns c = records-refused _ _ (behind (c .before .before .before)) (c .before .if1 .taken)
+returns c = records-refused _ _ (whole-of (c .before .before .log-behind .ensures .0) (c .before .before .log-behind .ensures .1)) (c .before .if1 .taken)
 
 cast-if2 : tie.Need-cast-if2
 cast-if2 c = search needs
 
-cast-result-2 : tie.Need-cast-result-2
-cast-result-2 c = search needs
+cast-result : tie.Need-cast-result
+cast-result c = search needs
 
 returns-2 : tie.Need-returns-2
-returns-2 c = numbers-outside _ _ (behind (c .before .before .before)) (c .before .if1 .left) (le-leb stores (c .before .before .before .before .before .before .before .args .store) (c .if2 .taken))
+returns-2 c = numbers-outside _ _ (whole-of (c .before .before .log-behind .ensures .0) (c .before .before .log-behind .ensures .1)) (c .before .if1 .left) (le-leb stores (c .before .before .before .before .before .before .before .args .store) (c .if2 .taken))
 
 cast-replay : tie.Need-cast-replay
 cast-replay c = search needs
@@ -59,8 +52,7 @@ replay-requires c κs = search needs
 
 answer-rows-requires : tie.Need-answer-rows-requires
 answer-rows-requires c κs =
-    let t = c .before .before .before .before .before .log-behind .result in
-    let h = replay-count (t .log) (c .before .before .before .before .before .before .before .before .before .args .store) (c .replay .ensures) in
+    let h = replay-count (c .before .before .before .before .log-behind .result) (c .before .before .before .before .before .before .before .before .before .args .store) (c .replay .ensures) in
     let k = few c in
     omega arith
 
@@ -70,17 +62,15 @@ same-length c = search needs
 returns-3 : tie.Need-returns-3
 returns-3 c =
     let a = c .before .before .before .before .before .before .before .before .before .before .before .before .args in
-    let t = c .before .before .before .before .before .before .before .before .log-behind .result in
-    let log = behind (c .before .before .before .before .before .before .before .before) in
     value-placed
     _
     _
-    log
+    (whole-of (c .before .before .before .before .before .before .before .log-behind .ensures .0) (c .before .before .before .before .before .before .before .log-behind .ensures .1))
     (c .before .before .before .before .before .before .if1 .left)
     (lt-leb stores (a .store) (c .before .before .before .before .before .if2 .left))
     (ap (λ (rs : List Replayed). replayValue rs)
-    (replay-taken (t .log) (a .store) (c .before .before .before .replay .ensures) (few (c .before .before .before))
-    ∙ ap (λ (u : Entered). replayRows (u .log) (a .store)) log))
+    (replay-taken (c .before .before .before .before .before .before .before .log-behind .result) (a .store) (c .before .before .before .replay .ensures) (few (c .before .before .before))
+    ∙ ap (λ (l : Log). replayRows l (a .store)) (c .before .before .before .before .before .before .before .log-behind .ensures .0)))
     (c .before .before .answer-rows .ensures)
 
 pub release-log-replay-spec : {M : Type 1} → statement M
@@ -89,10 +79,9 @@ release-log-replay-spec =
     (tie.spec
     none-requires
     log-behind-requires
-    cast-result
     returns
     cast-if2
-    cast-result-2
+    cast-result
     returns-2
     cast-replay
     replay-requires

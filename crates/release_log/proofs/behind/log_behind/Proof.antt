@@ -22,17 +22,17 @@ use Rattle.records.specs.declared.Reading.{Reading}
 use Rattle.records.specs.declared.Reading.the-variants.{Of, Refused}
 use Rattle.records.specs.Record.{readRecord, recordSize}
 use Rattle.release_log.specs.Behind.{enterReading, logAfter, logAfterLent, recordsIn}
-use Rattle.release_log.proofs.BehindLaws.{count-beyond, count-within, entered, none-left, record-accepted, record-refused, refused}
+use Rattle.release_log.proofs.BehindLaws.{count-beyond, count-within, entered, none-left, parts, record-accepted, record-refused, refused}
 use Rattle.release_log.proofs.InPlaceLaws.{remembered-last, take-in-place, take-refused, vote-begins, vote-joins, vote-only, vote-refused}
 use Rattle.release_log.proofs.behind.log_behind.Statement.{statement}
 use Rattle.release_log.proofs.behind.log_behind.Tie as tie
 
 abbrev Inv-loop : tie.InvT-loop
-Inv-loop lent count log₀ at₀ left₀ log at left =
+Inv-loop lent count answer₀ log₀ at₀ left₀ answer log at left =
     (at + left * recordSize ≤ length lent) × (logAfter log₀ (recordsIn lent count) ≡ logAfter log (recordsIn (drop at lent) left))
 
 abbrev μ-loop : tie.MeasureT-loop
-μ-loop lent count log₀ at₀ left₀ log at left = left
+μ-loop lent count answer₀ log₀ at₀ left₀ answer log at left = left
 
 -- the log of the turn, and the whole
 whole : (c : tie.At-loop Inv-loop μ-loop)
@@ -88,16 +88,11 @@ remembers c =
     let l = c .before .before .before .before .before .before .before .before .before .before .before .before .before .before .before .before .before .before .before .before .before .loop .log in
     sym (c .has32 .ensures ∙ ap (λ (k : ℕ). has k (c .before .before .before .before .before .before .before .before .before .before .before .before .before .before .before .before .reading .given .0 .0 .tx)) (remembered-last l (c .before .remembered-in .ensures)))
 
-answered-requires : tie.Need-answered-requires Inv-loop μ-loop
-answered-requires c κs = search needs
-
 returns : tie.Need-returns Inv-loop μ-loop
 returns c =
-    let s = c .before .before .before in
+    let s = c .before .before in
     let a = s .args in
-    c .answered .ensures
-    ∙ ap (λ (l : Log). answered l outsideLimits) (rows-without-votes (a .none) (s .pre))
-    ∙ count-beyond emptyLog (a .lent .now) (a .count) (c .before .if1 .taken)
+    parts (ap (λ (l : Log). answered l outsideLimits) (rows-without-votes (a .none) (s .pre)) ∙ count-beyond emptyLog (a .lent .now) (a .count) (c .if1 .taken))
 
 loop-holds : tie.Need-loop-holds Inv-loop μ-loop
 loop-holds c = (omega arith, refl)
@@ -126,20 +121,17 @@ enum-told c = search needs
 refusal-in-requires : tie.Need-refusal-in-requires Inv-loop μ-loop
 refusal-in-requires c κs = search needs
 
-answered-requires-2 : tie.Need-answered-requires-2 Inv-loop μ-loop
-answered-requires-2 c κs = search needs
-
 returns-2 : tie.Need-returns-2 Inv-loop μ-loop
 returns-2 c =
-    let read = c .before .before .before .before in
+    let read = c .before .before .before in
     let turn = read .before .before .before in
     let l = turn .loop in
-    let told = c .before .before .enum-told .given in
+    let told = c .before .enum-told .given in
     let reads : readRecord (take recordSize (drop (l .at) (turn .before .before .before .args .lent .now))) ≡ Refused (told .0 .0) = sym (at-hand read) ∙ told .1 in
-    let same : c .before .refusal-in .result ≡ told .0 .0 = c .before .refusal-in .ensures (told .0 .0) (told .1) in
-    c .answered2 .ensures
-    ∙ sym (record-refused (l .log) (turn .before .before .before .args .lent .now) (l .at) (ap (λ (n : ℕ). answered (l .log) n) same ∙ refused (l .log) reads) (l .left) (omega (arith, read .before .before .loop-test .taken)) (λ k. record-refusal _ reads (sym same ∙ k)))
-    ∙ whole turn
+    let same : c .refusal-in .result ≡ told .0 .0 = c .refusal-in .ensures (told .0 .0) (told .1) in
+    parts
+    (sym (record-refused (l .log) (turn .before .before .before .args .lent .now) (l .at) (ap (λ (n : ℕ). answered (l .log) n) same ∙ refused (l .log) reads) (l .left) (omega (arith, read .before .before .loop-test .taken)) (λ k. record-refusal _ reads (sym same ∙ k)))
+    ∙ whole turn)
 
 sub-left : tie.Need-sub-left Inv-loop μ-loop
 sub-left c = omega arith
@@ -156,13 +148,10 @@ element-copy-out-holds-or-held c = inside-store (c .before .before .before .befo
 holds-or-held-requires : tie.Need-holds-or-held-requires Inv-loop μ-loop
 holds-or-held-requires c κs = search needs
 
-answered-requires-3 : tie.Need-answered-requires-3 Inv-loop μ-loop
-answered-requires-3 c κs = search needs
-
 returns-3 : tie.Need-returns-3 Inv-loop μ-loop
 returns-3 c =
-    let r = c .before .before .before .before .before .before .before .before in
-    c .answered3 .ensures ∙ refused-so r (take-refused (r .before .before .before .before .before .loop .log) (r .reading .given .0 .0) (inside r) (c .before .before .before .before .before .if2 .taken) (sym (c .before .before .holds-or-held .ensures) ∙ c .before .if3 .taken)) (λ z. omega arith)
+    let r = c .before .before .before .before .before .before .before in
+    parts (refused-so r (take-refused (r .before .before .before .before .before .loop .log) (r .reading .given .0 .0) (inside r) (c .before .before .before .before .if2 .taken) (sym (c .before .holds-or-held .ensures) ∙ c .if3 .taken)) (λ z. omega arith))
 
 element-write-log : tie.Need-element-write-log Inv-loop μ-loop
 element-write-log c = inside-store (c .before .before .before .before .before .before .before .reading .given .0 .0) (inside (c .before .before .before .before .before .before .before))
@@ -211,13 +200,10 @@ element-copy-out-vote-refusal c = inside-vote (c .before .before .before .before
 vote-refusal-requires : tie.Need-vote-refusal-requires Inv-loop μ-loop
 vote-refusal-requires c κs = search needs
 
-answered-requires-4 : tie.Need-answered-requires-4 Inv-loop μ-loop
-answered-requires-4 c κs = search needs
-
 returns-4 : tie.Need-returns-4 Inv-loop μ-loop
 returns-4 c =
-    let r = c .before .before .before .before .before .before .before .before .before .before in
-    c .answered4 .ensures ∙ refused-so r (vote-refused (r .before .before .before .before .before .loop .log) (r .reading .given .0 .0) (c .before .before .before .before .before .before .before .if2 .left) (c .before .before .vote-refusal .ensures) (c .before .if4 .taken)) (c .before .if4 .taken)
+    let r = c .before .before .before .before .before .before .before .before .before in
+    parts (refused-so r (vote-refused (r .before .before .before .before .before .loop .log) (r .reading .given .0 .0) (c .before .before .before .before .before .before .if2 .left) (c .before .vote-refusal .ensures) (c .if4 .taken)) (c .if4 .taken))
 
 of-requires : tie.Need-of-requires Inv-loop μ-loop
 of-requires c κs = search needs
@@ -234,8 +220,8 @@ outcome-requires c κs = search needs
 is-commit-requires : tie.Need-is-commit-requires Inv-loop μ-loop
 is-commit-requires c κs = search needs
 
-mul-t65 : tie.Need-mul-t65 Inv-loop μ-loop
-mul-t65 c = search needs
+mul-t62 : tie.Need-mul-t62 Inv-loop μ-loop
+mul-t62 c = search needs
 
 element-set-from-log : tie.Need-element-set-from-log Inv-loop μ-loop
 element-set-from-log c = inside-vote (c .before .before .before .before .before .before .before .before .before .before .before .before .before .reading .given .0 .0) (inside (c .before .before .before .before .before .before .before .before .before .before .before .before .before)) (c .before .before .before .before .before .before .before .before .before .before .if2 .left) .tx
@@ -254,8 +240,8 @@ remembered-in-requires c κs = search needs
 has32-requires : tie.Need-has32-requires Inv-loop μ-loop
 has32-requires c κs = search needs
 
-mul-t71 : tie.Need-mul-t71 Inv-loop μ-loop
-mul-t71 c = search needs
+mul-t68 : tie.Need-mul-t68 Inv-loop μ-loop
+mul-t68 c = search needs
 
 element-set-from-log-2 : tie.Need-element-set-from-log-2 Inv-loop μ-loop
 element-set-from-log-2 c = inside-vote (c .before .before .before .before .before .before .before .before .before .before .before .before .before .before .before .before .before .reading .given .0 .0) (inside (c .before .before .before .before .before .before .before .before .before .before .before .before .before .before .before .before .before)) (c .before .before .before .before .before .before .before .before .before .before .before .before .before .before .if2 .left) .tx
@@ -300,14 +286,11 @@ loop-again-4 c =
     let r = c .before .before .before .before .before .before .before .before .before .before .before .before .before .before .before .before .before .before .before in
     (omega arith, r .before .before .before .before .before .loop .inv .1 ∙ taken-so r (vote-begins (r .before .before .before .before .before .loop .log) (r .reading .given .0 .0) (c .before .before .before .before .before .before .before .before .before .before .before .before .before .before .before .before .if2 .left) (c .before .before .before .before .before .before .before .before .before .before .before .vote-refusal .ensures) (c .before .before .before .before .before .before .before .before .before .before .if4 .left) (c .before .before .before .before .before .before .before .before .before .of .ensures) (tested (c .before .before .before .before .before .before .before) ∙ not-false _ (c .before .before .before .before .before .before .if5 .left)) (remembers (c .before .before .before) ∙ c .before .before .if6 .left) (c .next-group .result) (c .before .running-set .result) (c .next-group .ensures) (c .before .running-set .ensures)))
 
-answered-requires-5 : tie.Need-answered-requires-5 Inv-loop μ-loop
-answered-requires-5 c κs = search needs
-
 returns-5 : tie.Need-returns-5 Inv-loop μ-loop
 returns-5 c =
-    let turn = c .before .before in
+    let turn = c .before in
     let l = turn .loop in
-    c .answered5 .ensures ∙ none-left (l .log) (drop (l .at) (turn .before .before .before .args .lent .now)) (l .left) (c .before .loop-test .left) ∙ whole turn
+    parts (none-left (l .log) (drop (l .at) (turn .before .before .before .args .lent .now)) (l .left) (c .loop-test .left) ∙ whole turn)
 
 pub log-behind-spec : {M : Type 1} → statement M
 log-behind-spec =
@@ -315,7 +298,6 @@ log-behind-spec =
     (tie.spec
     Inv-loop
     μ-loop
-    answered-requires
     returns
     loop-holds
     add-end
@@ -326,14 +308,12 @@ log-behind-spec =
     enum-known-reading
     enum-told
     refusal-in-requires
-    answered-requires-2
     returns-2
     sub-left
     cast-store
     mul-holds-or-held
     element-copy-out-holds-or-held
     holds-or-held-requires
-    answered-requires-3
     returns-3
     element-write-log
     mul-log
@@ -350,20 +330,19 @@ log-behind-spec =
     element-copy-out-row
     element-copy-out-vote-refusal
     vote-refusal-requires
-    answered-requires-4
     returns-4
     of-requires
     mul-t31
     element-set-from-row
     outcome-requires
     is-commit-requires
-    mul-t65
+    mul-t62
     element-set-from-log
     loop-less-2
     loop-again-2
     remembered-in-requires
     has32-requires
-    mul-t71
+    mul-t68
     element-set-from-log-2
     loop-less-3
     loop-again-3
@@ -377,5 +356,4 @@ log-behind-spec =
     element-write-log-3
     loop-less-4
     loop-again-4
-    answered-requires-5
     returns-5)
