@@ -10,10 +10,14 @@ use denote.Struct.Declared.{row}
 use denote.Struct.Field.{Field}
 use lib.ListN.{getD, length, length-map}
 use mir.Val.{Val}
+use Rattle.entry.specs.Limits.{lists}
 use Rattle.commit_log.specs.declared.Log.{Log}
 use Rattle.commit_log.specs.declared.Row.{Row}
+use Rattle.commit_log.specs.declared.Vote.{Vote}
+use Rattle.commit_log.specs.Log.{noVote}
 use Rattle.commit_log.proofs.Log.{the-type as log-type}
 use Rattle.commit_log.proofs.Row.{the-field as row-field, the-type as row-type}
+use Rattle.commit_log.proofs.Vote.{the-field as vote-field}
 
 -- what each element of an array is known to be, by index
 pub each-at : (F : Field) (P : F .Value → Type 0) → ((x : F .Value) (vs : List Val) → Is (F .row) (F .into x) vs → P x)
@@ -38,3 +42,9 @@ past-length l vs g = simp length-map at (g .1 .1 .1 .1 .0 .1 .0 .1)
 
 pub remembered-length : (l : Log) (vs : List Val) → Is (row log-type) l vs → length (l .remembered) ≡ 32
 remembered-length l vs g = simp length-map at (g .1 .1 .1 .1 .1 .1 .0 .1 .0 .1)
+
+-- the list of each vote is a byte
+pub list-byte : (r : Row) (vs : List Val) → Is (row row-type) r vs → (i : ℕ) → i < 8 → getD (r .votes) i noVote .participants < lists
+list-byte r vs g i h =
+    each-at vote-field (λ (v : Vote). v .participants < lists) (λ v us k. k .1 .1 .1 .1 .0 .1) (r .votes) (g .1 .1 .0 .0) (g .1 .1 .0 .1 .1) noVote i
+    (omega (arith, votes-length r vs g))

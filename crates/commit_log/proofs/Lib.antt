@@ -1,6 +1,7 @@
 pub mod Absent
 pub mod Good
 pub mod ScanLaws
+pub mod CommitSetLaws
 pub mod EmptyLaws
 pub mod EnterLaws
 pub mod RefusalLaws

@@ -1,13 +1,14 @@
 // What a transaction's votes come to.
 ghost use mathlib.Core.Path.{_≡_};
 ghost use mathlib.Core.Bool.{_&&_};
+ghost use Prim.Native.Nat.{ℕ, _<_};
+ghost use Rattle.entry.specs.Bits.{within};
+ghost use Rattle.entry.specs.Limits.{lists};
 ghost use Rattle.commit_log.specs.Outcome.{anyAbort, anyCovered, covered, isCommitted, isKept, isOpen, outcomeNumber, outcomeOfVotes, running};
 ghost use Rattle.commit_log.specs.Scan.{anyFrom};
 use crate::Outcome;
 use crate::Row;
-use crate::Vote;
 use entry::limits::STORE_PLACES;
-use entry::limits::STORES;
 
 impl Row {
     // Whether any vote is kept.
@@ -40,38 +41,28 @@ impl Row {
         false
     }
 
-    // Whether all stores of the list have kept commit votes.
-    pub fn covered(self, list: u8) -> bool
-        ensures { λ r. ⌜ r ≡ covered list (self .votes) ⌝ }
+    // The stores whose commit votes are kept, bit s for store s: the lists within it are covered.
+    pub fn commit_set(self) -> u8
+        ensures { λ r. ⌜ ((list : ℕ) → list < lists → within list r ≡ covered list (self .votes)) ⌝ }
     {
-        let mut i: u8 = 0;
-        while i < STORES {
-            let v = self.votes[i as usize];
-            if !v.covers(list, i) {
-                return false;
-            }
-            i += 1;
+        let mut set: u8 = 0;
+        let mut i: usize = STORE_PLACES;
+        while 0 < i {
+            let v = self.votes[i - 1];
+            set = v.commit_digit() + 2 * set;
+            i -= 1;
         }
-        true
-    }
-
-    // Whether the vote is kept and all stores of its list have kept commit votes.
-    pub fn is_covered(self, v: Vote) -> bool
-        ensures { λ r. ⌜ r ≡ (v .kept && covered (v .participants) (self .votes)) ⌝ }
-    {
-        if v.kept {
-            return self.covered(v.participants);
-        }
-        false
+        set
     }
 
     pub fn any_covered(self) -> bool
         ensures { λ r. ⌜ r ≡ anyCovered (self .votes) ⌝ }
     {
+        let commits = self.commit_set();
         let mut i: usize = 0;
         while i < STORE_PLACES {
             let v = self.votes[i];
-            if self.is_covered(v) {
+            if v.is_within(commits) {
                 return true;
             }
             i += 1;

@@ -1,7 +1,7 @@
 // Tests of one kept vote.
 ghost use mathlib.Core.Path.{_≡_};
-ghost use mathlib.Core.Bool.{_&&_, _||_, not};
-ghost use Rattle.entry.specs.Bits.{has};
+ghost use mathlib.Core.Bool.{_&&_, cond, not};
+ghost use Rattle.entry.specs.Bits.{has, within};
 ghost use Rattle.commit_log.specs.Log.{voteOfEntry};
 ghost use Rattle.commit_log.specs.Outcome.{isAbort, isCommit};
 ghost use Rattle.commit_log.specs.Refusal.{clashes};
@@ -52,14 +52,24 @@ impl Vote {
         false
     }
 
-    // Whether this vote of the store is what the list wants of it.
-    pub fn covers(self, list: u8, store: u8) -> bool
-        ensures { λ r. ⌜ r ≡ (not (has list store) || self .kept && self .commit) ⌝ }
+    // 1 for a kept commit vote.
+    pub fn commit_digit(self) -> u8
+        ensures { λ r. ⌜ r ≡ cond (self .kept && self .commit) 1 0 ⌝ }
     {
-        if sets::has8(list, store) {
-            return self.is_commit();
+        if self.is_commit() {
+            return 1;
         }
-        true
+        0
+    }
+
+    // Whether the vote is kept and its list within the set.
+    pub fn is_within(self, set: u8) -> bool
+        ensures { λ r. ⌜ r ≡ (self .kept && within (self .participants) set) ⌝ }
+    {
+        if self.kept {
+            return sets::within8(self.participants, set);
+        }
+        false
     }
 
     // Whether this is a kept commit vote with whose list the entry clashes.
