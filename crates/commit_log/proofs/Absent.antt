@@ -1,5 +1,5 @@
 -- What stands at a number outside its limits: nothing.
-use Prim.Native.Nat.{ℕ, _-_, _<_, _≤_}
+use Prim.Native.Nat.{ℕ, _<_, _≤_}
 use mathlib.Core.List.{List, []}
 use mathlib.Core.Path.{_≡_, refl, sym}
 use native.Mathlib.Omega.{arith}
@@ -15,7 +15,7 @@ use Rattle.commit_log.specs.Involvement.{involvementOfVotes}
 use Rattle.commit_log.specs.Log.{holderOf, noRow, noVote, rowOf}
 use Rattle.commit_log.specs.Outcome.{outcomeOfVotes}
 use Rattle.commit_log.specs.Scan.{allFrom, anyFrom}
-use Rattle.commit_log.proofs.Good.{holders-length, remembered-length, rows-length, votes-length}
+use Rattle.commit_log.proofs.Good.{holders-length, rows-length, votes-length}
 use Rattle.commit_log.proofs.Log.{the-type as log-type}
 use Rattle.commit_log.proofs.Row.{the-type as row-type}
 
@@ -25,9 +25,6 @@ module _ (l : Log) (vs : List Val) (good : Is (row log-type) l vs) where
 
   pub no-holder : (store : ℕ) → 8 ≤ store → 0 ≡ holderOf l store
   no-holder store h = sym (List·getD-eq-default (l .holders) 0 (omega (arith, holders-length l vs good)))
-
-  pub no-memory : (g : ℕ) → 32 < g → 0 ≡ getD (l .remembered) (g - 1) 0
-  no-memory g h = sym (List·getD-eq-default (l .remembered) 0 (omega (arith, remembered-length l vs good)))
 
 pub no-vote : (r : Row) (vs : List Val) → Is (row row-type) r vs → (store : ℕ) → 8 ≤ store → noVote ≡ getD (r .votes) store noVote
 no-vote r vs good store h = sym (List·getD-eq-default (r .votes) noVote (omega (arith, votes-length r vs good)))

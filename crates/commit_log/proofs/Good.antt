@@ -40,9 +40,6 @@ holders-length l vs g = simp length-map at (g .1 .1 .1 .0 .1 .0 .1)
 pub past-length : (l : Log) (vs : List Val) → Is (row log-type) l vs → length (l .past) ≡ 8
 past-length l vs g = simp length-map at (g .1 .1 .1 .1 .0 .1 .0 .1)
 
-pub remembered-length : (l : Log) (vs : List Val) → Is (row log-type) l vs → length (l .remembered) ≡ 32
-remembered-length l vs g = simp length-map at (g .1 .1 .1 .1 .1 .1 .0 .1 .0 .1)
-
 -- the list of each vote is a byte
 pub list-byte : (r : Row) (vs : List Val) → Is (row row-type) r vs → (i : ℕ) → i < 8 → getD (r .votes) i noVote .participants < lists
 list-byte r vs g i h =

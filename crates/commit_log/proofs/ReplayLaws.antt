@@ -5,6 +5,7 @@ use mathlib.Core.List.{List, [], _++_, _∷_}
 use mathlib.Core.Path.{_≡_, ap, ap₂, refl, sym, _∙_}
 use native.Mathlib.Numerals.{add-one}
 use native.Mathlib.Omega.{arith}
+use borrow.Author.Tests.{ne-eqb}
 use lib.ListN.{drop, drop-of-length-le, getD, length, replicate, set}
 use lib.Seq.{drop-cons, sets}
 use Rattle.entry.specs.Limits.{transactions}
@@ -14,6 +15,10 @@ use Rattle.commit_log.specs.declared.Replayed.{Replayed}
 use Rattle.commit_log.specs.declared.Row.{Row}
 use Rattle.commit_log.specs.Log.{noRow}
 use Rattle.commit_log.specs.Replay.{groupReplay, noReplayed, replayFrom, replayOf, replayRows, replays, voteOfStore}
+
+-- a row of another group is not replayed
+pub other-group : (store g : ℕ) (r : Row) → (r .group ≡ g → ⊥) → replays store g r ≡ false
+other-group store g r h = rw (ne-eqb (r .group) g h)
 
 -- what is left of the replay: of group g the transactions from t on, and then n groups
 unfoldable pub left : ℕ → List Row → ℕ → ℕ → ℕ → List Replayed

@@ -56,9 +56,12 @@ impl Log {
             g += 1;
             let mut t: u8 = 0;
             while t < TRANSACTIONS {
-                let row = self.rows[t as usize];
                 let tx = t;
                 t += 1;
+                if self.rows[tx as usize].group != g {
+                    continue;
+                }
+                let row = self.rows[tx as usize];
                 if !row.replays(store, g) {
                     continue;
                 }
