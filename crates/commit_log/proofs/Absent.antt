@@ -1,11 +1,11 @@
 -- What stands at a number outside its limits: nothing.
-use Prim.Native.Nat.{ℕ, _<_, _≤_}
+use Prim.Native.Nat.{ℕ, _≤_}
 use mathlib.Core.List.{List, []}
 use mathlib.Core.Path.{_≡_, refl, sym}
 use native.Mathlib.Omega.{arith}
 use denote.Laws.{Is}
 use denote.Struct.Declared.{row}
-use lib.ListN.{List·getD-eq-default, getD, length}
+use lib.ListN.{List·getD-eq-default, getD}
 use mir.Val.{Val}
 use Rattle.commit_log.specs.declared.Log.{Log}
 use Rattle.commit_log.specs.declared.Involvement.the-variants.{Unknown}
@@ -14,7 +14,7 @@ use Rattle.commit_log.specs.declared.Row.{Row}
 use Rattle.commit_log.specs.Involvement.{involvementOfVotes}
 use Rattle.commit_log.specs.Log.{holderOf, noRow, noVote, rowOf}
 use Rattle.commit_log.specs.Outcome.{outcomeOfVotes}
-use Rattle.commit_log.specs.Scan.{allFrom, anyFrom}
+use Rattle.commit_log.specs.Scan.{anyFrom}
 use Rattle.commit_log.proofs.Good.{holders-length, rows-length, votes-length}
 use Rattle.commit_log.proofs.Log.{the-type as log-type}
 use Rattle.commit_log.proofs.Row.{the-type as row-type}

@@ -12,11 +12,11 @@ use lib.Dec.{eqb}
 use lib.ListN.{drop, drop-of-length-le, getD, length, length-drop}
 use lib.Pow.{pow-mono, shr-shr}
 use lib.Seq.{drop-cons}
-use Rattle.entry.specs.Bits.{has, within}
+use Rattle.entry.specs.Bits.{within}
 use Rattle.entry.specs.Limits.{lists}
 use Rattle.commit_log.specs.declared.Vote.{Vote}
 use Rattle.commit_log.specs.Log.{noVote}
-use Rattle.commit_log.specs.Outcome.{covered, isCommit, meets}
+use Rattle.commit_log.specs.Outcome.{covered, meets}
 use Rattle.commit_log.specs.Scan.{allFrom}
 use Rattle.commit_log.proofs.GroupLaws.{digit-small}
 

@@ -12,7 +12,6 @@ use Rattle.entry.specs.declared.Entry.{Entry}
 use Rattle.entry.specs.Entry.{noProcess, outside, takeEntry}
 use Rattle.entry.specs.Limits.{lists, stores, transactions, updates}
 use Rattle.entry.specs.Refusal.{accepted, firstRefusal, holdsOrHeld, outsideLimits}
-use Rattle.commit_log.specs.declared.Entered.{Entered}
 use Rattle.commit_log.specs.declared.Log.{Log}
 use Rattle.commit_log.specs.declared.Row.{Row}
 use Rattle.commit_log.specs.Enter.{afterEntry, answered, enter, refusalOf, voted}

@@ -16,7 +16,7 @@ use Rattle.commit_log.specs.declared.Row.{Row}
 use Rattle.commit_log.specs.declared.Vote.{Vote}
 use Rattle.commit_log.specs.Log.{noVote}
 use Rattle.commit_log.proofs.Log.{the-type as log-type}
-use Rattle.commit_log.proofs.Row.{the-field as row-field, the-type as row-type}
+use Rattle.commit_log.proofs.Row.{the-type as row-type}
 use Rattle.commit_log.proofs.Vote.{the-field as vote-field}
 
 -- what each element of an array is known to be, by index

@@ -1,6 +1,5 @@
 // What a transaction's votes come to.
 ghost use mathlib.Core.Path.{_≡_};
-ghost use mathlib.Core.Bool.{_&&_};
 ghost use Prim.Native.Nat.{ℕ, _<_};
 ghost use Rattle.entry.specs.Bits.{within};
 ghost use Rattle.entry.specs.Limits.{lists};

@@ -1,6 +1,5 @@
 // The replay of a store.
 ghost use mathlib.Core.Path.{_≡_};
-ghost use mathlib.Core.Bool.{_&&_};
 ghost use Rattle.commit_log.specs.Replay.{replayOf, replays, voteOfStore};
 use crate::Log;
 use crate::Replay;

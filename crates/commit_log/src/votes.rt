@@ -3,7 +3,6 @@ ghost use mathlib.Core.Path.{_≡_};
 ghost use mathlib.Core.Bool.{_&&_, cond, not};
 ghost use Rattle.entry.specs.Bits.{has, within};
 ghost use Rattle.commit_log.specs.Log.{voteOfEntry};
-ghost use Rattle.commit_log.specs.Outcome.{isAbort, isCommit};
 ghost use Rattle.commit_log.specs.Refusal.{clashes};
 use crate::Vote;
 use entry::Entry;

@@ -14,12 +14,11 @@ use Rattle.entry.specs.Refusal.{accepted, holdsOrHeld}
 use Rattle.commit_log.proofs.EnterLaws.{refused-with, take-stored, vote-entered, voted-commits, voted-only}
 use Rattle.commit_log.proofs.GroupLaws.{begun-with, commit-joins}
 use Rattle.commit_log.proofs.RefusalLaws.{take-accepted, take-holds-or-held, vote-checked}
-use Rattle.commit_log.specs.declared.Entered.{Entered}
 use Rattle.commit_log.specs.declared.Log.{Log}
 use Rattle.commit_log.specs.declared.Row.{Row}
 use Rattle.commit_log.specs.declared.Vote.{Vote}
-use Rattle.commit_log.specs.Enter.{answered, enter, refusalOf, voted}
-use Rattle.commit_log.specs.Group.{committing, nextGroup, remembered, runningSet}
+use Rattle.commit_log.specs.Enter.{answered, enter, voted}
+use Rattle.commit_log.specs.Group.{nextGroup, remembered, runningSet}
 use Rattle.commit_log.specs.Log.{heldBefore, holderOf, inGroup, rowOf, voteOfEntry, withGroup, withRow}
 use Rattle.commit_log.specs.Outcome.{isCommitted, outcomeOfVotes}
 use Rattle.commit_log.specs.Refusal.{holdsAny, voteRefusal}

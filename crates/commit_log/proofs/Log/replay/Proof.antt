@@ -1,15 +1,12 @@
 use borrow.Author.Needs.{needs}
 use Prim.Native.Nat.{ℕ, suc, _+_, _-_, _<_, _≤_}
 use mathlib.Core.Path.{_≡_, ap, sym, _∙_}
-use mathlib.Core.Bool.{false, true}
-use mathlib.Core.List.{[], _∷_}
+use mathlib.Core.List.{_∷_}
 use native.Mathlib.Omega.{arith}
 use borrow.Author.Tests.{not-false, not-true}
 use lib.ListN.{getD, length}
-use Rattle.commit_log.specs.declared.Replay.{Replay}
-use Rattle.commit_log.specs.declared.Replayed.{Replayed}
 use Rattle.commit_log.specs.Log.{noRow}
-use Rattle.commit_log.specs.Replay.{replayFrom, replayRows}
+use Rattle.commit_log.specs.Replay.{replayFrom}
 use Rattle.commit_log.proofs.Good.{rows-length}
 use Rattle.commit_log.proofs.ReplayLaws.{Filled, filled-end, filled-more, filled-same, filled-start, left, left-all, left-end, left-hit, left-miss, left-none, left-start, other-group}
 use Rattle.commit_log.proofs.ReplayLength.{replay-length}

@@ -1,17 +1,10 @@
 use borrow.Author.Needs.{needs}
 use mathlib.Core.Bool.{false}
-use mathlib.Core.Path.{_≡_, ap, refl, sym, _∙_}
+use mathlib.Core.Path.{_≡_, refl, sym, _∙_}
 use native.Mathlib.Omega.{arith}
-use Prim.Native.Nat.{_<_, _≤_}
-use lib.Bits.{bitOr}
-use lib.ListN.{getD, length-set, set}
-use Prim.Native.Nat.{ℕ}
+use Prim.Native.Nat.{_<_}
 use Rattle.entry.specs.Entry.{outside, takeEntry}
-use Rattle.entry.specs.Limits.{processes, stores}
-use Rattle.entry.specs.Refusal.{accepted}
 use Rattle.entry.proofs.InsideLaws.{inside-process, inside-store}
-use Rattle.commit_log.specs.declared.Entered.{Entered}
-use Rattle.commit_log.specs.Enter.{answered, refusalOf}
 use Rattle.commit_log.proofs.EnterLaws.{refused-with, take-stored}
 use Rattle.commit_log.proofs.RefusalLaws.{accepted-inside}
 use Rattle.commit_log.proofs.Log.take.Statement.{statement}

@@ -3,7 +3,6 @@ use mathlib.Core.Path.{_≡_, ap, sym, _∙_}
 use native.Mathlib.Omega.{arith}
 use mathlib.Core.Bool.{false}
 use lib.ListN.{set}
-use Prim.Native.Nat.{ℕ, _<_}
 use Rattle.entry.specs.Entry.{outside}
 use Rattle.entry.specs.Refusal.{accepted}
 use Rattle.entry.proofs.InsideLaws.{inside-store, inside-vote}

@@ -1,27 +1,25 @@
 use borrow.Author.Needs.{needs}
 use borrow.Author.Tests.{not-false, not-true}
 use Prim.Native.Nat.{ℕ, _*_, _+_, _-_, _≤_}
-use mathlib.Core.Bool.{Bool, false, true}
+use mathlib.Core.Bool.{false}
 use mathlib.Core.Path.{_≡_, ap, refl, sym, _∙_}
 use native.Mathlib.Nat.{add-sub-cancel-left}
 use native.Mathlib.Omega.{arith}
 use lib.ListN.{drop, length, set, take}
-use Rattle.entry.proofs.InsideLaws.{InsideVote, inside-process, inside-store, inside-vote}
+use Rattle.entry.proofs.InsideLaws.{inside-process, inside-store, inside-vote}
 use Rattle.entry.specs.Bits.{has}
 use Rattle.entry.specs.Entry.{outside}
 use Rattle.entry.specs.Refusal.{accepted, outsideLimits}
 use Rattle.commit_log.proofs.EmptyLaws.{rows-without-votes}
-use Rattle.commit_log.specs.declared.Entered.{Entered}
 use Rattle.commit_log.specs.declared.Log.{Log}
 use Rattle.commit_log.specs.Enter.{answered, enter}
 use Rattle.commit_log.specs.Group.{remembered}
 use Rattle.commit_log.specs.Log.{emptyLog, rowOf}
 use Rattle.commit_log.specs.Outcome.{isCommitted, outcomeOfVotes}
 use Rattle.records.proofs.RecordReadings.{record-inside, record-refusal}
-use Rattle.records.specs.declared.Reading.{Reading}
 use Rattle.records.specs.declared.Reading.the-variants.{Of, Refused}
 use Rattle.records.specs.Record.{readRecord, recordSize}
-use Rattle.release_log.specs.Behind.{enterReading, logAfter, logAfterLent, recordsIn}
+use Rattle.release_log.specs.Behind.{logAfter, logAfterLent, recordsIn}
 use Rattle.release_log.proofs.BehindLaws.{count-beyond, count-within, entered, none-left, parts, record-accepted, record-refused, refused}
 use Rattle.release_log.proofs.InPlaceLaws.{remembered-last, take-in-place, take-refused, vote-begins, vote-joins, vote-only, vote-refused}
 use Rattle.release_log.proofs.behind.log_behind.Statement.{statement}
