@@ -1,4 +1,5 @@
-//! The cost of each entry point, beside the Rust implementation of the tests on the same bytes.
+//! The cost of each entry point, beside the Rust implementation of the tests on the same bytes. With no arguments: the times, as a table.
+//! With `SIDE CALL RECORDS TIMES`: so many calls of one side (`library` or `rust`) and nothing else, for a counter of instructions.
 
 #[path = "../../tests/host/library.rs"]
 mod library;
@@ -8,74 +9,87 @@ mod longest;
 mod plain_log;
 
 use longest::longest;
-use plain_log::{Numbers, RECORD};
+use plain_log::{Entry, Numbers, RECORD};
 use std::hint::black_box;
 use std::time::{Duration, Instant};
 
+const CALLS: [&str; 4] = ["add", "outcome", "involvement", "replay"];
 const COUNTS: [usize; 4] = [0, 10, 100, 376];
-const TRIALS: usize = 25;
-const TRIAL: Duration = Duration::from_millis(8);
+const TRIALS: usize = 1000;
+const TRIAL: Duration = Duration::from_micros(100);
 
-/// Nanoseconds a call: the best of the trials.
-fn cost(mut call: impl FnMut()) -> f64 {
-    let mut best = f64::MAX;
-    for _ in 0..TRIALS {
-        let (start, mut calls) = (Instant::now(), 0u32);
-        while start.elapsed() < TRIAL {
-            for _ in 0..16 {
-                call();
-            }
-            calls += 16;
-        }
-        best = best.min(start.elapsed().as_nanos() as f64 / calls as f64);
-    }
-    best
+/// The first `count` records, with room for one more, and the entry that comes next.
+struct Lent {
+    count: usize,
+    records: Vec<u8>,
+    next: Numbers,
+    out: [u8; 1 + 32 * plain_log::ROW],
 }
 
-fn show(name: &str, count: usize, ours: f64, rust: f64) {
-    println!("| {name} | {count} | {ours:.0} | {rust:.0} | {:.2} |", ours / rust);
+impl Lent {
+    fn first(entries: &[Entry], count: usize) -> Lent {
+        let mut records: Vec<u8> = entries[..count].iter().flat_map(|e| e.to_record()).collect();
+        records.resize(records.len() + RECORD, 0);
+        let next = entries.get(count).unwrap_or(&entries[0]).numbers();
+        Lent { count, records, next, out: [0; 1 + 32 * plain_log::ROW] }
+    }
+
+    fn library(&mut self, call: &str) -> u32 {
+        let (records, count, out) = (black_box(&mut self.records[..]), self.count, &mut self.out);
+        match call {
+            "add" => library::add(records, count, &self.next),
+            "outcome" => library::outcome(records, count, 3, out),
+            "involvement" => library::involvement(records, count, 3, 2, out),
+            _ => library::replay(records, count, 2, out),
+        }
+    }
+
+    fn rust(&mut self, call: &str) -> u32 {
+        let (records, count, out) = (black_box(&mut self.records[..]), self.count, &mut self.out);
+        match call {
+            "add" => plain_log::add(records, count, &self.next),
+            "outcome" => plain_log::outcome(records, count, 3, out),
+            "involvement" => plain_log::involvement(records, count, 3, 2, out),
+            _ => plain_log::replay(records, count, 2, out),
+        }
+    }
+}
+
+/// Nanoseconds a call in one trial.
+fn trial(mut call: impl FnMut() -> u32) -> f64 {
+    let (start, mut calls) = (Instant::now(), 0u32);
+    while start.elapsed() < TRIAL {
+        for _ in 0..4 {
+            black_box(call());
+        }
+        calls += 4;
+    }
+    start.elapsed().as_nanos() as f64 / calls as f64
 }
 
 fn main() {
     let entries = longest();
+    let words: Vec<String> = std::env::args().skip(1).collect();
+    if let [side, call, count, times] = &words[..] {
+        let mut lent = Lent::first(&entries, count.parse().expect("a count"));
+        for _ in 0..times.parse().expect("a number") {
+            black_box(if side == "library" { lent.library(call) } else { lent.rust(call) });
+        }
+        return;
+    }
     println!("| call | lent records | library, ns | Rust, ns | ratio |");
     println!("|---|---:|---:|---:|---:|");
     for count in COUNTS {
-        let lent: Vec<u8> = entries[..count].iter().flat_map(|e| e.to_record()).collect();
-        let next: Numbers = entries.get(count).unwrap_or(&entries[0]).numbers();
-        let mut room = lent.clone();
-        room.resize(lent.len() + RECORD, 0);
-        let mut out = [0u8; 1 + 32 * plain_log::ROW];
-        let expected = if count == 376 { 11 } else { 0 };
-        assert_eq!(library::add(&mut room, count, &next), expected);
-        assert_eq!(plain_log::add(&mut room, count, &next), expected);
-        let ours = cost(|| {
-            black_box(library::add(black_box(&mut room), count, &next));
-        });
-        let rust = cost(|| {
-            black_box(plain_log::add(black_box(&mut room), count, &next));
-        });
-        show("add", count, ours, rust);
-        let ours = cost(|| {
-            black_box(library::outcome(black_box(&lent), count, 3, &mut out));
-        });
-        let rust = cost(|| {
-            black_box(plain_log::outcome(black_box(&lent), count, 3, &mut out));
-        });
-        show("outcome", count, ours, rust);
-        let ours = cost(|| {
-            black_box(library::involvement(black_box(&lent), count, 3, 2, &mut out));
-        });
-        let rust = cost(|| {
-            black_box(plain_log::involvement(black_box(&lent), count, 3, 2, &mut out));
-        });
-        show("involvement", count, ours, rust);
-        let ours = cost(|| {
-            black_box(library::replay(black_box(&lent), count, 2, &mut out));
-        });
-        let rust = cost(|| {
-            black_box(plain_log::replay(black_box(&lent), count, 2, &mut out));
-        });
-        show("replay", count, ours, rust);
+        let mut lent = Lent::first(&entries, count);
+        for call in CALLS {
+            let expected = if count == 376 && call == "add" { 11 } else { 0 };
+            assert_eq!((lent.library(call), lent.rust(call)), (expected, expected));
+            let (mut ours, mut rust) = (f64::MAX, f64::MAX);
+            for _ in 0..TRIALS {
+                ours = ours.min(trial(|| lent.library(call)));
+                rust = rust.min(trial(|| lent.rust(call)));
+            }
+            println!("| {call} | {count} | {ours:.0} | {rust:.0} | {:.2} |", ours / rust);
+        }
     }
 }
