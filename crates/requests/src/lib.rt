@@ -6,6 +6,7 @@ ghost use Rattle.steps.specs.declared.Step.the-variants.{Crash, Request, Restor
 ghost use Rattle.protocol.specs.Step.{heldFrom};
 ghost use Rattle.transition.specs.Plan.{planOf};
 ghost use Rattle.transition.specs.Refusal.{deaf, unbelieved};
+use commit_log::refusal::holds_or_held;
 use entry::Entry;
 use entry::limits::STORES;
 use messages::message;
@@ -117,7 +118,10 @@ pub fn restore(p: Parts, coord: u8, process: u8) -> Change
     ensures { λ r. ⌜ r ≡ planOf p (Restore coord process) ⌝ }
 {
     let l = p.coordinator.log;
-    let unmet = refusal::either(p.acceptors == 0, !l.holds_any(process));
+    let holders = l.holders;
+    // With nobody in the past: whether it holds some store.
+    let holds = holds_or_held(holders, 0, process);
+    let unmet = refusal::either(p.acceptors == 0, !holds);
     let answer = refusal::first_of(
         false,
         deaf(p, coord, process),
@@ -128,7 +132,6 @@ pub fn restore(p: Parts, coord: u8, process: u8) -> Change
     if answer != 0 {
         return changes::still(p, answer);
     }
-    let holders = l.holders;
     let store = held_store(holders, process);
     changes::sending(
         p,
