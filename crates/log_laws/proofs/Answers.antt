@@ -22,7 +22,7 @@ differs : (m n : ℕ) → not (eqb m n) ≡ true → m ≡ n → ⊥
 differs m n h e = opposed (eq-eqb m n e) (not-true (eqb m n) h)
 
 -- a number that no check has is given only if none is tried: 0
-not-given : (n : ℕ) (cs : List Check) → n ≢ accepted → fresh n cs ≡ true → firstRefusal cs ≡ n → ⊥
+pub not-given : (n : ℕ) (cs : List Check) → n ≢ accepted → fresh n cs ≡ true → firstRefusal cs ≡ n → ⊥
 unfolding firstRefusal
 not-given n [] z f e = z (sym e)
 not-given n (c ∷ cs) z f e =

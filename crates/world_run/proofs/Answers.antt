@@ -1,0 +1,114 @@
+-- What each answer says of a line: which lines are answered 1, which 2, and that all others are texts of steps within the limits.
+use Prim.Native.Nat.{ℕ, _≤_, _<_}
+use native.Mathlib.Omega.{arith}
+use mathlib.Core.Bool.{Bool, true, false, cond}
+use mathlib.Core.List.{List, [], _∷_}
+use mathlib.Core.Option.{Option, none, some}
+use mathlib.Core.Path.{_≡_, refl, sym, _∙_, ap}
+use lib.Dec.{eqb, ltb}
+use lib.ListN.{length}
+use borrow.Author.Tests.{eqb-true, le-ltb, lt-ltb}
+use Rattle.entry.specs.Refusal.{accepted, firstRefusal, outsideLimits, unreadable}
+use Rattle.cluster.specs.Orders.{ordered}
+use Rattle.lines.specs.Lines.{longest}
+use Rattle.log_laws.proofs.Answers.{fresh, not-given}
+use Rattle.protocol.specs.declared.Stepped.{Stepped}
+use Rattle.protocol.specs.declared.World.{World}
+use Rattle.protocol.specs.Step.{acceptorsCounted, afterStep, answered, requestChecks, stepChecks, stepOf, stepRefusal}
+use Rattle.steps.specs.declared.Step.{Step}
+use Rattle.steps.specs.declared.Step.the-variants.{Setup, Request, Open, Propose, Deliver, Tell, Restore, Crash}
+use Rattle.steps.specs.Limits.{outsideStep}
+use Rattle.step_text.specs.Seen.{most}
+use Rattle.world_text.specs.declared.Reading.{Reading}
+use Rattle.world_text.specs.declared.Reading.the-variants.{Read, Outside, Unreadable}
+use Rattle.world_text.specs.Step.{HasText, beyond, readStep, reading, readingOf, text}
+use Rattle.world_text.proofs.Agreement.{IsText, outside-line-is-text, read-line-is-text, text-reads-back}
+use Rattle.world_text.proofs.Beyond.{beyond-is-outside}
+use Rattle.world_input.specs.Orders.{orderOf, orderTo, refusing}
+
+-- what a line is answered, and the world after it
+abbrev pub lineTaken : World → List ℕ → Stepped
+lineTaken w line = ordered w (orderOf line)
+
+short-line : (w : World) (line : List ℕ) → length line ≤ longest → lineTaken w line ≡ ordered w (orderTo (reading line))
+unfolding orderOf
+short-line w line h = rw (le-ltb longest (length line) h)
+
+outside-refused : (w : World) (s : Step) → outsideStep (acceptorsCounted w) s ≡ true → stepOf w s ≡ answered w outsideLimits
+unfolding stepOf stepRefusal firstRefusal
+outside-refused w s h = rw h
+
+-- no world of the program counts more acceptors than a byte holds
+module _ (w : World) (few : acceptorsCounted w ≤ most) where
+  taken : (s : Step) → HasText s → (b : Bool) → beyond s ≡ b → ordered w (orderTo (cond b Outside (Read s))) ≡ stepOf w s
+  taken s t true h = sym (outside-refused w s (beyond-is-outside (acceptorsCounted w) few s t h))
+  taken s t false h = refl
+
+  -- The text of a step, if it is not over 100 bytes, is taken: its answer is the world's.
+  pub text-is-taken : (s : Step) → HasText s → length (text s) ≤ longest → lineTaken w (text s) ≡ stepOf w s
+  text-is-taken s t h =
+      short-line w (text s) h
+      ∙ ap (λ (o : Option Step). ordered w (orderTo (readingOf o))) (text-reads-back s t)
+      ∙ taken s t (beyond s) refl
+
+  -- The text of a step with a number outside its limits is answered 2, and the world stays as it was.
+  pub text-outside-limits : (s : Step) → HasText s → length (text s) ≤ longest → outsideStep (acceptorsCounted w) s ≡ true → lineTaken w (text s) ≡ answered w outsideLimits
+  text-outside-limits s t h o = text-is-taken s t h ∙ outside-refused w s o
+
+-- A line over 100 bytes is answered 1, however long it is, and the world stays as it was.
+pub long-line-is-unreadable : (w : World) (line : List ℕ) → longest < length line → lineTaken w line ≡ answered w unreadable
+unfolding orderOf
+long-line-is-unreadable w line h = rw (lt-ltb longest (length line) h)
+
+-- Every line that is the text of no step is answered 1, and the world stays as it was.
+pub other-line-is-unreadable : (w : World) (line : List ℕ) → ((s : Step) → IsText line s → ⊥) → lineTaken w line ≡ answered w unreadable
+unfolding orderOf
+other-line-is-unreadable w line h = go (ltb longest (length line)) (reading line) refl
+  where
+    go : (b : Bool) (r : Reading) → reading line ≡ r → ordered w (cond b (refusing unreadable) (orderTo r)) ≡ answered w unreadable
+    go true r k = refl
+    go false (Read s) k = absurd (h s (read-line-is-text line s k))
+    go false Outside k = let t = outside-line-is-text line k in absurd (h (t .0) (t .1))
+    go false Unreadable k = refl
+
+-- ---- no other refusal of a step has the number 2
+
+none-is-2 : (w : World) (s : Step) → fresh outsideLimits (stepChecks w s) ≡ true
+unfolding stepChecks requestChecks
+none-is-2 w (Setup n) = refl
+none-is-2 w (Request e to) = refl
+none-is-2 w (Open c i b) = refl
+none-is-2 w (Propose c i b) = refl
+none-is-2 w (Deliver m) = refl
+none-is-2 w (Tell c p tx) = refl
+none-is-2 w (Restore c p) = refl
+none-is-2 w (Crash role id) = refl
+
+refused-2 : (w : World) (s : Step) → stepRefusal w s ≡ outsideLimits → outsideStep (acceptorsCounted w) s ≡ true
+unfolding stepRefusal firstRefusal
+refused-2 w s h = go (outsideStep (acceptorsCounted w) s) h
+  where
+    go : (b : Bool) → cond b outsideLimits (firstRefusal (stepChecks w s)) ≡ outsideLimits → b ≡ true
+    go true k = refl
+    go false k = absurd (not-given outsideLimits (stepChecks w s) (λ e. omega arith) (none-is-2 w s) k)
+
+answer-is-refusal : (w : World) (s : Step) → stepOf w s .answer ≡ stepRefusal w s
+unfolding stepOf
+answer-is-refusal w s = go (eqb (stepRefusal w s) accepted) refl
+  where
+    go : (b : Bool) → eqb (stepRefusal w s) accepted ≡ b → cond b (answered (afterStep w s) accepted) (answered w (stepRefusal w s)) .answer ≡ stepRefusal w s
+    go true k = sym (eqb-true (stepRefusal w s) accepted k)
+    go false k = refl
+
+-- A line answered 2 is the text of a step with natural numbers of any size, one of them outside its limits.
+pub answered-2-is-outside : (w : World) → acceptorsCounted w ≤ most → (line : List ℕ) → lineTaken w line .answer ≡ outsideLimits
+    → (s : Step) × IsText line s × (outsideStep (acceptorsCounted w) s ≡ true)
+unfolding orderOf
+answered-2-is-outside w few line h = go (ltb longest (length line)) (reading line) refl h
+  where
+    go : (b : Bool) (r : Reading) → reading line ≡ r → ordered w (cond b (refusing unreadable) (orderTo r)) .answer ≡ outsideLimits
+        → (s : Step) × IsText line s × (outsideStep (acceptorsCounted w) s ≡ true)
+    go true r k h = absurd (let z : ⊥ = omega arith in z)
+    go false (Read s) k h = (s, read-line-is-text line s k, refused-2 w s (sym (answer-is-refusal w s) ∙ h))
+    go false Outside k h = let t = outside-line-is-text line k in (t .0, t .1, t .2 (acceptorsCounted w) few)
+    go false Unreadable k h = absurd (let z : ⊥ = omega arith in z)
