@@ -9,15 +9,17 @@ use lib.Dec.{eqb, ltb}
 use lib.ListN.{length}
 use borrow.Author.Tests.{eqb-true, le-ltb, lt-ltb}
 use Rattle.entry.specs.Refusal.{accepted, firstRefusal, outsideLimits, unreadable}
+use Rattle.agreement.proofs.Limits.{in-bounds}
 use Rattle.cluster.specs.Orders.{ordered}
 use Rattle.lines.specs.Lines.{longest}
 use Rattle.log_laws.proofs.Answers.{fresh, not-given}
 use Rattle.protocol.specs.declared.Stepped.{Stepped}
 use Rattle.protocol.specs.declared.World.{World}
-use Rattle.protocol.specs.Step.{acceptorsCounted, afterStep, answered, requestChecks, stepChecks, stepOf, stepRefusal}
+use Rattle.protocol.specs.Step.{acceptorsCounted, afterStep, answered, noSetup, requestChecks, run, stepChecks, stepOf, stepRefusal}
+use Rattle.protocol.specs.World.{freshWorld}
 use Rattle.steps.specs.declared.Step.{Step}
 use Rattle.steps.specs.declared.Step.the-variants.{Setup, Request, Open, Propose, Deliver, Tell, Restore, Crash}
-use Rattle.steps.specs.Limits.{outsideStep}
+use Rattle.steps.specs.Limits.{mostAcceptors, outsideStep}
 use Rattle.step_text.specs.Seen.{most}
 use Rattle.world_text.specs.declared.Reading.{Reading}
 use Rattle.world_text.specs.declared.Reading.the-variants.{Read, Outside, Unreadable}
@@ -38,7 +40,14 @@ outside-refused : (w : World) (s : Step) → outsideStep (acceptorsCounted w) s 
 unfolding stepOf stepRefusal firstRefusal
 outside-refused w s h = rw h
 
--- no world of the program counts more acceptors than a byte holds
+-- In every world that steps lead to, no more acceptors count than a byte holds.
+pub few-counted : (steps : List Step) → acceptorsCounted (run freshWorld steps) ≤ most
+few-counted steps = go (noSetup (run freshWorld steps))
+  where
+    go : (b : Bool) → cond b mostAcceptors (run freshWorld steps .acceptors) ≤ most
+    go true = omega arith
+    go false = omega (arith, in-bounds steps .acceptors)
+
 module _ (w : World) (few : acceptorsCounted w ≤ most) where
   taken : (s : Step) → HasText s → (b : Bool) → beyond s ≡ b → ordered w (orderTo (cond b Outside (Read s))) ≡ stepOf w s
   taken s t true h = sym (outside-refused w s (beyond-is-outside (acceptorsCounted w) few s t h))
