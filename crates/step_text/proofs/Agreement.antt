@@ -2,14 +2,13 @@
 use Prim.Native.Nat.{ℕ}
 use native.Mathlib.Omega.{arith}
 use mathlib.Core.Bool.{Bool, true, false, true≢false}
-use mathlib.Core.List.{List, [], _∷_}
-use mathlib.Core.Logic.{_⊎_, inl, inr}
-use mathlib.Core.Option.{Option, none, some}
+use mathlib.Core.List.{List}
+use mathlib.Core.Logic.{inl, inr}
+use mathlib.Core.Option.{some}
 use mathlib.Core.Path.{_≡_, refl, sym, _∙_, ap, subst}
 use Rattle.ascii.proofs.Words.{clash}
 use Rattle.entry.specs.declared.Entry.{Entry}
-use Rattle.entry.specs.Entry.{takeEntry, outside}
-use Rattle.step_text.specs.declared.Reading.{Reading}
+use Rattle.entry.specs.Entry.{outside}
 use Rattle.step_text.specs.declared.Reading.the-variants.{Read, Outside, Unreadable}
 use Rattle.step_text.specs.Fields.{lineText}
 use Rattle.step_text.specs.Kinds.{takeKind, voteKind}
@@ -18,7 +17,7 @@ use Rattle.step_text.specs.Entry.{text, HasText, takeOf, takeValues, vot
 use Rattle.step_text.proofs.ReadsText.{IndexedAll, LineAt}
 use Rattle.step_text.proofs.Beyond.{beyond-is-outside}
 use Rattle.step_text.proofs.Table.{Distinct, by-fields, first-reads, first-written, namesApart, outside-some, read-some, unreadable-none, some-not}
-use Rattle.step_text.proofs.Votes.{outside-by, read-by, vote-back, vote-values, vote-writable}
+use Rattle.step_text.proofs.Votes.{read-by, vote-back, vote-values, vote-writable}
 
 -- The text of an entry reads back as that entry, whatever the size of its numbers.
 pub text-reads-back : (e : Entry) → HasText e → readEntry (text e) ≡ some e

@@ -3,20 +3,18 @@ use Prim.Native.Nat.{ℕ, suc, _≤_, _<_, _+_, _-_, _*_, _^_, min}
 use native.Mathlib.Omega.{arith}
 use native.Mathlib.Nat.{pow-suc, pow-le-pow-right, le-trans}
 use native.Mathlib.Numerals.{add-one}
-use mathlib.Core.Bool.{Bool, true, false, _&&_, not, cond, false≢true}
+use mathlib.Core.Bool.{Bool, true, false, _&&_, cond, false≢true}
 use mathlib.Core.List.{List, [], _∷_}
-use mathlib.Core.Path.{_≡_, refl, sym, _∙_, ap, subst}
-use lib.Dec.{eqb, leb, lit<}
+use mathlib.Core.Path.{_≡_, refl, sym, _∙_, ap}
+use lib.Dec.{eqb}
 use lib.ListN.{length, drop, getD, drop-of-length-le}
 use lib.Seq.{drop-cons}
 use native.Mathlib.Decide.{decLt}
-use borrow.Author.Tests.{lt-leb, le-leb, eq-eqb, ne-eqb}
 use Rattle.ascii.specs.Decimal.{isDigit, grown, beginsDigit}
-use Rattle.ascii.specs.Hex.{isHexDigit, hexDigitOf, hexGrown}
+use Rattle.ascii.specs.Hex.{isHexDigit, hexGrown}
 use Rattle.ascii.proofs.Decimals.{is-digit-low, is-digit-high}
-use Rattle.ascii.proofs.Hexes.{hex-digit-bound}
-use Rattle.step_text.specs.Fields.{inDecimal, inHex}
-use Rattle.step_text.specs.Read.{Part, part, unreadable, leadingZero, readDigits, readDecimal, readHex, readValue, valueAfter}
+use Rattle.step_text.specs.Fields.{inDecimal}
+use Rattle.step_text.specs.Read.{part, unreadable, leadingZero, readDigits, readDecimal, readHex, readValue}
 use Rattle.step_text.specs.Seen.{capped, most}
 
 module _ (s : List ℕ) (at : ℕ) where

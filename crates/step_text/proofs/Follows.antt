@@ -1,18 +1,12 @@
 -- Parts that were read one behind the other, as the fields of a kind ask, decimals counted up to `most`, tell what the line reads as.
-use Prim.Native.Nat.{ℕ, suc, _≤_, _<_, _+_, _*_, _^_, min}
-use native.Mathlib.Omega.{arith}
-use native.Mathlib.Nat.{pow-suc, mul-one, mul-assoc}
+use Prim.Native.Nat.{ℕ}
 use mathlib.Core.Bool.{Bool, true, false, _&&_, cond}
-use mathlib.Core.List.{List, [], _∷_, map}
-use mathlib.Core.Option.{Option, none, some}
-use mathlib.Core.Path.{_≡_, refl, sym, _∙_, ap, subst}
-use lib.ListN.{getD}
-use Rattle.ascii.specs.Hex.{isHexDigit, hexGrown, hexDigitOf}
-use Rattle.ascii.proofs.Hexes.{hex-digit-bound}
-use Rattle.step_text.specs.Fields.{Form, inDecimal, inHex, inWords, Field, field}
-use Rattle.step_text.specs.Read.{Part, part, unreadable, after, valueAfter, readValue, readHex, readField, isEnd, with, readFields}
-use Rattle.step_text.specs.Follows.{counted, countedPart, Follows}
-use Rattle.step_text.specs.Seen.{capped, most}
+use mathlib.Core.List.{List, [], _∷_}
+use mathlib.Core.Option.{none, some}
+use mathlib.Core.Path.{_≡_, refl, sym, _∙_, ap}
+use Rattle.step_text.specs.Fields.{Field}
+use Rattle.step_text.specs.Read.{Part, after, readField, isEnd, with, readFields}
+use Rattle.step_text.specs.Follows.{counted, Follows}
 
 abbrev pub last : Part → List Part → Part
 last p [] = p

@@ -1,13 +1,13 @@
 -- What stands behind a part of a line.
-use Prim.Native.Nat.{ℕ, suc, _≤_, _<_, _+_}
+use Prim.Native.Nat.{ℕ, suc}
 use native.Mathlib.Omega.{arith}
 use native.Mathlib.Decide.{decLt}
 use borrow.Author.Tests.{le-leb, lt-leb}
-use mathlib.Core.Bool.{Bool, true, false, _&&_, and-assoc, not, cond, false≢true, true≢false}
+use mathlib.Core.Bool.{Bool, true, false, _&&_, and-assoc, cond, false≢true, true≢false}
 use mathlib.Core.List.{List, [], _∷_, _++_}
 use mathlib.Core.Path.{_≡_, refl, sym, _∙_, ap}
 use lib.Dec.{eqb, leb}
-use lib.ListN.{length, drop, drop-of-length-le, length-append, length-drop}
+use lib.ListN.{length, drop, drop-of-length-le, length-append}
 use lib.Seq.{drop-cons, drop-drop}
 use Rattle.ascii.specs.Bytes.{begins}
 use Rattle.step_text.specs.Fields.{Form, inWords}

@@ -1,23 +1,22 @@
 -- What reads is what was written: values, fields, lines.
-use Prim.Native.Nat.{ℕ, suc, _≤_, _<_, _+_, _-_, _*_, _/_, _%_, _^_}
+use Prim.Native.Nat.{ℕ, suc, _≤_, _<_, _+_, _-_, _*_, _^_}
 use native.Mathlib.Omega.{arith}
 use native.Mathlib.Nat.{add-suc, zero-add, add-zero, suc-add, mul-assoc, pow-succ', lt-of-lt-of-le, mul-le-mul-right}
 use native.Mathlib.Decide.{decLt}
-use mathlib.Core.Bool.{Bool, true, false, _&&_, not, cond, false≢true, true≢false}
-use mathlib.Core.List.{List, [], _∷_, _++_, append-assoc, append-nil}
+use mathlib.Core.Bool.{Bool, true, false, _&&_, not, cond, false≢true}
+use mathlib.Core.List.{List, [], _∷_, _++_, append-assoc}
 use mathlib.Core.Option.{Option, none, some}
 use mathlib.Core.Path.{_≡_, refl, sym, _∙_, ap, subst}
-use lib.Dec.{eqb}
 use lib.ListN.{length, drop, getD}
-use borrow.Author.Tests.{eqb-true, eq-eqb, not-true}
+use borrow.Author.Tests.{eq-eqb, not-true}
 use Rattle.ascii.specs.Bytes.{begins}
 use Rattle.ascii.specs.Decimal.{digit, decimal, isDigit, digitOf, grown, beginsDigit}
-use Rattle.ascii.specs.Hex.{hexDigit, hex, isHexDigit, hexDigitOf, hexGrown}
+use Rattle.ascii.specs.Hex.{hex, isHexDigit, hexDigitOf, hexGrown}
 use Rattle.ascii.proofs.Decimals.{is-digit-low, is-digit-high, digit-byte, decimal-small, decimal-grows}
 use Rattle.ascii.proofs.Hexes.{hex-grows, hex-digit-bound}
 use Rattle.ascii.proofs.Words.{begins-splits, both-l, both-r}
 use Rattle.step_text.specs.Fields.{Form, inDecimal, inHex, inWords, Field, keyText, valueText, fieldsText, Kind, nameText, lineText}
-use Rattle.step_text.specs.Read.{Part, part, unreadable, leadingZero, readDigits, readDecimal, readHex, wordOr, readWord, readValue, after, valueAfter, readField, isEnd, with, readFields, readKind}
+use Rattle.step_text.specs.Read.{Part, part, unreadable, leadingZero, readDigits, readDecimal, readHex, readWord, readValue, after, readField, isEnd, with, readFields, readKind}
 
 -- a decimal with a digit's byte behind it
 decimal-byte : (n c : ℕ) → 1 ≤ n → isDigit c ≡ true → decimal n ++ c ∷ [] ≡ decimal (grown n c)

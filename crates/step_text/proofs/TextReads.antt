@@ -1,24 +1,23 @@
 -- What is written reads back: values, fields, lines.
-use Prim.Native.Nat.{ℕ, suc, _≤_, _<_, _+_, _-_, _*_, _/_, _%_, _^_}
+use Prim.Native.Nat.{ℕ, suc, _≤_, _<_, _+_, _*_, _/_, _%_, _^_}
 use native.Mathlib.Omega.{arith}
 use native.Mathlib.Nat.{pow-suc, mul-assoc, add-suc, zero-add, zero-mul, add-zero, suc-add}
 use native.Mathlib.Decide.{decLt}
-use mathlib.Core.Bool.{Bool, true, false, _&&_, not, cond, false≢true}
+use mathlib.Core.Bool.{Bool, true, false, _&&_, cond}
 use mathlib.Core.List.{List, [], _∷_, _++_, append-assoc}
-use mathlib.Core.Option.{Option, none, some}
+use mathlib.Core.Option.{none, some}
 use mathlib.Core.Path.{_≡_, refl, sym, _∙_, ap, subst}
 use lib.Dec.{eqb}
 use lib.ListN.{length, drop, getD}
 use lib.Seq.{drop-append-seam}
 use borrow.Author.Tests.{eq-eqb, ne-eqb}
-use Rattle.ascii.specs.Bytes.{begins}
-use Rattle.ascii.specs.Decimal.{digit, decimal, isDigit, grown, beginsDigit}
-use Rattle.ascii.specs.Hex.{hexDigit, hex, isHexDigit, hexGrown}
+use Rattle.ascii.specs.Decimal.{digit, decimal, grown, beginsDigit}
+use Rattle.ascii.specs.Hex.{hexDigit, hex}
 use Rattle.ascii.proofs.Decimals.{digit-is, decimal-small, decimal-grows, by-digits}
 use Rattle.ascii.proofs.Hexes.{hex-digit-is, hex-digit-number}
 use Rattle.ascii.proofs.Words.{begins-word, clash, clash-begins, both-l, both-r}
 use Rattle.step_text.specs.Fields.{Form, inDecimal, inHex, inWords, Field, keyText, valueText, fieldsText, Kind, nameText, lineText}
-use Rattle.step_text.specs.Read.{Part, part, unreadable, leadingZero, readDigits, readDecimal, readHex, wordOr, readWord, readValue, after, valueAfter, readField, with, readFields, readKind}
+use Rattle.step_text.specs.Read.{Part, part, unreadable, readDigits, readDecimal, readHex, readWord, readValue, after, valueAfter, readField, with, readFields, readKind}
 
 -- ---- decimals
 

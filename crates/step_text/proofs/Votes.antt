@@ -1,7 +1,7 @@
 -- The values of a vote's line and the vote that they make.
 use Prim.Native.Nat.{ℕ, suc, _<_, min}
 use native.Mathlib.Omega.{arith}
-use mathlib.Core.Bool.{Bool, true, false, cond}
+use mathlib.Core.Bool.{Bool, true, false}
 use mathlib.Core.List.{List, [], _∷_}
 use mathlib.Core.Option.{some}
 use mathlib.Core.Path.{_≡_, refl, sym, _∙_, ap}
@@ -10,7 +10,6 @@ use Rattle.ascii.proofs.Words.{clash}
 use Rattle.entry.specs.declared.Entry.{Entry}
 use Rattle.entry.specs.Entry.{voteEntry}
 use Rattle.entry.specs.Limits.{lists, updates}
-use Rattle.step_text.specs.declared.Reading.{Reading}
 use Rattle.step_text.specs.declared.Reading.the-variants.{Read, Outside}
 use Rattle.step_text.specs.Entry.{beyond, readingOf, sayOf, voteOf, voteValues}
 use Rattle.step_text.specs.Kinds.{voteKind}

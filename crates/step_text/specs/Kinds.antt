@@ -1,7 +1,7 @@
 -- The fields and kinds of steps, as document 01 lists them: `take proc store`, `vote proc by store tx list say upd` (say is commit or abort).
-use mathlib.Core.List.{List, [], _∷_}
+use mathlib.Core.List.{[], _∷_}
 use Rattle.ascii.specs.Bytes.{ascii}
-use Rattle.step_text.specs.Fields.{Form, inDecimal, inHex, inWords, Field, field, Kind, kind}
+use Rattle.step_text.specs.Fields.{inDecimal, inHex, inWords, Field, field, Kind, kind}
 
 abbrev pub proc : Field
 proc = field (ascii "proc") inDecimal

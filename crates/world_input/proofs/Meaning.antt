@@ -1,16 +1,16 @@
 -- However the input is cut into pieces, what the reader finds is what the input asks for.
-use Prim.Native.Nat.{ℕ, suc, _≤_, _<_, _+_}
+use Prim.Native.Nat.{ℕ, suc, _≤_, _<_}
 use native.Mathlib.Omega.{arith}
 use native.Mathlib.Decide.{decLt}
 use mathlib.Core.Bool.{Bool, true, false, cond}
 use mathlib.Core.List.{List, [], _∷_, _++_, append-assoc, append-nil}
 use mathlib.Core.Path.{_≡_, refl, sym, _∙_, ap}
-use lib.Dec.{leb, ltb}
+use lib.Dec.{leb}
 use lib.ListN.{length, length-append, take}
-use borrow.Author.Tests.{le-leb, le-ltb, lt-leb, lt-ltb, leb-true, leb-false}
+use borrow.Author.Tests.{le-ltb, lt-ltb, leb-true, leb-false}
 use Rattle.entry.specs.Refusal.{noPlace}
 use Rattle.lines.specs.declared.Line.{Line}
-use Rattle.lines.specs.Feed.{Fed, fed, fedLines, finished, fresh}
+use Rattle.lines.specs.Feed.{fed, fedLines, finished, fresh}
 use Rattle.lines.specs.Line.{bytesOf}
 use Rattle.lines.specs.Lines.{lines, longest, most}
 use Rattle.lines.proofs.Feeding.{all-is-joined, fedAll, joined}
@@ -18,7 +18,7 @@ use Rattle.lines.proofs.Stream.{Holds, stream-is-lines}
 use Rattle.world_text.specs.Step.{reading}
 use Rattle.cluster.specs.declared.Order.{Order}
 use Rattle.world_input.specs.Orders.{orderOf, orderTo, ordersFrom, ordersOf, refusing}
-use Rattle.world_input.specs.State.{heldOrder, orderAt, over, withLine}
+use Rattle.world_input.specs.State.{heldOrder, over, withLine}
 
 -- a gathered line asks for what its bytes ask for
 held-is-line : (line : Line) (b : List ℕ) → Holds line b → heldOrder line ≡ orderOf b

@@ -3,15 +3,14 @@ use Prim.Native.Nat.{ℕ, _≤_, _<_, _+_}
 use native.Mathlib.Omega.{arith}
 use native.Mathlib.Numerals.{add-one}
 use mathlib.Core.Bool.{true, false}
-use mathlib.Core.List.{List, [], _∷_, _++_}
-use mathlib.Core.Path.{_≡_, refl, sym, _∙_, ap}
+use mathlib.Core.List.{[], _∷_, _++_}
+use mathlib.Core.Path.{_≡_, sym, _∙_, ap}
 use lib.ListN.{length, length-take, set, take}
 use lib.Seq.{length-take-le, take-suc-set}
 use borrow.Author.Tests.{le-leb, le-ltb, lt-leb, lt-ltb}
 use Rattle.entry.specs.Refusal.{noPlace}
 use Rattle.lines.specs.declared.Line.{Line}
 use Rattle.lines.specs.Lines.{most}
-use Rattle.cluster.specs.declared.Order.{Order}
 use Rattle.world_input.specs.declared.Orders.{Orders}
 use Rattle.world_input.specs.Orders.{refusing}
 use Rattle.world_input.specs.State.{heldOrder, orderAt, ordersIn, over, withLine}

@@ -2,8 +2,8 @@
 use Prim.Native.Nat.{ℕ, _≤_, _<_}
 use native.Mathlib.Omega.{arith}
 use mathlib.Core.Bool.{Bool, true, false, cond}
-use mathlib.Core.List.{List, [], _∷_}
-use mathlib.Core.Option.{Option, none, some}
+use mathlib.Core.List.{List}
+use mathlib.Core.Option.{Option}
 use mathlib.Core.Path.{_≡_, refl, sym, _∙_, ap}
 use lib.Dec.{eqb, ltb}
 use lib.ListN.{length}
@@ -23,7 +23,7 @@ use Rattle.steps.specs.Limits.{mostAcceptors, outsideStep}
 use Rattle.step_text.specs.Seen.{most}
 use Rattle.world_text.specs.declared.Reading.{Reading}
 use Rattle.world_text.specs.declared.Reading.the-variants.{Read, Outside, Unreadable}
-use Rattle.world_text.specs.Step.{HasText, beyond, readStep, reading, readingOf, text}
+use Rattle.world_text.specs.Step.{HasText, beyond, reading, readingOf, text}
 use Rattle.world_text.proofs.Agreement.{IsText, outside-line-is-text, read-line-is-text, text-reads-back}
 use Rattle.world_text.proofs.Beyond.{beyond-is-outside}
 use Rattle.world_input.specs.Orders.{orderOf, orderTo, refusing}

@@ -2,11 +2,10 @@
 use Prim.Native.Nat.{ℕ, suc, _≤_, _<_, _+_, _-_, min}
 use native.Mathlib.Omega.{arith}
 use native.Mathlib.Numerals.{add-one}
-use mathlib.Core.Bool.{Bool}
 use mathlib.Core.List.{List, [], _∷_, _++_, append-assoc, append-nil}
 use mathlib.Core.Path.{_≡_, refl, sym, _∙_, ap, subst}
 use lib.ListN.{drop, drop-of-length-le, getD, length, length-append, length-set, length-take, replicate, set, take, take-append-drop}
-use lib.Seq.{drop-cons, drop-drop, getD-take, length-take-le, take-append-seam, take-suc-set, sets, sets-eq}
+use lib.Seq.{drop-cons, drop-drop, length-take-le, take-append-seam, take-suc-set, sets, sets-eq}
 use Rattle.cluster.specs.declared.Advanced.{Advanced}
 use Rattle.cluster.specs.declared.Block.{Block}
 use Rattle.cluster.specs.declared.Order.{Order}
@@ -19,7 +18,6 @@ use Rattle.protocol.specs.declared.World.{World}
 use Rattle.protocol.specs.World.{freshWorld}
 use Rattle.world_input.specs.declared.Orders.{Orders}
 use Rattle.world_input.specs.State.{ordersIn}
-use Rattle.world_run.specs.declared.Session.{Session}
 use Rattle.world_run.specs.Ran.{BlockAt, Ran, notedAll}
 
 -- ---- a block of orders

@@ -3,12 +3,11 @@ use Prim.Native.Nat.{ℕ, suc, _≤_, _<_}
 use native.Mathlib.Omega.{arith}
 use mathlib.Core.Bool.{Bool, true, false, true≢false}
 use mathlib.Core.List.{List, [], _∷_, _++_}
-use mathlib.Core.Logic.{_⊎_, inl, inr}
-use mathlib.Core.Option.{Option, none, some}
+use mathlib.Core.Logic.{inl, inr}
+use mathlib.Core.Option.{some}
 use mathlib.Core.Path.{_≡_, refl, sym, _∙_, ap, subst}
 use Rattle.ascii.proofs.Words.{clash}
 use Rattle.entry.specs.declared.Entry.{Entry}
-use Rattle.entry.specs.Entry.{takeEntry}
 use Rattle.steps.specs.declared.Role.{Role}
 use Rattle.steps.specs.declared.Role.the-variants.{Acceptor, Coord, Proc}
 use Rattle.steps.specs.declared.Step.{Step}
@@ -23,7 +22,6 @@ use Rattle.step_text.proofs.ReadsText.{IndexedAll, LineAt}
 use Rattle.step_text.proofs.Table.{Distinct, by-fields, first-reads, first-written, namesApart, outside-some, read-some, some-not, unreadable-none}
 use Rattle.step_text.proofs.TextReads.{WritableAll, apart, clashAll}
 use Rattle.step_text.proofs.Votes.{vote-back, vote-values, vote-writable}
-use Rattle.world_text.specs.declared.Reading.{Reading}
 use Rattle.world_text.specs.declared.Reading.the-variants.{Read, Outside, Unreadable}
 use Rattle.world_text.specs.Kinds.{sentTake, sentVote, setupKind, openKind, proposeKind, deliverKind, tellKind, restoreKind, crashKind, to}
 use Rattle.world_text.specs.Step.{HasText, beyond, crashOf, deliverOf, openOf, proposeOf, readStep, reading, readingOf, restoreOf, roleNumber, roleOf, setupOf, stepReaders, takeOf, tellOf, text, voteOf}

@@ -1,5 +1,5 @@
 -- The fields and kinds of the world's steps, as document 01 lists them beside those of an entry.
-use mathlib.Core.List.{List, [], _∷_, _++_}
+use mathlib.Core.List.{[], _∷_, _++_}
 use Rattle.ascii.specs.Bytes.{ascii}
 use Rattle.step_text.specs.Decimals.{decimalField}
 use Rattle.step_text.specs.Fields.{Field, Kind, field, inWords, kind}

@@ -1,10 +1,9 @@
 -- The line of a step, as `world` reads it: how it is written, and how it reads.
 use Prim.Native.Nat.{ℕ}
-use mathlib.Core.Bool.{Bool, true, false, cond}
+use mathlib.Core.Bool.{Bool, cond}
 use mathlib.Core.List.{List, [], _∷_, _++_}
 use mathlib.Core.Option.{Option}
 use lib.Dec.{eqb}
-use Rattle.entry.specs.declared.Entry.{Entry}
 use Rattle.steps.specs.declared.Role.{Role}
 use Rattle.steps.specs.declared.Role.the-variants.{Acceptor, Coord, Proc}
 use Rattle.steps.specs.declared.Step.{Step}

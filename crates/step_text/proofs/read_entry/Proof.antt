@@ -1,5 +1,4 @@
-use mathlib.Core.List.{List, [], _∷_}
-use mathlib.Core.Option.{Option, none, some}
+use mathlib.Core.List.{[], _∷_}
 use mathlib.Core.Path.{sym, _∙_}
 use Rattle.step_text.specs.declared.Reading.the-variants.{Read, Outside, Unreadable}
 use Rattle.step_text.specs.Entry.{beyond, readEntry, takeOf, voteOf}

@@ -1,11 +1,9 @@
 use Rattle.world_input.specs.Orders.{refusing}
 use native.Mathlib.Omega.{arith}
-use borrow.Author.Needs.{needs}
-use Prim.Native.Nat.{_-_, _≤_, _<_, _+_}
-use mathlib.Core.Path.{_≡_, refl, sym, _∙_, ap, subst}
-use lib.ListN.{length, set, getD}
+use Prim.Native.Nat.{_-_, _+_}
+use mathlib.Core.Path.{_≡_, refl, subst}
+use lib.ListN.{length, set}
 use lib.Seq.{getD-take}
-use Rattle.cluster.specs.declared.Block.{Block}
 use Rattle.cluster.specs.declared.Order.{Order}
 use Rattle.cluster.specs.Orders.{blockOrders}
 use Rattle.world_input.specs.State.{ordersIn}

@@ -1,9 +1,8 @@
 use native.Mathlib.Omega.{arith}
 use borrow.Author.Needs.{needs}
-use Prim.Native.Nat.{_-_, _≤_, _<_, _+_}
-use mathlib.Core.List.{List}
+use Prim.Native.Nat.{_-_, _+_}
 use mathlib.Core.Path.{_≡_, refl, sym, _∙_, ap}
-use lib.ListN.{drop, getD, length, length-take, take}
+use lib.ListN.{drop, length, length-take, take}
 use lib.Seq.{getD-take}
 use Rattle.lines.specs.declared.Answers.{Answers}
 use Rattle.lines.specs.Answers.{noted}

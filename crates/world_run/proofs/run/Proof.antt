@@ -4,7 +4,6 @@ use Prim.Native.Nat.{_-_, min}
 use mathlib.Core.Path.{_≡_, sym, subst}
 use lib.ListN.{length}
 use Rattle.lines.specs.declared.Answers.{Answers}
-use Rattle.lines.specs.Answers.{noAnswers}
 use Rattle.protocol.specs.declared.World.{World}
 use Rattle.world_input.specs.State.{ordersIn}
 use Rattle.world_input.proofs.Good.{orders-length}

@@ -1,4 +1,3 @@
-use Prim.Native.Nat.{ℕ}
 use mathlib.Core.List.{List}
 use mathlib.Core.Path.{_∙_, ap}
 use Rattle.cluster.specs.declared.Order.{Order}

@@ -1,5 +1,4 @@
 use mathlib.Core.Path.{ap, sym, _∙_}
-use borrow.Author.Tests.{le-leb, lt-leb}
 use Rattle.step_text.specs.declared.Reading.{Reading as EntryReading}
 use Rattle.world_text.specs.Answers.{requestOf}
 use Rattle.world_text.proofs.Readings.{request-beyond, request-within}

@@ -1,7 +1,7 @@
 use mathlib.Core.List.{_++_}
 use mathlib.Core.Path.{_∙_, ap}
 use Rattle.ascii.specs.Bytes.{ascii}
-use Rattle.step_text.specs.Read.{Part, after}
+use Rattle.step_text.specs.Read.{after}
 use Rattle.step_text.specs.Seen.{seen}
 use Rattle.step_text.proofs.Parts.{after-both}
 use borrow.Author.Needs.{needs}

@@ -1,5 +1,4 @@
 use Prim.Native.Nat.{_+_}
-use native.Mathlib.Omega.{arith}
 use mathlib.Core.Path.{_≡_, sym, _∙_, ap}
 use lib.ListN.{length, set, take}
 use Rattle.cluster.specs.declared.Order.{Order}
