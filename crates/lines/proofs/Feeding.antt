@@ -1,17 +1,29 @@
 -- A machine fed from a place on, line by line, and at the end of the input.
 use Prim.Native.Nat.{ℕ, suc, _≤_, _<_}
 use native.Mathlib.Omega.{arith}
-use mathlib.Core.Bool.{Bool, true, false, _||_, cond, false≢true}
+use native.Mathlib.Decide.{decLt}
+use mathlib.Core.Bool.{Bool, true, false, cond, false≢true}
 use mathlib.Core.List.{List, [], _∷_, _++_}
 use mathlib.Core.Path.{_≡_, refl, sym, _∙_, ap}
-use lib.Dec.{eqb}
-use lib.ListN.{length, drop, drop-of-length-le}
-use borrow.Author.Tests.{eq-eqb, ne-eqb}
+use lib.Dec.{eqb, ltb}
+use lib.ListN.{length, drop, drop-of-length-le, take}
+use borrow.Author.Tests.{eq-eqb, le-ltb, lt-ltb, ne-eqb}
 use Rattle.lines.specs.declared.Line.{Line}
 use Rattle.lines.specs.Feed.{Fed, fed, finished, fresh}
-use Rattle.lines.specs.Line.{Part, gathered, with}
-use Rattle.lines.specs.Lines.{lf}
-use Rattle.lines.proofs.Stream.{fed-gathered, fed-in-pieces}
+use Rattle.lines.specs.Line.{Part, bytesOf, gathered, tooLong, with}
+use Rattle.lines.specs.Lines.{lf, longest}
+use Rattle.lines.proofs.Stream.{Holds, fed-gathered, fed-in-pieces}
+
+-- what is made of a gathered line, unless it is too long, is made of its bytes
+pub held-is-line : {A : Type 0} (long : A) (short : List ℕ → A) (line : Line) (b : List ℕ) → Holds line b
+    → cond (tooLong line) long (short (bytesOf line)) ≡ cond (ltb longest (length b)) long (short b)
+held-is-line long short line b h = elim (decLt longest (length b)) [
+  | yes k ↦ rw (lt-ltb longest (length b) k, lt-ltb longest (line .length) (omega (arith, h .long k)))
+  | no k ↦
+      let n : line .length ≡ length b = h .count (omega arith) in
+      let e : bytesOf line ≡ b = ap (λ (m : ℕ). take m (line .bytes)) n ∙ h .bytes (omega arith) in
+      rw (le-ltb longest (length b) (omega arith), le-ltb longest (line .length) (omega arith)) (ap short e)
+]
 
 -- a line that an LF ended leaves fewer bytes
 pub gathered-shorter : (l : Line) (s : List ℕ) → gathered l s .ended ≡ true → length (gathered l s .rest) < length s

@@ -1,15 +1,14 @@
 -- The bytes of a piece, gathered from a place on.
 use Prim.Native.Nat.{ℕ, _≤_, _<_, _+_}
 use native.Mathlib.Numerals.{add-one}
-use mathlib.Core.Bool.{true, false, cond}
-use mathlib.Core.List.{List, [], _∷_}
-use mathlib.Core.Path.{_≡_, refl, sym, _∙_, ap}
-use lib.Dec.{eqb}
+use mathlib.Core.Bool.{true, false}
+use mathlib.Core.List.{List}
+use mathlib.Core.Path.{_≡_}
 use lib.ListN.{length, drop, getD, set, drop-of-length-le}
 use lib.Seq.{drop-cons}
 use borrow.Author.Tests.{eq-eqb, ne-eqb, lt-ltb, le-ltb}
 use Rattle.lines.specs.declared.Line.{Line}
-use Rattle.lines.specs.Line.{with, Part, gathered}
+use Rattle.lines.specs.Line.{with, gathered}
 use Rattle.lines.specs.Lines.{longest, lf}
 
 module _ (l : Line) (s : List ℕ) (i : ℕ) where

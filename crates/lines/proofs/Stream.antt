@@ -1,5 +1,5 @@
 -- However the input is cut into pieces, a machine fed its bytes does what the same machine does with its lines.
-use Prim.Native.Nat.{ℕ, suc, _≤_, _<_, _+_}
+use Prim.Native.Nat.{ℕ, _≤_, _<_, _+_}
 use native.Mathlib.Omega.{arith}
 use native.Mathlib.Decide.{decLt}
 use native.Mathlib.Numerals.{add-one}
@@ -7,13 +7,13 @@ use mathlib.Core.Bool.{Bool, true, false, _||_, cond}
 use mathlib.Core.List.{List, [], _∷_, _++_}
 use mathlib.Core.Path.{_≡_, refl, sym, _∙_, ap, subst}
 use lib.Dec.{eqb}
-use lib.ListN.{length, take, set, replicate, length-append, length-set, length-replicate}
+use lib.ListN.{length, take, set, length-append, length-set}
 use lib.Seq.{take-suc-set}
 use borrow.Author.Tests.{ne-eqb, eq-eqb}
 use Rattle.lines.specs.declared.Line.{Line}
 use Rattle.lines.specs.Feed.{Fed, fresh, fedByte, fed, finished, fedLines}
 use Rattle.lines.specs.Line.{noLine, with, Part, gathered}
-use Rattle.lines.specs.Lines.{longest, lf, lastLine, linesFrom, lines}
+use Rattle.lines.specs.Lines.{longest, lf, linesFrom, lines}
 use Rattle.lines.proofs.Gathering.{with-room, without-room}
 
 -- the line holds these bytes, or is known to be too long

@@ -1,26 +1,24 @@
 -- What a line's reading says of the line's answer.
 use Prim.Native.Nat.{ℕ, _≤_, _<_}
 use native.Mathlib.Omega.{arith}
-use mathlib.Core.Bool.{Bool, true, false, _||_, cond, true≢false}
+use mathlib.Core.Bool.{Bool, true, false, cond}
 use mathlib.Core.List.{List, [], _∷_}
-use mathlib.Core.Logic.{_⊎_, inl, inr}
+use mathlib.Core.Logic.{inl, inr}
 use mathlib.Core.Option.{Option, none, some}
-use mathlib.Core.Path.{_≡_, refl, sym, _∙_, ap, subst}
-use lib.Dec.{eqb}
+use mathlib.Core.Path.{_≡_, refl, sym, _∙_, ap}
 use borrow.Author.Tests.{lt-ltb, le-ltb}
 use denote.Enum.Declared.{tagOf}
 use types.Run.{OneOf}
 use Rattle.entry.specs.declared.Entry.{Entry}
 use Rattle.entry.specs.Entry.{outside}
 use Rattle.entry.specs.Refusal.{firstRefusal, outsideLimits, unreadable}
-use Rattle.commit_log.specs.declared.Entered.{Entered}
 use Rattle.commit_log.specs.declared.Log.{Log}
 use Rattle.commit_log.specs.Enter.{answered, enter, refusalOf}
 use Rattle.commit_log.specs.Log.{holderOf, rowOf}
 use Rattle.commit_log.specs.Refusal.{takeChecks, voteChecks}
 use Rattle.step_text.specs.declared.Reading.{Reading}
 use Rattle.step_text.specs.declared.Reading.the-variants.{Read, Outside, Unreadable}
-use Rattle.step_text.specs.Entry.{HasText, beyond, readEntry, reading, readingOf}
+use Rattle.step_text.specs.Entry.{beyond, readEntry, reading, readingOf}
 use Rattle.step_text.proofs.Agreement.{read-is-text}
 use Rattle.step_text.proofs.Beyond.{beyond-is-outside}
 use Rattle.step_text.proofs.Reading.{the-type as reading-type}

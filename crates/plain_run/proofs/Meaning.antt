@@ -2,40 +2,31 @@
 use Rattle.entry.specs.Refusal.{noPlace, unreadable}
 use Prim.Native.Nat.{ℕ, _≤_}
 use native.Mathlib.Omega.{arith}
-use native.Mathlib.Decide.{decLt}
 use mathlib.Core.Bool.{Bool, true, false, cond}
 use mathlib.Core.List.{List, [], _∷_, _++_}
 use mathlib.Core.Path.{_≡_, refl, sym, _∙_, ap}
 use lib.Dec.{leb, ltb}
-use lib.ListN.{length, take}
-use borrow.Author.Tests.{lt-ltb, le-ltb, ltb-false}
+use borrow.Author.Tests.{ltb-false}
 use Rattle.commit_log.specs.declared.Entered.{Entered}
 use Rattle.commit_log.specs.declared.Log.{Log}
 use Rattle.commit_log.specs.Enter.{answered}
 use Rattle.lines.specs.declared.Line.{Line}
 use Rattle.lines.specs.Answers.{answersOf}
 use Rattle.lines.specs.Feed.{Fed, fed, fedLines, finished, fresh}
-use Rattle.lines.specs.Line.{bytesOf, tooLong}
-use Rattle.lines.specs.Lines.{lines, longest, most}
-use Rattle.lines.proofs.Feeding.{all-is-joined, fedAll, joined}
+use Rattle.lines.specs.Lines.{lines, most}
+use Rattle.lines.proofs.Feeding.{all-is-joined, fedAll, held-is-line, joined}
 use Rattle.lines.proofs.Noting.{Sound, counts, noted-answers, noted-sound}
 use Rattle.lines.proofs.Stream.{Holds, stream-is-lines}
 use Rattle.plain_run.specs.declared.Session.{Session}
-use Rattle.plain_run.specs.Plain.{Run, afterLine, enterLine, entering, noLines, noted as Plain·noted, over, plain, printed}
+use Rattle.plain_run.specs.Plain.{Run, afterLine, enterLine, entering, noted as Plain·noted, over, plain, printed}
 use Rattle.plain_run.specs.Session.{answerLine, enterHeld, freshSession, isOver, noted, output, runOf}
 use Rattle.step_text.specs.Entry.{readEntry}
 
 -- ---- a line by its bytes
 
-held-is-line : (l : Log) (line : Line) (b : List ℕ) → Holds line b → enterHeld l line ≡ enterLine l b
+held-enters : (l : Log) (line : Line) (b : List ℕ) → Holds line b → enterHeld l line ≡ enterLine l b
 unfolding enterHeld enterLine
-held-is-line l line b h = elim (decLt longest (length b)) [
-  | yes k ↦ rw (lt-ltb longest (length b) k, lt-ltb longest (line .length) (omega (arith, h .long k)))
-  | no k ↦
-      let n : line .length ≡ length b = h .count (omega arith) in
-      let e : bytesOf line ≡ b = ap (λ (m : ℕ). take m (line .bytes)) n ∙ h .bytes (omega arith) in
-      rw (le-ltb longest (length b) (omega arith), le-ltb longest (line .length) (omega arith)) (ap (λ (s : List ℕ). entering l (readEntry s)) e)
-]
+held-enters l line b h = held-is-line (answered l unreadable) (λ (s : List ℕ). entering l (readEntry s)) line b h
 
 -- what a line's bytes do to a session
 answerBytes : Session → List ℕ → Session
@@ -43,7 +34,7 @@ answerBytes s b = noted s (cond (leb most (s .answers .count)) (answered (s .log
 
 meets : (s : Session) (line : Line) (b : List ℕ) → Holds line b → answerLine s line ≡ answerBytes s b
 unfolding answerLine answerBytes
-meets s line b h = ap (λ (e : Entered). noted s (cond (leb most (s .answers .count)) (answered (s .log) noPlace) e)) (held-is-line (s .log) line b h)
+meets s line b h = ap (λ (e : Entered). noted s (cond (leb most (s .answers .count)) (answered (s .log) noPlace) e)) (held-enters (s .log) line b h)
 
 -- ---- a session stands for a run
 

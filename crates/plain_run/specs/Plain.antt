@@ -1,6 +1,6 @@
 -- The meaning of the program `plain`: from the bytes read to the bytes written.
 use Rattle.entry.specs.Refusal.{noPlace, unreadable}
-use Prim.Native.Nat.{ℕ, suc}
+use Prim.Native.Nat.{ℕ}
 use mathlib.Core.Bool.{Bool, cond}
 use mathlib.Core.List.{List, [], _∷_, _++_}
 use mathlib.Core.Option.{Option, none, some}

@@ -1,19 +1,17 @@
 -- However the input is cut into pieces, what the reader finds is what the input asks for.
 use Prim.Native.Nat.{ℕ, suc, _≤_, _<_}
 use native.Mathlib.Omega.{arith}
-use native.Mathlib.Decide.{decLt}
 use mathlib.Core.Bool.{Bool, true, false, cond}
 use mathlib.Core.List.{List, [], _∷_, _++_, append-assoc, append-nil}
 use mathlib.Core.Path.{_≡_, refl, sym, _∙_, ap}
 use lib.Dec.{leb}
-use lib.ListN.{length, length-append, take}
+use lib.ListN.{length, length-append}
 use borrow.Author.Tests.{le-ltb, lt-ltb, leb-true, leb-false}
-use Rattle.entry.specs.Refusal.{noPlace}
+use Rattle.entry.specs.Refusal.{noPlace, unreadable}
 use Rattle.lines.specs.declared.Line.{Line}
 use Rattle.lines.specs.Feed.{fed, fedLines, finished, fresh}
-use Rattle.lines.specs.Line.{bytesOf}
-use Rattle.lines.specs.Lines.{lines, longest, most}
-use Rattle.lines.proofs.Feeding.{all-is-joined, fedAll, joined}
+use Rattle.lines.specs.Lines.{lines, most}
+use Rattle.lines.proofs.Feeding.{all-is-joined, fedAll, held-is-line, joined}
 use Rattle.lines.proofs.Stream.{Holds, stream-is-lines}
 use Rattle.world_text.specs.Step.{reading}
 use Rattle.cluster.specs.declared.Order.{Order}
@@ -21,21 +19,15 @@ use Rattle.world_input.specs.Orders.{orderOf, orderTo, ordersFrom, order
 use Rattle.world_input.specs.State.{heldOrder, over, withLine}
 
 -- a gathered line asks for what its bytes ask for
-held-is-line : (line : Line) (b : List ℕ) → Holds line b → heldOrder line ≡ orderOf b
+held-order : (line : Line) (b : List ℕ) → Holds line b → heldOrder line ≡ orderOf b
 unfolding heldOrder orderOf
-held-is-line line b h = elim (decLt longest (length b)) [
-  | yes k ↦ rw (lt-ltb longest (length b) k, lt-ltb longest (line .length) (omega (arith, h .long k)))
-  | no k ↦
-      let n : line .length ≡ length b = h .count (omega arith) in
-      let e : bytesOf line ≡ b = ap (λ (m : ℕ). take m (line .bytes)) n ∙ h .bytes (omega arith) in
-      rw (le-ltb longest (length b) (omega arith), le-ltb longest (line .length) (omega arith)) (ap (λ (s : List ℕ). orderTo (reading s)) e)
-]
+held-order line b h = held-is-line (refusing unreadable) (λ (s : List ℕ). orderTo (reading s)) line b h
 
 abbrev withBytes : List Order → List ℕ → List Order
 withBytes os b = os ++ cond (leb most (length os)) (refusing noPlace) (orderOf b) ∷ []
 
 meets : (os : List Order) (line : Line) (b : List ℕ) → Holds line b → withLine os line ≡ withBytes os b
-meets os line b h = ap (λ (o : Order). os ++ cond (leb most (length os)) (refusing noPlace) o ∷ []) (held-is-line line b h)
+meets os line b h = ap (λ (o : Order). os ++ cond (leb most (length os)) (refusing noPlace) o ∷ []) (held-order line b h)
 
 lines-over : (os : List Order) (ls : List (List ℕ)) → over os ≡ true → fedLines over withBytes os ls ≡ os
 unfolding fedLines
