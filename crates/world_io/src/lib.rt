@@ -1,7 +1,6 @@
 // Runs `world` on what a file descriptor gives, and prints to standard output.
 use lines::MOST;
 use world_input::Input;
-use world_run::run as run_orders;
 
 // The loop over the input ends after so many pieces, which no input has.
 const PIECES: u64 = 9223372036854775808;
@@ -46,7 +45,7 @@ fn read_all(fd: i32) -> Input {
 }
 
 pub fn run(fd: i32) {
-    let session = run_orders(read_all(fd).finish());
+    let session = world_run::run_fed(read_all(fd));
     let mut out = [0u8; 114688];
     let n = world_run::put_output(&mut out, session);
     io::write_all(libc::STDOUT_FILENO, &out[..n]);

@@ -10,9 +10,12 @@ use Rattle.cluster.specs.declared.Order.{Order}
 use Rattle.cluster.specs.Orders.{answersTo, blockOrders, ordersOf as Block·ordersOf, worldAfter}
 use Rattle.lines.specs.declared.Answers.{Answers}
 use Rattle.lines.specs.Answers.{answersOf, noted}
+use Rattle.lines.specs.Feed.{fed, fresh}
 use Rattle.protocol.specs.World.{freshWorld}
 use Rattle.report.specs.Within.{longestAnswers}
 use Rattle.world_report.specs.Longest.{longestWorld}
+use Rattle.world_input.specs.declared.Input.{Input}
+use Rattle.world_input.specs.State.{over, stateOf, withLine}
 use Rattle.world_run.specs.declared.Session.{Session}
 use Rattle.world_run.specs.Program.{answersFor, printed, worldFor}
 use Rattle.world_run.specs.Steps.{stepsOf}
@@ -27,6 +30,10 @@ pub record Agreed (input : List ℕ) (s : Session) : Type 0 where
   pub world : s .world ≡ worldFor input
   pub answers : answersOf (s .answers) ≡ answersFor input
   pub demand-3 : Claim (stepsOf input) (history (stepsOf input)) (s .world)
+
+-- the session of whatever bytes the input was fed
+abbrev pub AgreedOnFed : Input → Session → Type 0
+AgreedOnFed i s = (bytes : List ℕ) → stateOf i ≡ fed over withLine (fresh []) bytes → Agreed bytes s
 
 -- a block of the orders from a place on
 pub record BlockAt (os : List Order) (at : ℕ) (b : Block) : Type 0 where

@@ -4,7 +4,7 @@ ghost use mathlib.Core.Path.{_≡_};
 ghost use lib.ListN.{take};
 ghost use Rattle.report.specs.Printed.{Printed};
 ghost use Rattle.world_input.specs.State.{ordersIn};
-ghost use Rattle.world_run.specs.Ran.{Agreed, BlockAt, Ran, notedAll, output, room};
+ghost use Rattle.world_run.specs.Ran.{Agreed, AgreedOnFed, BlockAt, Ran, notedAll, output, room};
 use cluster::Block;
 use cluster::advance::advance;
 use cluster::fresh::fresh_world;
@@ -91,14 +91,20 @@ pub fn run(orders: Orders) -> Session
     }
 }
 
+// The session of the bytes that were fed, in whatever pieces they came.
+pub fn run_fed(input: Input) -> Session
+    ensures { λ r. ⌜ AgreedOnFed input r ⌝ }
+{
+    let orders = input.finish();
+    run(orders)
+}
+
 // The session of a whole input.
 pub fn run_input(input: &[u8]) -> Session
     ensures { λ r. ⌜ Agreed (now (input .entry)) r ⌝ }
 {
     let fresh = Input::fresh();
-    let fed = fresh.feed(input);
-    let orders = fed.finish();
-    run(orders)
+    run_fed(fresh.feed(input))
 }
 
 // What a session prints, put into a buffer.

@@ -1,0 +1,27 @@
+use borrow.Author.Needs.{needs}
+use mathlib.Core.Path.{_∙_, ap}
+use Rattle.lines.specs.Feed.{finished}
+use Rattle.world_input.specs.State.{ordersIn, over, withLine}
+use Rattle.world_input.proofs.Meaning.{fed-is-orders}
+use Rattle.world_run.proofs.Meaning.{ran-agrees}
+use Rattle.world_run.proofs.run_fed.Statement.{statement}
+use Rattle.world_run.proofs.run_fed.Tie as tie
+
+finish-requires : tie.Need-finish-requires
+finish-requires c κs = search needs
+
+run-requires : tie.Need-run-requires
+run-requires c κs = search needs
+
+returns : tie.Need-returns
+returns c =
+    λ bytes is.
+    ran-agrees
+    bytes
+    (ordersIn (c .before .finish .result))
+    (c .run .result)
+    (c .before .finish .ensures ∙ ap (finished over withLine) is ∙ fed-is-orders bytes)
+    (c .run .ensures)
+
+pub run-fed-spec : {M : Type 1} → statement M
+run-fed-spec = tie.close (tie.spec finish-requires run-requires returns)
