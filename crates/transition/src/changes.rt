@@ -7,7 +7,7 @@ use coordinator::fresh::no_entry;
 use messages::message::request_to;
 use protocol::Message;
 
-// Nothing changes.
+// The parts are these, and nothing is sent.
 pub fn still(p: Parts, answer: u8) -> Change
     ensures { λ r. ⌜ r ≡ still p answer ⌝ }
 {
