@@ -2,7 +2,7 @@
 use Prim.Native.Nat.{ℕ, suc, _<_, _≤_, _+_, _-_, _%_, min}
 use mathlib.Core.List.{List, [], _∷_}
 use mathlib.Core.Path.{_≡_, ap, refl, sym, _∙_}
-use native.Mathlib.Nat.{mod-lt, zero-lt-suc}
+use native.Mathlib.Nat.{mod-lt}
 use native.Mathlib.Numerals.{add-one}
 use native.Mathlib.Omega.{arith}
 use denote.Laws.{Is}
@@ -10,6 +10,7 @@ use denote.Struct.Declared.{row}
 use lib.ListN.{drop, getD, length, length-map, length-set, replicate, set, take}
 use lib.Seq.{sets}
 use mir.Val.{Val}
+use Rattle.commit_log.proofs.InList.{in-list}
 use Rattle.steps.specs.declared.Step.{Step}
 use Rattle.steps.specs.declared.Step.the-variants.{Setup, Request, Open, Propose, Deliver, Tell, Restore, Crash}
 use Rattle.steps.specs.Limits.{coordinators, messages}
@@ -63,19 +64,13 @@ message-inside (Tell c p tx) = omega arith
 message-inside (Restore c p) = omega arith
 message-inside (Crash role id) = omega arith
 
--- where there is an element, the default is none of its matter
-pub there-is : {A : Type 0} (xs : List A) (i : ℕ) (x y : A) → i < length xs → getD xs i x ≡ getD xs i y
-there-is [] i x y h = absurd (omega (arith, h))
-there-is (a ∷ xs) ℕ.zero x y h = refl
-there-is (a ∷ xs) (suc i) x y h = there-is xs i x y (omega (arith, h))
-
 -- ---- what is read of the world
 
 module _ (w : World) (long : Lengths w) where
   pub delivered-is : (s : Step) (n : ℕ) (d : Message) → n ≡ messageAt s → getD (w .messages) n d ≡ deliveredIn w s
   delivered-is s n d e =
       let h = message-inside s in
-      ap (λ (i : ℕ). getD (w .messages) i d) e ∙ there-is (w .messages) (messageAt s) d _ (omega (arith, long .3, h))
+      ap (λ (i : ℕ). getD (w .messages) i d) e ∙ in-list (w .messages) (messageAt s) d _ (omega (arith, long .3, h))
 
   pub parts-are : (at : Places) (m : Message) (c : Coordinator) (x : Cell) (h : Process)
       → parts (w .acceptors) (w .sent) (w .down) (getD (w .coordinators) (at .coordinator % coordinators) c) (getD (w .cells) (at .cell % cellPlaces) x) (getD (w .processes) (at .process % processPlaces) h) m
@@ -88,9 +83,9 @@ module _ (w : World) (long : Lengths w) where
       (w .acceptors)
       (w .sent)
       (w .down)
-      (there-is (w .coordinators) (at .coordinator % coordinators) c freshCoordinator (omega (arith, long .1, hc)) i)
-      (there-is (w .cells) (at .cell % cellPlaces) x emptyCell (omega (arith, long .0, hx)) i)
-      (there-is (w .processes) (at .process % processPlaces) h freshProcess (omega (arith, long .2, hh)) i)
+      (in-list (w .coordinators) (at .coordinator % coordinators) c freshCoordinator (omega (arith, long .1, hc)) i)
+      (in-list (w .cells) (at .cell % cellPlaces) x emptyCell (omega (arith, long .0, hx)) i)
+      (in-list (w .processes) (at .process % processPlaces) h freshProcess (omega (arith, long .2, hh)) i)
       m
 
 -- ---- messages sent one after the other

@@ -1,9 +1,8 @@
 -- What an accepted step does goes by the parts that it touches.
 use Prim.Native.Nat.{ℕ}
 use mathlib.Core.Bool.{Bool, cond, false, true, true≢false, not, _&&_, _||_}
-use mathlib.Core.Path.{_≡_, ap, refl, sym, _∙_}
+use mathlib.Core.Path.{_≡_, ap, refl, _∙_}
 use lib.Dec.{ltb}
-use lib.ListN.{getD}
 use Rattle.entry.specs.declared.Entry.{Entry}
 use Rattle.commit_log.specs.Outcome.{outcomeOf}
 use Rattle.commit_log.specs.Replay.{replayOf}

@@ -1,16 +1,15 @@
 -- Parts taken from and put back at places that the world may not have.
-use Prim.Native.Nat.{ℕ, _<_, _≤_, _-_, _%_}
+use Prim.Native.Nat.{ℕ, _≤_, _-_, _%_}
 use mathlib.Core.Bool.{Bool, cond, false, true}
 use mathlib.Core.List.{List}
 use mathlib.Core.Path.{_≡_, ap, refl, sym, _∙_}
 use native.Mathlib.Nat.{mod-eq-of-lt}
 use native.Mathlib.Omega.{arith}
-use borrow.Author.Tests.{eqb-true, ltb-false, ltb-true}
+use borrow.Author.Tests.{ltb-false, ltb-true}
 use lib.Dec.{eqb, ltb}
 use lib.ListN.{List·getD-eq-default, getD, length, set}
 use lib.Seq.{set-getD, set-out}
 use Rattle.entry.specs.Refusal.{accepted, outsideLimits}
-use Rattle.steps.specs.declared.Step.{Step}
 use Rattle.steps.specs.Limits.{coordinators, messages, outsideStep}
 use Rattle.protocol.specs.declared.Message.{Message}
 use Rattle.protocol.specs.declared.Stepped.{Stepped}

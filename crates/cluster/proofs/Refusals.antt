@@ -1,8 +1,6 @@
 -- A step's refusal goes by the parts that it touches.
 use Prim.Native.Nat.{ℕ}
-use mathlib.Core.Path.{_≡_, ap, refl, _∙_}
-use mathlib.Core.Bool.{Bool, false, true, not, _||_, _&&_}
-use lib.Dec.{eqb, leb}
+use mathlib.Core.Path.{_≡_, refl}
 use Rattle.entry.specs.declared.Entry.{Entry}
 use Rattle.entry.specs.Refusal.{firstRefusal}
 use Rattle.steps.specs.declared.Role.{Role}
@@ -13,14 +11,12 @@ use Rattle.protocol.specs.declared.Kind.{Kind}
 use Rattle.protocol.specs.declared.Kind.the-variants as kind
 use Rattle.protocol.specs.declared.Message.{Message}
 use Rattle.protocol.specs.declared.World.{World}
-use Rattle.protocol.specs.Ballot.{majority, owner}
-use Rattle.protocol.specs.Deliver.{noPlaceFor, receiverDown}
-use Rattle.protocol.specs.Step.{cannotOpen, cannotPropose, noSetup, requestChecks, stepChecks}
-use Rattle.protocol.specs.World.{coordinatorOf, messageOf}
+use Rattle.protocol.specs.Deliver.{noPlaceFor}
+use Rattle.protocol.specs.Step.{cannotOpen, cannotPropose, requestChecks, stepChecks}
+use Rattle.protocol.specs.World.{messageOf}
 use Rattle.messages.proofs.PartLaws.{receiver-in-world}
 use Rattle.transition.specs.Places.{deliveryPlaces, placesOf}
-use Rattle.transition.specs.Refusal.{firstOf, placeless, refusalIn}
-use Rattle.transition.proofs.PlanLaws.{same-first}
+use Rattle.transition.specs.Refusal.{placeless, refusalIn}
 use Rattle.cluster.specs.Stored.{partsAt}
 
 -- whether there is a place for what the message delivered brings
@@ -33,15 +29,6 @@ place-in-world w m kind.Promise e = refl
 place-in-world w m kind.Accepted e = refl
 place-in-world w m kind.Tell e = refl
 place-in-world w m kind.Restore e = refl
-
--- the first of several conditions apart from the rest
-or-apart-3 : (n x y z : Bool) → (n || x || y || z) ≡ (n || (x || y || z))
-or-apart-3 true x y z = refl
-or-apart-3 false x y z = refl
-
-or-apart-5 : (n x y z u v : Bool) → (n || x || y || z || u || v) ≡ (n || (x || y || z || u || v))
-or-apart-5 true x y z u v = refl
-or-apart-5 false x y z u v = refl
 
 abbrev Checked : World → Step → Message → Type 0
 Checked w s d = refusalIn (partsAt w (placesOf s d) d) s ≡ firstRefusal (stepChecks w s)
@@ -57,16 +44,11 @@ module _ (w : World) (d : Message) where
 
   pub open-checked : (c i b : ℕ) → Checked w (Open c i b) d
   unfolding refusalIn stepChecks cannotOpen firstRefusal
-  open-checked c i b =
-      let k = coordinatorOf w c in
-      rw (or-apart-3 (noSetup w) (not (eqb i (k .applied))) (not (eqb (owner b) c)) (leb b (k .round .ballot)))
+  open-checked c i b = refl
 
   pub propose-checked : (c i b : ℕ) → Checked w (Propose c i b) d
   unfolding refusalIn stepChecks cannotPropose firstRefusal
-  propose-checked c i b =
-      let k = coordinatorOf w c in
-      let r = k .round in
-      rw (or-apart-5 (noSetup w) (not (eqb i (k .applied))) (not (eqb b (r .ballot))) (not (majority (w .acceptors) (r .promises))) (r .proposed) (eqb (r .held) 0 && eqb (k .queue .count) 0))
+  propose-checked c i b = refl
 
   pub tell-checked : (c p tx : ℕ) → Checked w (Tell c p tx) d
   unfolding refusalIn stepChecks firstRefusal

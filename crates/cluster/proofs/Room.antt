@@ -1,7 +1,7 @@
 -- A plan sends no more messages than there are numbers left.
 use Prim.Native.Nat.{ℕ, _≤_, _-_}
 use mathlib.Core.Bool.{Bool, cond, false, true, _&&_}
-use mathlib.Core.Path.{_≡_, ap, refl, sym, _∙_}
+use mathlib.Core.Path.{_≡_, refl}
 use native.Mathlib.Omega.{arith}
 use borrow.Author.Tests.{eqb-true, ltb-false}
 use lib.Dec.{eqb, ltb}
@@ -16,10 +16,10 @@ use Rattle.protocol.specs.Coordinator.{isHeard}
 use Rattle.transition.specs.declared.Change.{Change}
 use Rattle.transition.specs.declared.Parts.{Parts}
 use Rattle.transition.specs.Handed.{handed}
-use Rattle.transition.specs.Plan.{changeOf, decided, planOf}
+use Rattle.transition.specs.Plan.{changeOf, planOf}
 use Rattle.transition.specs.Refusal.{firstOf, lacks, placeless, refusalIn}
 
-first-roomy : (unsent down unmet full ill : Bool) → firstOf unsent down unmet full ill ≡ 0 → full ≡ false
+pub first-roomy : (unsent down unmet full ill : Bool) → firstOf unsent down unmet full ill ≡ 0 → full ≡ false
 unfolding firstRefusal
 first-roomy unsent down unmet false ill h = refl
 first-roomy true down unmet true ill h = absurd (omega (arith, h))

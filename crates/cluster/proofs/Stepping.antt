@@ -1,21 +1,19 @@
 -- A step of the world is its plan, put back.
-use Prim.Native.Nat.{ℕ, _<_, _≤_, _-_, _%_}
-use mathlib.Core.Bool.{Bool, cond, false, true, true≢false, not, _&&_, _||_}
-use mathlib.Core.List.{[], _∷_}
-use mathlib.Core.Path.{_≡_, ap, refl, sym, _∙_}
+use Prim.Native.Nat.{ℕ, _<_, _-_}
+use mathlib.Core.Bool.{Bool, cond, false, true}
+use mathlib.Core.Path.{_≡_, ap, refl, _∙_}
 use native.Mathlib.Nat.{mod-eq-of-lt}
-use native.Mathlib.Omega.{arith}
 use borrow.Author.Tests.{eqb-true, leb-false}
-use lib.Dec.{eqb}
-use Rattle.entry.specs.Refusal.{check, firstRefusal, noPlace, notMet, notSentYet, outsideLimits, partyDown}
+use lib.Dec.{eqb, leb}
+use Rattle.entry.specs.Refusal.{firstRefusal, outsideLimits}
 use Rattle.steps.specs.declared.Step.{Step}
 use Rattle.steps.specs.declared.Step.the-variants.{Setup, Request, Open, Propose, Deliver, Tell, Restore, Crash}
 use Rattle.steps.specs.Limits.{messages, outsideStep}
 use Rattle.protocol.specs.declared.Message.{Message}
 use Rattle.protocol.specs.declared.Stepped.{Stepped}
 use Rattle.protocol.specs.declared.World.{World}
-use Rattle.protocol.specs.Deliver.{noPlaceFor}
-use Rattle.protocol.specs.Step.{acceptorsCounted, afterStep, answered, stepChecks, stepOf, stepRefusal}
+use Rattle.protocol.specs.Deliver.{noPlaceFor, receiverDown}
+use Rattle.protocol.specs.Step.{acceptorsCounted, afterStep, answered, noSetup, stepChecks, stepOf, stepRefusal}
 use Rattle.protocol.specs.World.{messageOf}
 use Rattle.transition.specs.declared.Places.{Places}
 use Rattle.transition.specs.Places.{placesOf}
@@ -24,6 +22,7 @@ use Rattle.transition.specs.Refusal.{refusalIn}
 use Rattle.cluster.specs.Stored.{deliveredIn, partsAt, partsOf, placesIn, stored}
 use Rattle.cluster.proofs.Changes.{crash-changed, deliver-changed, open-changed, propose-changed, request-changed, restore-changed, setup-changed, tell-changed}
 use Rattle.cluster.proofs.PutBack.{all-back, none-sent}
+use Rattle.cluster.proofs.Room.{first-roomy}
 use Rattle.cluster.proofs.Refusals.{crash-checked, deliver-checked, open-checked, propose-checked, request-checked, restore-checked, setup-checked, tell-checked}
 
 -- the step, its numbers being within their limits
@@ -45,19 +44,11 @@ module _ (w : World) (at : Places) (d : Message) (s : Step) (r : ℕ) (after : W
   planned is does = by-refusal (eqb r 0) refl is does
 
 -- a delivery that is not refused has a place
-roomy : (unsent down unmet placeless : Bool)
-    → firstRefusal (check notSentYet unsent ∷ check partyDown down ∷ check notMet unmet ∷ check noPlace placeless ∷ []) ≡ 0
-    → placeless ≡ false
-unfolding firstRefusal
-roomy unsent down unmet false h = refl
-roomy true down unmet true h = absurd (omega (arith, h))
-roomy false true unmet true h = absurd (omega (arith, h))
-roomy false false true true h = absurd (omega (arith, h))
-roomy false false false true h = absurd (omega (arith, h))
-
 deliver-roomy : (w : World) (m : ℕ) → firstRefusal (stepChecks w (Deliver m)) ≡ 0 → noPlaceFor w (messageOf w m) (messageOf w m .kind) ≡ false
-unfolding stepChecks
-deliver-roomy w m h = roomy _ _ _ _ h
+unfolding stepChecks firstRefusal
+deliver-roomy w m h =
+    let d = messageOf w m in
+    first-roomy (leb (w .sent) m) (receiverDown w d (d .kind)) (noSetup w) (noPlaceFor w d (d .kind)) false h
 
 -- ---- each kind of step
 

@@ -8,3 +8,5 @@ pub mod RefusalLaws
 pub mod GroupLaws
 pub mod ReplayLength
 pub mod ReplayLaws
+pub mod InList
+pub mod ReplayedRows

@@ -5,26 +5,18 @@ use mathlib.Core.Path.{_≡_, refl, _∙_}
 use native.Mathlib.Nat.{add-suc, add-zero, min-eq-left, suc-add}
 use native.Mathlib.Numerals.{add-one}
 use native.Mathlib.Omega.{arith}
-use mir.Val.{Val}
-use denote.Laws.{Is}
-use denote.Struct.Declared.{row}
-use lib.ListN.{drop, drop-of-length-le, getD, length, length-map, length-replicate, length-take, replicate, set, take}
-use lib.Seq.{drop-cons, getD-take, sets, sets-eq, take-at}
+use lib.ListN.{drop, drop-of-length-le, getD, length, length-take, set, take}
+use lib.Seq.{drop-cons, getD-take, sets}
 use Rattle.entry.specs.Limits.{transactions}
-use Rattle.commit_log.proofs.Replay.{the-type as replay-type}
-use Rattle.commit_log.specs.declared.Log.{Log}
 use Rattle.commit_log.specs.declared.Replay.{Replay}
 use Rattle.commit_log.specs.declared.Replayed.{Replayed}
-use Rattle.commit_log.specs.Replay.{noReplayed, replayOf, replayRows}
+use Rattle.commit_log.specs.Replay.{noReplayed}
 use Rattle.records.specs.Record.{lowFirst, updateSize}
 use Rattle.release_log.specs.Query.{replayValue, rowBytes, rowSize, rowsBytes}
 
 pub row-of : (r : Replayed) {update : List ℕ} → update ≡ lowFirst updateSize (r .update)
     → r .group ∷ r .tx ∷ getD update 0 0 ∷ getD update 1 0 ∷ getD update 2 0 ∷ getD update 3 0 ∷ [] ≡ rowBytes r
 row-of r h = rw h
-
-pub rows-length : (r : Replay) (vs : List Val) → Is (row replay-type) r vs → length (r .rows) ≡ transactions
-rows-length r vs g = simp length-map at (g .1 .1 .1 .0 .1 .0 .1)
 
 pub rows-bytes-length : (rs : List Replayed) → length (rowsBytes rs) ≡ length rs * rowSize
 unfolding rowsBytes
@@ -58,16 +50,3 @@ value-length r h k =
     let a = rows-bytes-length (take (r .count) (r .rows)) in
     let b : length (take (r .count) (r .rows)) ≡ r .count = taken-length r h k in
     omega arith
-
--- what a replay holds is its rows
-module _ (l : Log) (store : ℕ) {r : Replay} (said : r ≡ replayOf l store) where
-  pub replay-count : r .count ≡ length (replayRows l store)
-  unfolding replayOf
-  replay-count = rw said
-
-  pub replay-taken : length (replayRows l store) ≤ transactions → take (r .count) (r .rows) ≡ replayRows l store
-  unfolding replayOf
-  replay-taken h =
-      let k : 0 + length (replayRows l store) ≤ length (replicate transactions noReplayed) = rw length-replicate (omega arith) in
-      rw (said, sets-eq (replayRows l store) (replicate transactions noReplayed) 0 k)
-      (take-at (replayRows l store) _ (length (replayRows l store)) refl)

@@ -1,6 +1,5 @@
 -- Where in the world the parts of a step stand.
 use Prim.Native.Nat.{ℕ, _+_, _*_, _%_}
-use Rattle.entry.specs.declared.Entry.{Entry}
 use Rattle.steps.specs.declared.Step.{Step}
 use Rattle.steps.specs.declared.Step.the-variants.{Setup, Request, Open, Propose, Deliver, Tell, Restore, Crash}
 use Rattle.steps.specs.Limits.{instances, messages}

@@ -1,7 +1,7 @@
 -- The refusals of a step by the parts that it touches, its numbers being within their limits.
 use Prim.Native.Nat.{ℕ, _-_}
 use mathlib.Core.Bool.{Bool, false, not, _||_, _&&_}
-use mathlib.Core.List.{List, [], _∷_}
+use mathlib.Core.List.{[], _∷_}
 use lib.Dec.{eqb, leb, ltb}
 use Rattle.entry.specs.declared.Entry.{Entry}
 use Rattle.entry.specs.Entry.{illFormed}
@@ -44,17 +44,17 @@ unbelieved e p = not (e .take) && not (believes p (e .by))
 
 -- a ballot that coordinator c may not open in i: there are n acceptors, it applied `applied` instances, and opened `last` last
 abbrev pub ballotBarred : ℕ → ℕ → ℕ → ℕ → ℕ → ℕ → Bool
-ballotBarred n applied last c i b = eqb n 0 || not (eqb i applied) || not (eqb (owner b) c) || leb b last
+ballotBarred n applied last c i b = eqb n 0 || (not (eqb i applied) || not (eqb (owner b) c) || leb b last)
 
 -- a proposal that may not be made by a coordinator with this round and so many queued entries
 abbrev pub proposalBarred : ℕ → ℕ → Round → ℕ → ℕ → ℕ → Bool
 proposalBarred n applied r queued i b =
     eqb n 0
-    || not (eqb i applied)
+    || (not (eqb i applied)
     || not (eqb b (r .ballot))
     || not (majority n (r .promises))
     || r .proposed
-    || eqb (r .held) 0 && eqb queued 0
+    || eqb (r .held) 0 && eqb queued 0)
 
 -- the coordinator or the process is down
 abbrev pub deaf : Parts → ℕ → ℕ → Bool

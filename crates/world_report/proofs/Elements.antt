@@ -1,18 +1,12 @@
 -- The texts of an array's elements, with one more of them.
-use Prim.Native.Nat.{ℕ, suc, zero, _<_, _+_}
+use Prim.Native.Nat.{ℕ, suc, _<_, _+_}
 use native.Mathlib.Numerals.{add-one}
-use native.Mathlib.Omega.{arith}
-use mathlib.Core.List.{List, [], _∷_, _++_}
-use mathlib.Core.Path.{_≡_, refl, _∙_, ap}
+use mathlib.Core.List.{List, _++_}
+use mathlib.Core.Path.{_≡_, _∙_, ap}
 use lib.ListN.{getD, length}
+use Rattle.commit_log.proofs.InList.{in-list}
 use Rattle.report.specs.Report.{each}
 use Rattle.report.proofs.Lengths.{each-more}
-
--- within a list no default is read
-in-list : {A : Type 0} (xs : List A) (i : ℕ) (d e : A) → i < length xs → getD xs i d ≡ getD xs i e
-in-list [] i d e h = absurd (let z : ⊥ = omega arith in z)
-in-list (x ∷ xs) zero d e h = refl
-in-list (x ∷ xs) (suc i) d e h = in-list xs i d e (omega arith)
 
 module _ {A : Type 0} (text : ℕ → A → List ℕ) (xs : List A) (i : ℕ) (d e : A) where
   pub next-element : i < length xs → each (λ j. text j (getD xs j e)) i ++ text i (getD xs i d) ≡ each (λ j. text j (getD xs j e)) (i + 1)

@@ -14,7 +14,7 @@ use Rattle.commit_log.specs.Replay.{replayRows}
 use Rattle.release_log.specs.Query.{replayValue}
 use Rattle.release_log.proofs.BehindLaws.{whole-of}
 use Rattle.release_log.proofs.QueryLaws.{numbers-outside, records-refused, value-placed}
-use Rattle.release_log.proofs.RowsLaws.{replay-count, replay-taken}
+use Rattle.commit_log.proofs.ReplayedRows.{replay-count, replay-taken}
 use Rattle.release_log.proofs.release_log_replay.Statement.{statement}
 use Rattle.release_log.proofs.release_log_replay.Tie as tie
 

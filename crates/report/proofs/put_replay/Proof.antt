@@ -8,7 +8,7 @@ use Rattle.commit_log.specs.Replay.{noReplayed}
 use Rattle.report.specs.Report.{each, replayLine}
 use Rattle.report.specs.Within.{Within, longestLine}
 use Rattle.report.proofs.Lengths.{each-more, each-none, each-taken, within-as, within-more, within-nothing, within-room}
-use Rattle.report.proofs.Texts.{rows-length}
+use Rattle.commit_log.proofs.ReplayedRows.{replay-places}
 use Rattle.report.proofs.put_replay.Statement.{statement}
 use Rattle.report.proofs.put_replay.Tie as tie
 
@@ -31,7 +31,7 @@ returns : tie.Need-returns Inv-loop μ-loop
 returns c =
     let l = c .before .before .loop in
     let a = c .before .before .before .before .args in
-    within-room (within-as (each-taken (λ j. replayLine (a .store)) noReplayed (a .t4 .rows) (a .t4 .count) (l .i) (omega (arith, rows-length (a .t4) _ (c .before .before .before .before .good .1 .1 .1 .0)))) (l .inv .2)) (omega arith)
+    within-room (within-as (each-taken (λ j. replayLine (a .store)) noReplayed (a .t4 .rows) (a .t4 .count) (l .i) (omega (arith, replay-places (a .t4) _ (c .before .before .before .before .good .1 .1 .1 .0)))) (l .inv .2)) (omega arith)
 
 cast-row : tie.Need-cast-row Inv-loop μ-loop
 cast-row c = omega arith
@@ -64,7 +64,7 @@ returns-2 : tie.Need-returns-2 Inv-loop μ-loop
 returns-2 c =
     let l = c .before .loop in
     let a = c .before .before .before .args in
-    within-room (within-as (each-taken (λ j. replayLine (a .store)) noReplayed (a .t4 .rows) (a .t4 .count) (l .i) (omega (arith, rows-length (a .t4) _ (c .before .before .before .good .1 .1 .1 .0)))) (l .inv .2)) (omega arith)
+    within-room (within-as (each-taken (λ j. replayLine (a .store)) noReplayed (a .t4 .rows) (a .t4 .count) (l .i) (omega (arith, replay-places (a .t4) _ (c .before .before .before .good .1 .1 .1 .0)))) (l .inv .2)) (omega arith)
 
 pub put-replay-spec : {M : Type 1} → statement M
 put-replay-spec =

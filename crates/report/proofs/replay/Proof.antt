@@ -5,7 +5,7 @@ use Rattle.commit_log.proofs.Good.{rows-length}
 use Rattle.commit_log.proofs.ReplayLength.{replay-length}
 use Rattle.report.specs.Report.{replayText}
 use Rattle.report.proofs.Lengths.{within-as}
-use Rattle.report.proofs.Texts.{replay-rows}
+use Rattle.commit_log.proofs.ReplayedRows.{replay-taken}
 use Rattle.report.proofs.replay.Statement.{statement}
 use Rattle.report.proofs.replay.Tie as tie
 
@@ -23,7 +23,7 @@ returns c =
     let s = c .before .before .before .before .before .before in
     let a = s .args in
     within-as
-    (ap (replayText (a .store)) (replay-rows (a .log) (a .store) (c .before .before .before .before .replay .result) (c .before .before .before .before .replay .ensures) (omega (arith, replay-length (a .log) (a .store), rows-length (a .log) _ (s .good .1 .1 .0)))))
+    (ap (replayText (a .store)) (replay-taken (a .log) (a .store) (c .before .before .before .before .replay .ensures) (omega (arith, replay-length (a .log) (a .store), rows-length (a .log) _ (s .good .1 .1 .0)))))
     (c .before .before .put-replay .ensures)
 
 pub replay-spec : {M : Type 1} → statement M

@@ -4,7 +4,8 @@ use mathlib.Core.Path.{_∙_, _≡_, ap, refl, sym}
 use native.Mathlib.Omega.{arith}
 use lib.ListN.{drop, length, length-set, set, take}
 use lib.Seq.{length-sets, sets}
-use Rattle.release_log.proofs.RowsLaws.{row-stored, rows-end, rows-length, taken-length, value-length}
+use Rattle.commit_log.proofs.ReplayedRows.{replay-places}
+use Rattle.release_log.proofs.RowsLaws.{row-stored, rows-end, taken-length, value-length}
 use Rattle.release_log.specs.Query.{replayValue, rowsBytes, rowSize}
 use Rattle.release_log.proofs.QueryLaws.{no-place, place}
 use Rattle.release_log.proofs.values.answer_rows.Statement.{statement}
@@ -33,7 +34,7 @@ returns : tie.Need-returns Inv-loop μ-loop
 returns c =
     let start = c .before .before in
     let r = start .args .t2 in
-    let size = value-length r (rows-length r _ (start .good .1 .0)) (start .pre) in
+    let size = value-length r (replay-places r _ (start .good .1 .0)) (start .pre) in
     no-place (replayValue (take (r .count) (r .rows))) (start .args .out .now) (omega arith)
 
 slice-write-out : tie.Need-slice-write-out Inv-loop μ-loop
@@ -75,7 +76,7 @@ loop-again c =
     let turn = c .before .before .before .before .before .before .before .before .loop in
     let start = c .before .before .before .before .before .before .before .before .before .before .before in
     let r = start .args .t2 in
-    let size = rows-length r _ (start .good .1 .0) in
+    let size = replay-places r _ (start .good .1 .0) in
     (omega arith, omega arith, ap length (c .before .before .store .ensures) ∙ simp length-sets (turn .inv .2), turn .inv .3 ∙ row-stored (r .rows) (r .count) (turn .i) (omega arith) (turn .out) (turn .at) (omega arith) (c .before .before .before .before .before .row-bytes .ensures) (c .before .before .store .ensures))
 
 cast-result : tie.Need-cast-result Inv-loop μ-loop
@@ -89,7 +90,7 @@ returns-2 c =
     let turn = c .before .loop in
     let start = c .before .before .before .before in
     let r = start .args .t2 in
-    let length-of-rows = rows-length r _ (start .good .1 .0) in
+    let length-of-rows = replay-places r _ (start .good .1 .0) in
     let size = value-length r length-of-rows (start .pre) in
     let placed = place (replayValue (take (r .count) (r .rows))) (start .args .out .now) (omega arith) in (
       placed .0,
