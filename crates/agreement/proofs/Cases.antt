@@ -7,5 +7,5 @@ pub all-cases : AllCases
 all-cases = record {
   one-to-ten = cases-hold;
   eleven =
-      λ w i a v e. record { prepare-6 = p11-prepare-6 w i a v e; accept-6 = p11-accept-6 w i a v e; accept-5 = p11-accept-5 w i a v e };
+      λ p e. record { prepare-6 = p11-prepare-6 p e; accept-6 = p11-accept-6 p e; accept-5 = p11-accept-5 p e };
 }

@@ -11,7 +11,7 @@ use Rattle.commit_log.specs.Outcome.{outcomeOf}
 use Rattle.commit_log.specs.Replay.{noReplayed}
 use Rattle.steps.specs.declared.Step.{Step}
 use Rattle.steps.specs.declared.Step.the-variants.{Setup, Request, Open, Propose, Deliver, Tell, Restore}
-use Rattle.protocol.specs.World.{coordinatorOf, processOf}
+use Rattle.protocol.specs.World.{coordinatorOf, logOf, processOf}
 use Rattle.protocol.proofs.Agreeing.{highest, highest-agree}
 use Rattle.protocol.proofs.Compute.{computed}
 use Rattle.agreement.specs.Claim.{keptOf}
@@ -93,10 +93,10 @@ unfolding computed
 three-decided = decides takeover 0 3 refl
 
 -- the vote is refused: process 2 holds the store, and nothing is known of the transaction
-pub taken-over : holderOf (coordinatorOf (computed takeover) 0 .log) 0 ≡ 2
+pub taken-over : holderOf (logOf (computed takeover) 0) 0 ≡ 2
 unfolding computed
 taken-over = refl
 
-pub vote-refused : outcomeOf (coordinatorOf (computed takeover) 0 .log) 4 ≡ outcome.Open
+pub vote-refused : outcomeOf (logOf (computed takeover) 0) 4 ≡ outcome.Open
 unfolding computed
 vote-refused = refl

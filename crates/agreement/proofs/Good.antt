@@ -9,6 +9,7 @@ use lib.Pow.{pow-pos}
 use Rattle.entry.specs.declared.Entry.{Entry}
 use Rattle.commit_log.specs.declared.Outcome.the-variants as outcome
 use Rattle.commit_log.specs.Enter.{feed}
+use Rattle.commit_log.specs.Log.{emptyLog}
 use Rattle.steps.specs.declared.Step.{Step}
 use Rattle.steps.specs.Limits.{coordinators, instances, messages, mostAcceptors}
 use Rattle.entry.specs.Limits.{transactions}
@@ -21,7 +22,7 @@ use Rattle.protocol.specs.Limits.{cellPlaces, processPlaces, queuePlaces}
 use Rattle.protocol.specs.Message.{noMessage}
 use Rattle.protocol.specs.Queue.{queueOf}
 use Rattle.protocol.specs.Step.{run, stepOf}
-use Rattle.protocol.specs.World.{emptyCell, freshCoordinator, freshProcess, freshWorld, withAcceptors}
+use Rattle.protocol.specs.World.{emptyCell, freshCoordinator, freshProcess, freshWorld}
 use Rattle.agreement.specs.Bounds.{CellRange, CoRange}
 use Rattle.agreement.specs.Claim.{plainLog}
 use Rattle.agreement.specs.Content.{Content, Paxos}
@@ -39,6 +40,7 @@ use Rattle.agreement.proofs.Shape.{QueueOk, Shape, shape-move}
 use Rattle.agreement.proofs.Trans.{Move, Trans, asks, counts, crashes, hears, is-told, joins, moves, opens, passes-accept, passes-accepted, passes-prepare, passes-promise, passes-request, passes-restore, promises, proposes, refused, restores, sets-up, takes, tells, trans, votes}
 use Rattle.agreement.proofs.Trans as t
 use Rattle.agreement.proofs.Wire.{At, Posts, Sent}
+use Rattle.agreement.proofs.With.{withAcceptors}
 
 -- ---- what was delivered was sent
 
@@ -207,6 +209,7 @@ module _ (n : ℕ) where
   fresh-shape = record {
     cell-row = length-replicate cellPlaces emptyCell;
     co-row = length-replicate coordinators freshCoordinator;
+    log-row = length-replicate coordinators emptyLog;
     process-row = length-replicate processPlaces freshProcess;
     message-row = length-replicate messages noMessage;
     sent-most = omega arith;
@@ -305,7 +308,7 @@ module _ (n : ℕ) where
           (fresh-says k);
     }
 
-    fresh-fact : {ms : List Message} → CoFact n h (Said ms 0) freshCoordinator
+    fresh-fact : {ms : List Message} → CoFact n h (Said ms 0) freshCoordinator emptyLog
     unfolding freshCoordinator plainLog feed queueOf
     fresh-fact = record {
       fed = record { batches = []; size = refl; front = record { each = λ j g. absurd (omega arith) }; is = refl };
@@ -316,7 +319,9 @@ module _ (n : ℕ) where
     unfolding freshWorld
     fresh-rest = record {
       sent = λ a. absurd (at-none a);
-      cos = λ k. subst (λ c. CoFact n h (Said (replicate messages noMessage) 0) c) (same-each coordinators k freshCoordinator) fresh-fact;
+      cos =
+          λ k. subst (λ c. CoFact n h (Said (replicate messages noMessage) 0) c (getD (replicate coordinators emptyLog) k emptyLog)) (same-each coordinators k freshCoordinator)
+          (subst (λ l. CoFact n h (Said (replicate messages noMessage) 0) freshCoordinator l) (same-each coordinators k emptyLog) fresh-fact);
     }
 
   fresh-kept : {h : List Event} → Blank n h → Kept (withAcceptors freshWorld n) h
@@ -370,7 +375,7 @@ good-trans G (sets-up n e (inr d)) = good-setup n (omega arith) (omega arith) (G
 good-trans G (moves l m) = good-move l G m
 
 good-step : (s : Step) (w : World) (h : List Event) → Good w h → Good (stepOf w s .world) (noted w s h)
-good-step s w h G = good-trans G (trans w h (G .shape .message-row) s)
+good-step s w h G = good-trans G (trans w h (G .shape .message-row) (G .few) (λ _ _ a. G .range .sent a) s)
 
 good-run : (steps : List Step) (w : World) (h : List Event) → Good w h → Good (run w steps) (historyFrom w h steps)
 unfolding run historyFrom
@@ -415,7 +420,7 @@ extends-run : (steps : List Step) (w : World) (h : List Event) → Good w h → 
 unfolding historyFrom
 extends-run [] w h G = extends-same h
 extends-run (s ∷ steps) w h G =
-    extends-trans (extends-step G (trans w h (G .shape .message-row) s)) (extends-run steps (stepOf w s .world) (noted w s h) (good-step s w h G))
+    extends-trans (extends-step G (trans w h (G .shape .message-row) (G .few) (λ _ _ a. G .range .sent a) s)) (extends-run steps (stepOf w s .world) (noted w s h) (good-step s w h G))
 
 history-append : (steps next : List Step) (w : World) (h : List Event)
     → historyFrom w h (steps ++ next) ≡ historyFrom (run w steps) (historyFrom w h steps) next

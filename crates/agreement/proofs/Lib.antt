@@ -4,6 +4,7 @@ pub mod Grow
 pub mod Local
 pub mod Tests
 pub mod Wire
+pub mod With
 pub mod Trans
 pub mod Arrays
 pub mod Queue

@@ -1,7 +1,7 @@
 -- The plain log fed batches, and the store that a process holds by it.
-use Prim.Native.Nat.{ℕ, zero, suc, _+_, _<_}
+use Prim.Native.Nat.{ℕ, suc, _+_, _<_}
 use mathlib.Core.Path.{_≡_, refl, sym, ap, _∙_}
-use mathlib.Core.Bool.{Bool, true, false, _||_, cond}
+use mathlib.Core.Bool.{Bool, true, false, cond}
 use mathlib.Core.List.{List, [], _∷_, _++_}
 use native.Mathlib.Omega.{arith}
 use lib.Dec.{T, eqb, eqb→eq}
@@ -10,8 +10,6 @@ use Rattle.entry.specs.declared.Entry.{Entry}
 use Rattle.commit_log.specs.declared.Log.{Log}
 use Rattle.commit_log.specs.Enter.{enter, feed}
 use Rattle.commit_log.specs.Log.{emptyLog, holderOf}
-use Rattle.commit_log.specs.Refusal.{holdsAny}
-use Rattle.commit_log.specs.Scan.{anyFrom}
 use Rattle.protocol.specs.declared.Batch.{Batch}
 use Rattle.protocol.specs.Batch.{entriesOf}
 use Rattle.protocol.specs.Step.{heldFrom, heldStore}
@@ -48,30 +46,21 @@ plain-split j s = ap (λ l. plainLog l) (sym (take-append-drop j s)) ∙ plain-a
 
 -- ---- the store that a process holds
 
-held-at : (p s i : ℕ) (hs : List ℕ) → T (anyFrom (λ s h. eqb h p) i hs) → (j : ℕ) × (heldFrom p s hs ≡ s + j) × (getD hs j 0 ≡ p)
-unfolding anyFrom heldFrom
-held-at p s i [] t = absurd t
-held-at p s i (h ∷ hs) t = go (eqb h p) (eqb→eq h p) (held-at p (suc s) (suc i) hs) t
+held-at : (p s : ℕ) (hs : List ℕ) → heldFrom p s hs < s + length hs → (j : ℕ) × (heldFrom p s hs ≡ s + j) × (getD hs j 0 ≡ p)
+unfolding heldFrom
+held-at p s [] l = absurd (omega arith)
+held-at p s (h ∷ hs) l = go (eqb h p) (eqb→eq h p) (held-at p (suc s) hs) l
   where
     go : (b : Bool)
         → (T b → h ≡ p)
-        → (T (anyFrom (λ s h. eqb h p) (suc i) hs) → (j : ℕ) × (heldFrom p (suc s) hs ≡ suc s + j) × (getD hs j 0 ≡ p))
-        → T (b || anyFrom (λ s h. eqb h p) (suc i) hs)
+        → (heldFrom p (suc s) hs < suc s + length hs → (j : ℕ) × (heldFrom p (suc s) hs ≡ suc s + j) × (getD hs j 0 ≡ p))
+        → cond b s (heldFrom p (suc s) hs) < s + suc (length hs)
         → (j : ℕ) × (cond b s (heldFrom p (suc s) hs) ≡ s + j) × (getD (h ∷ hs) j 0 ≡ p)
-    go true f r t = (0, omega arith, f tt)
-    go false f r t = let q = r t in (suc (q .0), omega (arith, q .1), q .2)
+    go true f r l = (0, omega arith, f tt)
+    go false f r l = let q = r (omega arith) in (suc (q .0), omega (arith, q .1), q .2)
 
-pub held-holder : (l : Log) (p : ℕ) → T (holdsAny (l .holders) p) → holderOf l (heldStore l p) ≡ p
-held-holder l p t =
-    let q = held-at p 0 0 (l .holders) t in
+pub held-holder : (l : Log) (p : ℕ) → heldStore l p < length (l .holders) → holderOf l (heldStore l p) ≡ p
+held-holder l p h =
+    let q = held-at p 0 (l .holders) (omega arith) in
     let e : heldStore l p ≡ q .0 = omega (arith, q .1) in
     rw e (q .2)
-
--- what stands in a row and is not the default stands within it
-within-row : (hs : List ℕ) (j p : ℕ) → 0 < p → getD hs j 0 ≡ p → j < length hs
-within-row [] j p h e = absurd (omega arith)
-within-row (x ∷ hs) zero p h e = omega arith
-within-row (x ∷ hs) (suc j) p h e = let g = within-row hs j p h e in omega arith
-
-pub held-within : (l : Log) (p : ℕ) → 0 < p → T (holdsAny (l .holders) p) → heldStore l p < length (l .holders)
-held-within l p h t = within-row (l .holders) (heldStore l p) p h (held-holder l p t)

@@ -59,7 +59,7 @@ module _ {w : World} (R : Range w) where
 
   heard-range : (a : ℕ) (c : Coordinator) {d d′ : ℕ} {v v′ : Batch} → a < w .acceptors → d ≤ ballots → CoRange (w .acceptors) c
       → Higher (c .round) d v d′ v′
-      → CoRange (w .acceptors) (record { applied = c .applied; log = c .log; queue = c .queue; round = hearing (c .round) a d′ v′ })
+      → CoRange (w .acceptors) (record { applied = c .applied; queue = c .queue; round = hearing (c .round) a d′ v′ })
   heard-range a c l g o (theirs _) =
       record {
         applied = o .applied;

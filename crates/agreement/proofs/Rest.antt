@@ -5,17 +5,18 @@ use mathlib.Core.Logic.{_⊎_, inl, inr, _≢_}
 use mathlib.Core.Bool.{Bool, true, false, _&&_, not, cond}
 use mathlib.Core.List.{List, [], _∷_, _++_, List·Memᴰ}
 use native.Mathlib.Decide.{decLe}
+use native.Mathlib.Nat.{mod-lt}
 use native.Mathlib.Omega.{arith}
 use lib.Dec.{T, eqb}
 use lib.ListN.{List·getD-append, getD, length, length-append, length-take, set, take}
-use lib.Seq.{getD-at}
+use lib.Seq.{getD-at, getD-set-other, getD-set-same}
 use Rattle.entry.specs.declared.Entry.{Entry}
 use Rattle.entry.specs.Limits.{stores}
 use Rattle.commit_log.specs.declared.Log.{Log}
 use Rattle.commit_log.specs.declared.Outcome.{Outcome}
 use Rattle.commit_log.specs.declared.Replay.{Replay}
 use Rattle.commit_log.specs.Enter.{feed}
-use Rattle.commit_log.specs.Log.{holderOf}
+use Rattle.commit_log.specs.Log.{emptyLog, holderOf}
 use Rattle.commit_log.specs.Outcome.{isOpen, outcomeOf}
 use Rattle.commit_log.specs.Replay.{replayOf}
 use Rattle.steps.specs.Limits.{coordinators, instances}
@@ -31,7 +32,7 @@ use Rattle.protocol.specs.Coordinator.{batchToPropose, counting, learning}
 use Rattle.protocol.specs.Limits.{batchEntries, queuePlaces}
 use Rattle.protocol.specs.Queue.{firstBatch, leftBy, queueOf, queued, without}
 use Rattle.protocol.specs.Step.{heldStore}
-use Rattle.protocol.specs.World.{coordinatorOf, freshCoordinator}
+use Rattle.protocol.specs.World.{coordinatorOf, freshCoordinator, logOf}
 use Rattle.agreement.specs.Claim.{allEntries, plainLog}
 use Rattle.agreement.specs.Content.{Content, Paxos, accept, accepted, paxos, request, restore, tell}
 use Rattle.agreement.specs.History.{Applied, Before, Event, Happened, Majority, asked, delivered, earlier, now, restoring}
@@ -41,7 +42,7 @@ use Rattle.agreement.proofs.Grow.{Best, New, NewAll, chosen-up, kind, n
 use Rattle.agreement.proofs.Hist.{Hist}
 use Rattle.agreement.proofs.Inv.{Inv, Said, attempt, said-at, said-up}
 use Rattle.agreement.proofs.Local.{co-count, learns-chosen}
-use Rattle.agreement.proofs.Plain.{held-holder, held-within, plain-more}
+use Rattle.agreement.proofs.Plain.{held-holder, plain-more}
 use Rattle.agreement.proofs.Queue.{front-of, in-joined, in-take, in-without, without-shorter}
 use Rattle.agreement.proofs.Range.{Range}
 use Rattle.agreement.proofs.Sets.{majority→, with-lt}
@@ -110,16 +111,16 @@ module _ {n : ℕ} {h : List Event} {S : Paxos Batch → Type 0} {j : ℕ} where
   pub given-of : {p s i : ℕ} {r : Replay} → SentFact n h S j (restore p s i r) → Given n h S j p s i r
   given-of (given f) = f
 
-pub record CoFact (n : ℕ) (h : List Event) (S : Paxos Batch → Type 0) (c : Coordinator) : Type 0 where
-  pub fed : Fed n S (c .applied) (c .log)
+pub record CoFact (n : ℕ) (h : List Event) (S : Paxos Batch → Type 0) (c : Coordinator) (l : Log) : Type 0 where
+  pub fed : Fed n S (c .applied) l
   pub queue : (e : Entry) → List·Memᴰ e (queued (c .queue)) → Happened (asked e) h
 
-pub record RestOf (n : ℕ) (h : List Event) (ms : List Message) (k : ℕ) (coords : List Coordinator) : Type 0 where
+pub record RestOf (n : ℕ) (h : List Event) (ms : List Message) (k : ℕ) (coords : List Coordinator) (logs : List Log) : Type 0 where
   pub sent : {j : ℕ} {x : Content} → At ms k j x → SentFact n h (Said ms k) j x
-  pub cos : (i : ℕ) → CoFact n h (Said ms k) (getD coords i freshCoordinator)
+  pub cos : (i : ℕ) → CoFact n h (Said ms k) (getD coords i freshCoordinator) (getD logs i emptyLog)
 
 abbrev pub Rest : World → List Event → Type 0
-Rest w h = RestOf (w .acceptors) h (w .messages) (w .sent) (w .coordinators)
+Rest w h = RestOf (w .acceptors) h (w .messages) (w .sent) (w .coordinators) (w .logs)
 
 -- ---- a longer history, and more messages
 
@@ -160,7 +161,7 @@ module _ {n : ℕ} {S S′ : Paxos Batch → Type 0} (up : (m : Paxos Batch) →
       position = g .position;
     }
 
-    co-up : {c : Coordinator} → CoFact n h S c → CoFact n h′ S′ c
+    co-up : {c : Coordinator} {x : Log} → CoFact n h S c x → CoFact n h′ S′ c x
     co-up o = record { fed = fed-up (o .fed); queue = λ e t. asked-up l (o .queue e t) }
 
 fine-up : {h h′ : List Event} {v : Batch} → Later h h′ → Fine h v → Fine h′ v
@@ -174,12 +175,12 @@ fact-up up l (requested f) = requested (asked-up l f)
 fact-up up l (told f) = told (told-up up f)
 fact-up up l (given f) = given (given-up up l f)
 
-module _ {n : ℕ} {h h′ : List Event} {ms : List Message} {k : ℕ} {cos : List Coordinator} (O : RestOf n h ms k cos) (l : Later h h′) where
+module _ {n : ℕ} {h h′ : List Event} {ms : List Message} {k : ℕ} {cos : List Coordinator} {logs : List Log} (O : RestOf n h ms k cos logs) (l : Later h h′) where
   -- nothing is sent
   sent-same : {j : ℕ} {x : Content} → At ms k j x → SentFact n h′ (Said ms k) j x
   sent-same {j} {x} a = fact-up (λ m s. s) l (O .sent a)
 
-  cos-same : (i : ℕ) → CoFact n h′ (Said ms k) (getD cos i freshCoordinator)
+  cos-same : (i : ℕ) → CoFact n h′ (Said ms k) (getD cos i freshCoordinator) (getD logs i emptyLog)
   cos-same i = co-up (λ m s. s) l (O .cos i)
 
   module _ {ms′ : List Message} {k′ : ℕ} {P : ℕ → Content → Type 0} (p : Posts ms k ms′ k′ P) where
@@ -191,13 +192,13 @@ module _ {n : ℕ} {h h′ : List Event} {ms : List Message} {k : ℕ} {cos : Li
         go (inl t) = fact-up (said-up p) l (O .sent t)
         go (inr t) = f j x t
 
-    cos-more : (i : ℕ) → CoFact n h′ (Said ms′ k′) (getD cos i freshCoordinator)
+    cos-more : (i : ℕ) → CoFact n h′ (Said ms′ k′) (getD cos i freshCoordinator) (getD logs i emptyLog)
     cos-more i = co-up (said-up p) l (O .cos i)
 
-    rest-more : ((j : ℕ) (x : Content) → P j x → SentFact n h′ (Said ms′ k′) j x) → RestOf n h′ ms′ k′ cos
+    rest-more : ((j : ℕ) (x : Content) → P j x → SentFact n h′ (Said ms′ k′) j x) → RestOf n h′ ms′ k′ cos logs
     rest-more f = record { sent = sent-more f; cos = cos-more }
 
-  rest-same : RestOf n h′ ms k cos
+  rest-same : RestOf n h′ ms k cos logs
   rest-same = record { sent = sent-same; cos = cos-same }
 
 -- the one that is new
@@ -307,16 +308,26 @@ module _ {w : World} {h : List Event} (s : Shape w) (R : Range w) (I : Inv w) (H
   owner-in b = rw (s .co-row) (omega arith)
 
   co-set : {h′ : List Event} {ms : List Message} {c : ℕ} (k : ℕ) (x : Coordinator) → k < length (w .coordinators)
-      → CoFact (w .acceptors) h′ (Said ms c) x
-      → ((i : ℕ) → CoFact (w .acceptors) h′ (Said ms c) (coordinatorOf w i))
-      → (i : ℕ) → CoFact (w .acceptors) h′ (Said ms c) (getD (set (w .coordinators) k x) i freshCoordinator)
+      → CoFact (w .acceptors) h′ (Said ms c) x (logOf w k)
+      → ((i : ℕ) → CoFact (w .acceptors) h′ (Said ms c) (coordinatorOf w i) (logOf w i))
+      → (i : ℕ) → CoFact (w .acceptors) h′ (Said ms c) (getD (set (w .coordinators) k x) i freshCoordinator) (logOf w i)
   co-set {h′} {ms} {c} k x g o f =
-      set-ind (λ _ y. CoFact (w .acceptors) h′ (Said ms c) y) (w .coordinators) freshCoordinator k x g o (λ i _. f i)
+      set-ind (λ i y. CoFact (w .acceptors) h′ (Said ms c) y (logOf w i)) (w .coordinators) freshCoordinator k x g o (λ i _. f i)
+
+  -- a coordinator and its log change
+  both-set : {h′ : List Event} (k : ℕ) (x : Coordinator) (l : Log) → k < coordinators
+      → CoFact (w .acceptors) h′ S x l
+      → ((i : ℕ) → CoFact (w .acceptors) h′ S (coordinatorOf w i) (logOf w i))
+      → (i : ℕ) → CoFact (w .acceptors) h′ S (getD (set (w .coordinators) k x) i freshCoordinator) (getD (set (w .logs) k l) i emptyLog)
+  both-set {h′} k x l g o f =
+      set-ind (λ i y. CoFact (w .acceptors) h′ S y (getD (set (w .logs) k l) i emptyLog)) (w .coordinators) freshCoordinator k x (co-in g)
+      (subst (λ y. CoFact (w .acceptors) h′ S x y) (sym (getD-set-same (w .logs) k l emptyLog (rw (s .log-row) g))) o)
+      (λ i e. subst (λ y. CoFact (w .acceptors) h′ S (coordinatorOf w i) y) (sym (getD-set-other (w .logs) k i l emptyLog (λ q. e (sym q)))) (f i))
 
   learned-fact : {h′ : List Event} (b a : ℕ) → Later h h′
       → S (accepted (coordinatorOf w (owner b) .applied) (coordinatorOf w (owner b) .round .ballot) a)
       → Majority (w .acceptors) (counting (coordinatorOf w (owner b) .round) a .acceptances)
-      → CoFact (w .acceptors) h′ S (learning (coordinatorOf w (owner b)))
+      → CoFact (w .acceptors) h′ S (learning (coordinatorOf w (owner b))) (feed (logOf w (owner b)) (entriesOf (coordinatorOf w (owner b) .round .proposal)))
   unfolding learning
   learned-fact b a l r q =
       record {
@@ -347,14 +358,14 @@ module _ {w : World} {h : List Event} (s : Shape w) (R : Range w) (I : Inv w) (H
       }
   rest-move (tells k q tx ms c _ _ z p) = rest-more O same p (fact-one (told (told-up (said-up p) said)))
     where
-      said : Told (w .acceptors) S tx (outcomeOf (coordinatorOf w k .log) tx)
+      said : Told (w .acceptors) S tx (outcomeOf (logOf w k) tx)
       said =
           let f = O .cos k .fed in
           record { batches = f .batches; front = f .front; shut = z; is = ap (λ l. outcomeOf l tx) (f .is) }
   rest-move (restores k q ms c u _ z p) = rest-more O (more _) p (fact-one (given gave))
     where
       l : Log
-      l = coordinatorOf w k .log
+      l = logOf w k
 
       gave : Given (w .acceptors) (restoring k (w .sent) ∷ h) (Said ms c) (w .sent) q (heldStore l q) (coordinatorOf w k .applied) (replayOf l (heldStore l q))
       gave =
@@ -364,8 +375,8 @@ module _ {w : World} {h : List Event} (s : Shape w) (R : Range w) (I : Inv w) (H
             front = front-up (said-up p) (f .front);
             size = f .size;
             rows = ap (λ x. replayOf x (heldStore l q)) (f .is);
-            holder = ap (λ x. holderOf x (heldStore l q)) (sym (f .is)) ∙ held-holder l q z;
-            place = subst (λ n. heldStore l q < n) (row-length (f .batches) l (f .is)) (held-within l q u z);
+            holder = ap (λ x. holderOf x (heldStore l q)) (sym (f .is)) ∙ held-holder l q (subst (λ n. heldStore l q < n) (sym (row-length (f .batches) l (f .is))) z);
+            place = z;
             sender = k;
             then = h;
             sent = now;
@@ -391,7 +402,7 @@ module _ {w : World} {h : List Event} (s : Shape w) (R : Range w) (I : Inv w) (H
       record {
         sent = sent-same O (more _);
         cos =
-            co-set _ _ (owner-in b)
+            both-set (owner b) _ _ (mod-lt b (omega arith))
             (learned-fact b a (more _) (rw (f, e) at (said-at t))
             (majority→ (w .acceptors) _ (with-lt _ a _ (R .sent t .acceptor) (R .cos (owner b) .acceptances)) q))
             (cos-same O (more _));

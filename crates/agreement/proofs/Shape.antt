@@ -23,13 +23,14 @@ use Rattle.protocol.specs.Batch.{entriesOf, noEntry}
 use Rattle.protocol.specs.Coordinator.{learning}
 use Rattle.protocol.specs.Limits.{cellPlaces, processPlaces, queuePlaces}
 use Rattle.protocol.specs.Queue.{isFull, joined, leftBy, queueOf, queued, without}
-use Rattle.protocol.specs.World.{coordinatorOf, freshCoordinator, freshProcess, processOf, withCell, withCoordinator, withDown, withProcess}
+use Rattle.protocol.specs.World.{coordinatorOf, freshCoordinator, freshProcess, processOf}
 use Rattle.agreement.specs.Content.{Content}
 use Rattle.agreement.specs.History.{Event}
 use Rattle.agreement.proofs.Arrays.{set-all}
 use Rattle.agreement.proofs.Queue.{without-shorter}
 use Rattle.agreement.proofs.Trans.{Move, asks, counts, crashes, hears, is-told, joins, learns, opens, passes-accept, passes-accepted, passes-prepare, passes-promise, passes-request, passes-restore, promises, proposes, restores, takes, tells, votes}
 use Rattle.agreement.proofs.Wire.{Posts, posted}
+use Rattle.agreement.proofs.With.{withCell, withCoordinator, withDown, withLearned, withProcess}
 
 pub record QueueOk (q : Queue) : Type 0 where
   pub places : length (q .entries) ≡ queuePlaces
@@ -38,6 +39,7 @@ pub record QueueOk (q : Queue) : Type 0 where
 pub record Shape (w : World) : Type 0 where
   pub cell-row : length (w .cells) ≡ cellPlaces
   pub co-row : length (w .coordinators) ≡ coordinators
+  pub log-row : length (w .logs) ≡ coordinators
   pub process-row : length (w .processes) ≡ processPlaces
   pub message-row : length (w .messages) ≡ messages
   pub sent-most : w .sent ≤ messages
@@ -79,9 +81,22 @@ module _ {w : World} (s : Shape w) where
   co-changes k c ms n m q = record {
     cell-row = s .cell-row;
     co-row = length-set (w .coordinators) k c ∙ s .co-row;
+    log-row = s .log-row;
     process-row = s .process-row;
     message-row = m .0;
     sent-most = m .1;
+    heard = s .heard;
+    queues = queues-set k c q;
+  }
+
+  co-learns : (k : ℕ) (c : Coordinator) (b : Batch) → QueueOk (c .queue) → Shape (withLearned w k c b)
+  co-learns k c b q = record {
+    cell-row = s .cell-row;
+    co-row = length-set (w .coordinators) k c ∙ s .co-row;
+    log-row = length-set (w .logs) k _ ∙ s .log-row;
+    process-row = s .process-row;
+    message-row = s .message-row;
+    sent-most = s .sent-most;
     heard = s .heard;
     queues = queues-set k c q;
   }
@@ -92,6 +107,7 @@ module _ {w : World} (s : Shape w) where
   cell-changes a i x ms n m = record {
     cell-row = length-set (w .cells) (a * instances + i) x ∙ s .cell-row;
     co-row = s .co-row;
+    log-row = s .log-row;
     process-row = s .process-row;
     message-row = m .0;
     sent-most = m .1;
@@ -103,6 +119,7 @@ module _ {w : World} (s : Shape w) where
   process-changes p x o = record {
     cell-row = s .cell-row;
     co-row = s .co-row;
+    log-row = s .log-row;
     process-row = length-set (w .processes) p x ∙ s .process-row;
     message-row = s .message-row;
     sent-most = s .sent-most;
@@ -115,6 +132,7 @@ module _ {w : World} (s : Shape w) where
   only-sent d ms n m = record {
     cell-row = s .cell-row;
     co-row = s .co-row;
+    log-row = s .log-row;
     process-row = s .process-row;
     message-row = m .0;
     sent-most = m .1;
@@ -143,7 +161,7 @@ module _ {w : World} (s : Shape w) where
   shape-move (hears j i b a d v d′ v′ _ _ _ _) = co-changes (owner b) _ _ _ none-sent (s .queues (owner b))
   shape-move (passes-promise j i b a d v _) = s
   shape-move (counts j i b a _ _ _ _) = co-changes (owner b) _ _ _ none-sent (s .queues (owner b))
-  shape-move (learns j i b a _ _ _ _) = co-changes (owner b) _ _ _ none-sent (left-ok _ _ (s .queues (owner b)))
+  shape-move (learns j i b a _ _ _ _) = co-learns (owner b) _ (coordinatorOf w (owner b) .round .proposal) (left-ok _ _ (s .queues (owner b)))
   shape-move (passes-accepted j i b a _ _) = s
   shape-move (joins j k e _ f) = co-changes k _ _ _ none-sent (joins-ok k e f)
   shape-move (passes-request j k e _) = s

@@ -24,7 +24,7 @@ use Rattle.protocol.specs.declared.Batch.{Batch}
 use Rattle.protocol.specs.declared.World.{World}
 use Rattle.protocol.specs.Batch.{entriesOf, noBatch}
 use Rattle.protocol.specs.Step.{run}
-use Rattle.protocol.specs.World.{coordinatorOf, freshWorld}
+use Rattle.protocol.specs.World.{coordinatorOf, freshWorld, logOf}
 use Rattle.agreement.specs.Claim.{Demand3, IsSequence, RestoredWell, allEntries, batchAt, keptOf, plainLog}
 use Rattle.agreement.specs.Content.{Paxos, accept, paxos, request, restore, tell}
 use Rattle.agreement.specs.History.{Accepts, Applied, Decided, Event, Got, Happened, Majority, acceptors, asked, delivered, first, heardOf, here, history, later, opened, restoredOf, restoring, setup, there}
@@ -178,7 +178,7 @@ module _ {w : World} {h : List Event} (G : Good w h) where
   within : (k : ℕ) → coordinatorOf w k .applied ≤ length sequence
   within k = let f = G .rest .cos k .fed in omega (arith, front (f .batches) (f .front) .0, f .size)
 
-  log-is : (k : ℕ) → coordinatorOf w k .log ≡ plainLog (take (coordinatorOf w k .applied) sequence)
+  log-is : (k : ℕ) → logOf w k ≡ plainLog (take (coordinatorOf w k .applied) sequence)
   log-is k =
       let f = G .rest .cos k .fed in
       f .is ∙ ap (λ l. plainLog l) (front (f .batches) (f .front) .1 ∙ ap (λ x. take x sequence) (f .size))

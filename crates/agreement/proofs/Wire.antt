@@ -71,6 +71,7 @@ posted w ms k = record {
   acceptors = w .acceptors;
   cells = w .cells;
   coordinators = w .coordinators;
+  logs = w .logs;
   processes = w .processes;
   down = w .down;
   messages = ms;

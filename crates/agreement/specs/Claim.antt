@@ -17,7 +17,7 @@ use Rattle.protocol.specs.declared.Batch.{Batch}
 use Rattle.protocol.specs.declared.World.{World}
 use Rattle.protocol.specs.Batch.{entriesOf, noBatch}
 use Rattle.protocol.specs.Step.{run}
-use Rattle.protocol.specs.World.{coordinatorOf, freshWorld, processOf}
+use Rattle.protocol.specs.World.{coordinatorOf, freshWorld, logOf, processOf}
 use Rattle.agreement.specs.Content.{tell}
 use Rattle.agreement.specs.History.{Applied, Before, Decided, Event, Got, Happened, Restored, acceptors, asked, heardOf, history, restoredOf, restoring}
 
@@ -68,7 +68,7 @@ pub record Claim (steps : List Step) (h : List Event) (w : World) : Type 0 where
   pub applied : (k : ℕ) → Applied (acceptors h) k (coordinatorOf w k .applied) h
   pub applied-within : (k : ℕ) → coordinatorOf w k .applied ≤ length sequence
   -- "Every coordinator's log equals the plain log fed the first n batches, n being its applied count"
-  pub logs : (k : ℕ) → coordinatorOf w k .log ≡ plainLog (take (coordinatorOf w k .applied) sequence)
+  pub logs : (k : ℕ) → logOf w k ≡ plainLog (take (coordinatorOf w k .applied) sequence)
   -- "Each entry in the sequence was sent by the process it names", with all its values
   pub entries : (i : ℕ) → i < length sequence → (e : Entry) → List·Memᴰ e (entriesOf (batchAt sequence i)) → Happened (asked e) h
   -- "Each outcome a process heard is that of the plain log fed the whole sequence"

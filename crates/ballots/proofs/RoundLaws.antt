@@ -4,9 +4,9 @@ use mathlib.Core.Path.{_≡_}
 use Rattle.protocol.specs.Coordinator.{withRound}
 use Rattle.protocol.specs.declared.Message.{Message}
 use Rattle.protocol.specs.declared.Round.{Round}
-use Rattle.transition.specs.Change.{coordinatorNow, sending}
-use Rattle.transition.specs.declared.Change.{Change}
-use Rattle.transition.specs.declared.Parts.{Parts}
+use Rattle.protocol.specs.Change.{coordinatorNow, sending}
+use Rattle.protocol.specs.declared.Change.{Change}
+use Rattle.protocol.specs.declared.Parts.{Parts}
 
 abbrev roundSent : Parts → ℕ → Round → Message → Change
 roundSent p n r m = sending (coordinatorNow p (withRound (p .coordinator) r)) n m

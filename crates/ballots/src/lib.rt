@@ -1,33 +1,36 @@
 // The steps of a ballot: open and propose.
+ghost use mathlib.Core.Bool.{_||_};
 ghost use mathlib.Core.Path.{_≡_};
+ghost use lib.Dec.{eqb};
 ghost use Rattle.steps.specs.declared.Step.the-variants.{Open, Propose};
+ghost use Rattle.protocol.specs.Step.{cannotOpen, cannotPropose};
 ghost use Rattle.transition.specs.Plan.{planOf};
-ghost use Rattle.transition.specs.Refusal.{ballotBarred, proposalBarred};
 use coordinator::fresh;
 use coordinator::round;
 use messages::message;
 use messages::parties;
 use messages::send;
-use protocol::Round;
+use protocol::Change;
+use protocol::Coordinator;
+use protocol::Parts;
 use steps::Role;
-use transition::Change;
-use transition::Parts;
 use transition::changes;
 use transition::refusal;
 
-fn ballot_barred(n: u8, applied: u8, last: u8, coord: u8, inst: u8, ballot: u8) -> bool
-    ensures { λ r. ⌜ r ≡ ballotBarred n applied last coord inst ballot ⌝ }
+// Whether coordinator k, of number coord, may not open the ballot.
+fn ballot_barred(n: u8, k: Coordinator, coord: u8, inst: u8, ballot: u8) -> bool
+    ensures { λ r. ⌜ r ≡ (eqb n 0 || cannotOpen k coord inst ballot) ⌝ }
 {
     if n == 0 {
         return true;
     }
-    if inst != applied {
+    if inst != k.applied {
         return true;
     }
     if parties::owner(ballot) != coord {
         return true;
     }
-    ballot <= last
+    ballot <= k.round.ballot
 }
 
 pub fn open(mut p: Parts, coord: u8, inst: u8, ballot: u8) -> Change
@@ -36,7 +39,7 @@ pub fn open(mut p: Parts, coord: u8, inst: u8, ballot: u8) -> Change
     let n = p.acceptors;
     let mut c = p.coordinator;
     let down = parties::is_down(p.down, Role::Coord, coord);
-    let barred = ballot_barred(n, c.applied, c.round.ballot, coord, inst, ballot);
+    let barred = ballot_barred(n, c, coord, inst, ballot);
     let answer = refusal::first_of(false, down, barred, send::lacks_numbers(p.sent, n), false);
     if answer != 0 {
         return changes::still(p, answer);
@@ -46,28 +49,29 @@ pub fn open(mut p: Parts, coord: u8, inst: u8, ballot: u8) -> Change
     changes::sending(p, n, message::prepare_to(inst, ballot, 0))
 }
 
-fn proposal_barred(n: u8, applied: u8, r: Round, queued: u8, inst: u8, ballot: u8) -> bool
-    ensures { λ b. ⌜ b ≡ proposalBarred n applied r queued inst ballot ⌝ }
+// Whether coordinator k may not propose.
+fn proposal_barred(n: u8, k: Coordinator, inst: u8, ballot: u8) -> bool
+    ensures { λ r. ⌜ r ≡ (eqb n 0 || cannotPropose n k inst ballot) ⌝ }
 {
     if n == 0 {
         return true;
     }
-    if inst != applied {
+    if inst != k.applied {
         return true;
     }
-    if ballot != r.ballot {
+    if ballot != k.round.ballot {
         return true;
     }
-    if !round::is_majority(n, r.promises) {
+    if !round::is_majority(n, k.round.promises) {
         return true;
     }
-    if r.proposed {
+    if k.round.proposed {
         return true;
     }
-    if r.held != 0 {
+    if k.round.held != 0 {
         return false;
     }
-    queued == 0
+    k.queue.count == 0
 }
 
 pub fn propose(mut p: Parts, coord: u8, inst: u8, ballot: u8) -> Change
@@ -76,7 +80,7 @@ pub fn propose(mut p: Parts, coord: u8, inst: u8, ballot: u8) -> Change
     let n = p.acceptors;
     let mut c = p.coordinator;
     let down = parties::is_down(p.down, Role::Coord, coord);
-    let barred = proposal_barred(n, c.applied, c.round, c.queue.count, inst, ballot);
+    let barred = proposal_barred(n, c, inst, ballot);
     let answer = refusal::first_of(false, down, barred, send::lacks_numbers(p.sent, n), false);
     if answer != 0 {
         return changes::still(p, answer);

@@ -1,5 +1,6 @@
 -- One turn of the loop over a block's orders.
-use Prim.Native.Nat.{ℕ, suc, _<_, _≤_, _+_, _-_, _%_, min}
+use Prim.Native.Nat.{ℕ, suc, _<_, _≤_, _+_, _*_, _-_, _%_, min}
+use mathlib.Core.Bool.{false, true≢false}
 use mathlib.Core.List.{List, [], _∷_}
 use mathlib.Core.Path.{_≡_, ap, refl, sym, _∙_}
 use native.Mathlib.Nat.{mod-lt}
@@ -8,47 +9,65 @@ use native.Mathlib.Omega.{arith}
 use denote.Laws.{Is}
 use denote.Struct.Declared.{row}
 use lib.ListN.{drop, getD, length, length-map, length-set, replicate, set, take}
-use lib.Seq.{sets}
+use lib.Seq.{set-getD, sets}
 use mir.Val.{Val}
 use Rattle.commit_log.proofs.InList.{in-list}
+use Rattle.commit_log.specs.declared.Log.{Log}
+use Rattle.commit_log.specs.Enter.{feed}
+use Rattle.commit_log.specs.Log.{emptyLog}
 use Rattle.steps.specs.declared.Step.{Step}
 use Rattle.steps.specs.declared.Step.the-variants.{Setup, Request, Open, Propose, Deliver, Tell, Restore, Crash}
-use Rattle.steps.specs.Limits.{coordinators, messages}
+use Rattle.steps.specs.Limits.{coordinators, instances, messages}
 use Rattle.protocol.proofs.World.{the-type as world-type}
+use Rattle.protocol.specs.declared.Batch.{Batch}
 use Rattle.protocol.specs.declared.Cell.{Cell}
+use Rattle.protocol.specs.declared.Change.{Change}
 use Rattle.protocol.specs.declared.Coordinator.{Coordinator}
 use Rattle.protocol.specs.declared.Message.{Message}
+use Rattle.protocol.specs.declared.Parts.{Parts}
+use Rattle.protocol.specs.declared.Places.{Places}
 use Rattle.protocol.specs.declared.Process.{Process}
 use Rattle.protocol.specs.declared.Stepped.{Stepped}
 use Rattle.protocol.specs.declared.World.{World}
+use Rattle.protocol.specs.Ballot.{owner}
+use Rattle.protocol.specs.Batch.{entriesOf}
+use Rattle.protocol.specs.Change.{parts}
+use Rattle.protocol.specs.declared.Kind.{Kind}
+use Rattle.protocol.specs.declared.Kind.the-variants as kind
 use Rattle.protocol.specs.Limits.{cellPlaces, processPlaces}
-use Rattle.protocol.specs.Send.{sendToAll}
-use Rattle.protocol.specs.Step.{answered, stepOf}
-use Rattle.protocol.specs.World.{emptyCell, freshCoordinator, freshProcess, withMessage}
+use Rattle.protocol.specs.Places.{deliveryPlaces, messageAt, placesOf}
+use Rattle.protocol.specs.Send.{addressed, copyOf, sendToAll}
+use Rattle.protocol.specs.Step.{answered, deliveredIn, messageFor, partsAt, putBack, stepOf}
+use Rattle.protocol.specs.World.{coordinatorOf, emptyCell, freshCoordinator, freshProcess, logOf, withMessage}
 use Rattle.coordinator.proofs.FrontLaws.{front-end, front-step}
-use Rattle.messages.specs.Addressed.{addressed}
-use Rattle.transition.specs.declared.Change.{Change}
-use Rattle.transition.specs.declared.Parts.{Parts}
-use Rattle.transition.specs.declared.Places.{Places}
-use Rattle.transition.specs.Change.{parts}
-use Rattle.transition.specs.Places.{messageAt, placesOf}
+use Rattle.transition.specs.Asks.{asksLog}
+use Rattle.cluster.specs.Changed.{changeIn}
 use Rattle.cluster.proofs.Block.{the-type as block-type}
 use Rattle.cluster.specs.declared.Advanced.{Advanced}
 use Rattle.cluster.specs.declared.Block.{Block}
 use Rattle.cluster.specs.declared.Order.{Order}
-use Rattle.cluster.specs.Kept.{changeIn}
 use Rattle.cluster.specs.Orders.{advanced, answersTo, blockOrders, ordered, ordersOf, worldAfter}
-use Rattle.cluster.specs.Stored.{copyOf, deliveredIn}
-use Rattle.cluster.proofs.KeptLaws.{Lengths, change-fits, order-is, putAndSent, putWrapped, wrapped}
+use Rattle.cluster.proofs.Room.{order-fits}
+use Rattle.cluster.proofs.Stepping.{order-is, stored}
 
 -- ---- lengths
+
+-- the arrays of a world have their lengths
+abbrev pub Lengths : World → Type 0
+Lengths w =
+    (length (w .cells) ≡ cellPlaces)
+    × (length (w .coordinators) ≡ coordinators)
+    × (length (w .logs) ≡ coordinators)
+    × (length (w .processes) ≡ processPlaces)
+    × (length (w .messages) ≡ messages)
 
 pub world-lengths : (w : World) (vs : List Val) → Is (row world-type) w vs → Lengths w
 world-lengths w vs g = (
   simp length-map at (g .1 .1 .1 .0 .1 .0 .1),
   simp length-map at (g .1 .1 .1 .1 .0 .1 .0 .1),
   simp length-map at (g .1 .1 .1 .1 .1 .0 .1 .0 .1),
-  simp length-map at (g .1 .1 .1 .1 .1 .1 .1 .0 .1 .0 .1),
+  simp length-map at (g .1 .1 .1 .1 .1 .1 .0 .1 .0 .1),
+  simp length-map at (g .1 .1 .1 .1 .1 .1 .1 .1 .0 .1 .0 .1),
 )
 
 pub block-length : (b : Block) (vs : List Val) → Is (row block-type) b vs → length (b .orders) ≡ blockOrders
@@ -64,29 +83,117 @@ message-inside (Tell c p tx) = omega arith
 message-inside (Restore c p) = omega arith
 message-inside (Crash role id) = omega arith
 
+-- the world has every place of a step
+abbrev pub There : Places → Type 0
+There at = (at .coordinator < coordinators) × (at .cell < cellPlaces) × (at .process < processPlaces)
+
+there : (c x h : ℕ) → There (record { coordinator = c % coordinators; cell = x % cellPlaces; process = h % processPlaces })
+there c x h = (mod-lt c (omega arith), mod-lt x (omega arith), mod-lt h (omega arith))
+
+delivery-there : (m : Message) (k : Kind) → There (deliveryPlaces m k)
+delivery-there m kind.Request = there (m .to) 0 0
+delivery-there m kind.Prepare = there 0 (m .acceptor * instances + m .inst) 0
+delivery-there m kind.Accept = there 0 (m .acceptor * instances + m .inst) 0
+delivery-there m kind.Promise = there (owner (m .ballot)) 0 0
+delivery-there m kind.Accepted = there (owner (m .ballot)) 0 0
+delivery-there m kind.Tell = there 0 0 (m .to)
+delivery-there m kind.Restore = there 0 0 (m .to)
+
+step-there : (s : Step) (m : Message) → There (placesOf s m)
+unfolding placesOf
+step-there (Setup n) m = there 0 0 0
+step-there (Request e to) m = there 0 0 (e .process)
+step-there (Open c i b) m = there c 0 0
+step-there (Propose c i b) m = there c 0 0
+step-there (Deliver k) m = delivery-there m (m .kind)
+step-there (Tell c p tx) m = there c 0 0
+step-there (Restore c p) m = there c 0 0
+step-there (Crash role id) m = there 0 0 0
+
+pub places-there : (at : Places) (s : Step) (m : Message) → at ≡ placesOf s m → There at
+places-there at s m e = rw e (step-there s m)
+
 -- ---- what is read of the world
 
 module _ (w : World) (long : Lengths w) where
   pub delivered-is : (s : Step) (n : ℕ) (d : Message) → n ≡ messageAt s → getD (w .messages) n d ≡ deliveredIn w s
   delivered-is s n d e =
       let h = message-inside s in
-      ap (λ (i : ℕ). getD (w .messages) i d) e ∙ in-list (w .messages) (messageAt s) d _ (omega (arith, long .3, h))
+      ap (λ (i : ℕ). getD (w .messages) i d) e ∙ in-list (w .messages) (messageAt s) d _ (omega (arith, long .4, h))
 
-  pub parts-are : (at : Places) (m : Message) (c : Coordinator) (x : Cell) (h : Process)
-      → parts (w .acceptors) (w .sent) (w .down) (getD (w .coordinators) (at .coordinator % coordinators) c) (getD (w .cells) (at .cell % cellPlaces) x) (getD (w .processes) (at .process % processPlaces) h) m
-      ≡ wrapped w at m
-  parts-are at m c x h =
-      let hc : at .coordinator % coordinators < coordinators = mod-lt (at .coordinator) (omega arith) in
-      let hx : at .cell % cellPlaces < cellPlaces = mod-lt (at .cell) (omega arith) in
-      let hh : at .process % processPlaces < processPlaces = mod-lt (at .process) (omega arith) in
+  pub parts-are : (at : Places) (m : Message) (c : Coordinator) (x : Cell) (h : Process) → There at
+      → parts (w .acceptors) (w .sent) (w .down) (getD (w .coordinators) (at .coordinator) c) (getD (w .cells) (at .cell) x) (getD (w .processes) (at .process) h) m
+      ≡ partsAt w at m
+  parts-are at m c x h here =
       λ i. parts
       (w .acceptors)
       (w .sent)
       (w .down)
-      (in-list (w .coordinators) (at .coordinator % coordinators) c freshCoordinator (omega (arith, long .1, hc)) i)
-      (in-list (w .cells) (at .cell % cellPlaces) x emptyCell (omega (arith, long .0, hx)) i)
-      (in-list (w .processes) (at .process % processPlaces) h freshProcess (omega (arith, long .2, hh)) i)
+      (in-list (w .coordinators) (at .coordinator) c freshCoordinator (omega (arith, long .1, here .0)) i)
+      (in-list (w .cells) (at .cell) x emptyCell (omega (arith, long .0, here .1)) i)
+      (in-list (w .processes) (at .process) h freshProcess (omega (arith, long .3, here .2)) i)
       m
+
+  -- ---- the message of the step
+
+  pub said-is : (s : Step) (at : Places) (d : Message) (l : Log) (k : Coordinator) (m : Message) → There at
+      → m ≡ messageFor s d (getD (w .logs) (at .coordinator) l) (getD (w .coordinators) (at .coordinator) k .applied)
+      → m ≡ messageFor s d (logOf w (at .coordinator)) (coordinatorOf w (at .coordinator) .applied)
+  said-is s at d l k m here is =
+      is
+      ∙ (λ i. messageFor s d
+      (in-list (w .logs) (at .coordinator) l emptyLog (omega (arith, long .2, here .0)) i)
+      (in-list (w .coordinators) (at .coordinator) k freshCoordinator (omega (arith, long .1, here .0)) i .applied))
+
+-- a step that asks no log is about the message delivered
+pub not-asked : (s : Step) (d : Message) (l : Log) (n : ℕ) → asksLog s ≡ false → d ≡ messageFor s d l n
+unfolding messageFor
+not-asked (Setup k) d l n h = refl
+not-asked (Request e to) d l n h = refl
+not-asked (Open c i b) d l n h = refl
+not-asked (Propose c i b) d l n h = refl
+not-asked (Deliver m) d l n h = refl
+not-asked (Tell c p tx) d l n h = absurd (true≢false h)
+not-asked (Restore c p) d l n h = absurd (true≢false h)
+not-asked (Crash role id) d l n h = refl
+
+-- ---- the world with the parts stored, before the log is fed
+
+abbrev pub partsStored : World → Places → Parts → World
+partsStored w at p = record {
+  acceptors = p .acceptors;
+  cells = set (w .cells) (at .cell) (p .cell);
+  coordinators = set (w .coordinators) (at .coordinator) (p .coordinator);
+  logs = w .logs;
+  processes = set (w .processes) (at .process) (p .process);
+  down = p .down;
+  messages = w .messages;
+  sent = w .sent;
+}
+
+abbrev withLogs : World → List Log → World
+withLogs w ls = record {
+  acceptors = w .acceptors;
+  cells = w .cells;
+  coordinators = w .coordinators;
+  logs = ls;
+  processes = w .processes;
+  down = w .down;
+  messages = w .messages;
+  sent = w .sent;
+}
+
+module _ (w : World) (at : Places) (p : Parts) (b : Batch) where
+  -- where nothing was learned the log stays
+  pub none-fed : b .count ≡ 0 → partsStored w at p ≡ putBack w at p b
+  unfolding feed
+  none-fed h = ap (λ (ls : List Log). withLogs (partsStored w at p) ls) (rw h (sym (set-getD (w .logs) (at .coordinator) emptyLog)))
+
+  pub log-fed : (l : Log) (fed : Log) → Lengths w → There at → fed ≡ feed (getD (w .logs) (at .coordinator) l) (entriesOf b)
+      → withLogs (partsStored w at p) (set (w .logs) (at .coordinator) fed) ≡ putBack w at p b
+  log-fed l fed long here is =
+      ap (λ (x : Log). withLogs (partsStored w at p) (set (w .logs) (at .coordinator) x))
+      (is ∙ ap (λ (x : Log). feed x (entriesOf b)) (in-list (w .logs) (at .coordinator) l emptyLog (omega (arith, long .2, here .0))))
 
 -- ---- messages sent one after the other
 
@@ -127,17 +234,21 @@ module _ (m₀ : Message) where
 
 -- ---- one order
 
-module _ (w : World) (o : Order) (long : Lengths w) (m : Message) (at : Places) (p : Parts) where
-  read-order : m ≡ deliveredIn w (o .step) → at ≡ placesOf (o .step) m → p ≡ wrapped w at m → putAndSent w at (changeIn o at p) ≡ ordered w o
-  read-order em ea ep = rw (ep, ea, em) (order-is w o long)
+module _ (w : World) (o : Order) (d m : Message) (at : Places) (p : Parts) where
+  read-order : d ≡ deliveredIn w (o .step) → at ≡ placesOf (o .step) d
+      → m ≡ messageFor (o .step) d (logOf w (at .coordinator)) (coordinatorOf w (at .coordinator) .applied)
+      → p ≡ partsAt w at m → stored w at (changeIn o p) ≡ ordered w o
+  read-order ed ea em ep = rw (ep, em, ea, ed) (order-is w o)
 
-  pub order-taken : (ch : Change) (i : ℕ) (v : World) → m ≡ deliveredIn w (o .step) → at ≡ placesOf (o .step) m → p ≡ wrapped w at m
-      → ch ≡ changeIn o at p → i ≡ ch .count → v ≡ sendToAll (putWrapped w at (ch .parts)) i (copyOf (ch .message))
+  pub order-taken : (ch : Change) (i : ℕ) (v : World) → d ≡ deliveredIn w (o .step) → at ≡ placesOf (o .step) d
+      → m ≡ messageFor (o .step) d (logOf w (at .coordinator)) (coordinatorOf w (at .coordinator) .applied)
+      → p ≡ partsAt w at m → ch ≡ changeIn o p → i ≡ ch .count
+      → v ≡ sendToAll (putBack w at (ch .parts) (ch .learned)) i (copyOf (ch .message))
       → answered v (ch .answer) ≡ ordered w o
-  order-taken ch i v em ea ep ec ei ev =
-      ap (λ (x : World). answered x (ch .answer)) (ev ∙ ap (λ (k : ℕ). sendToAll (putWrapped w at (ch .parts)) k (copyOf (ch .message))) ei)
-      ∙ ap (λ (x : Change). putAndSent w at x) ec
-      ∙ read-order em ea ep
+  order-taken ch i v ed ea em ep ec ei ev =
+      ap (λ (x : World). answered x (ch .answer)) (ev ∙ ap (λ (k : ℕ). sendToAll (putBack w at (ch .parts) (ch .learned)) k (copyOf (ch .message))) ei)
+      ∙ ap (λ (x : Change). stored w at x) ec
+      ∙ read-order ed ea em ep
 
 -- ---- the orders of a block
 
@@ -161,14 +272,14 @@ module _ (xs : List Order) (n k : ℕ) (hn : k < n) (hx : k < length xs) (d : Or
 pub message-small : (n : ℕ) (s : Step) → n ≡ messageAt s → n < messages
 message-small n s e = let h = message-inside s in omega (arith, e, h)
 
-pub put-lengths : (w : World) (at : Places) (p : Parts) → Lengths w → Lengths (putWrapped w at p)
-put-lengths w at p long = (rw length-set (long .0), rw length-set (long .1), rw length-set (long .2), long .3)
+pub put-lengths : (w : World) (at : Places) (p : Parts) (b : Batch) → Lengths w → Lengths (putBack w at p b)
+put-lengths w at p b long = (rw length-set (long .0), rw length-set (long .1), rw length-set (long .2), rw length-set (long .3), long .4)
 
 pub sent-lengths : (w : World) (m : Message) → Lengths w → Lengths (withMessage w m)
-sent-lengths w m long = (long .0, long .1, long .2, rw length-set (long .3))
+sent-lengths w m long = (long .0, long .1, long .2, long .3, rw length-set (long .4))
 
-pub count-fits : (ch : Change) (o : Order) (at : Places) (p : Parts) → ch ≡ changeIn o at p → ch .count ≤ messages - p .sent
-count-fits ch o at p e = rw e (change-fits o at p)
+pub count-fits : (ch : Change) (o : Order) (p : Parts) → ch ≡ changeIn o p → ch .count ≤ messages - p .sent
+count-fits ch o p e = rw e (order-fits o p)
 
 -- at the end of the loop all orders of the block are taken
 pub block-done : (w₀ w : World) (b : Block) (answers : List ℕ) (n k : ℕ) → length (b .orders) ≡ blockOrders → n ≡ min (b .count) blockOrders → n ≤ k

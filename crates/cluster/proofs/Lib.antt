@@ -1,8 +1,4 @@
-pub mod PutBack
-pub mod Refusals
-pub mod Changes
+pub mod AdvanceLaws
+pub mod ChangeLaws
 pub mod Room
 pub mod Stepping
-pub mod KeptLaws
-pub mod ChangeLaws
-pub mod AdvanceLaws

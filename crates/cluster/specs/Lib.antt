@@ -1,3 +1,2 @@
-pub mod Kept
+pub mod Changed
 pub mod Orders
-pub mod Stored

@@ -7,11 +7,11 @@ use crate::Advanced;
 use crate::Block;
 use crate::Order;
 use crate::plan;
+use coordinator::learn;
+use protocol::Parts;
 use protocol::Stepped;
 use protocol::World;
 use steps::Step;
-use steps::limits::COORDINATORS;
-use transition::Parts;
 use transition::place;
 
 fn at_most(count: u8) -> u8
@@ -35,19 +35,25 @@ pub fn advance(mut w: World, block: Block) -> Advanced
         let s = o.step;
         let delivered = w.messages[place::message_at(s) as usize];
         let at = place::places(s, delivered);
-        let c = (at.coordinator % COORDINATORS) as usize;
-        let x = at.cell % 80;
-        let h = (at.process % 16) as usize;
+        let c = at.coordinator as usize;
+        let x = at.cell;
+        let h = at.process as usize;
+        let coordinator = w.coordinators[c];
+        let mut message = delivered;
+        if place::asks_log(s) {
+            let log = w.logs[c];
+            message = requests::said(s, delivered, log, coordinator.applied);
+        }
         let p = Parts {
             acceptors: w.acceptors,
             sent: w.sent,
             down: w.down,
-            coordinator: w.coordinators[c],
+            coordinator: coordinator,
             cell: w.cells[x],
             process: w.processes[h],
-            message: delivered,
+            message: message,
         };
-        let change = plan::change(o, at, p);
+        let change = plan::change(o, p);
         let after = change.parts;
         w.acceptors = after.acceptors;
         let down = after.down;
@@ -58,6 +64,11 @@ pub fn advance(mut w: World, block: Block) -> Advanced
         w.cells[x] = cell;
         let process = after.process;
         w.processes[h] = process;
+        let learned = change.learned;
+        if learned.count != 0 {
+            let log = w.logs[c];
+            w.logs[c] = learn::fed(log, learned);
+        }
         let mut m = change.message;
         let mut i: u8 = 0;
         while i < change.count {

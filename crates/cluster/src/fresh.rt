@@ -1,6 +1,7 @@
 // The fresh world: no setup, all up, nothing sent, queues and logs empty.
 ghost use mathlib.Core.Path.{_≡_};
 ghost use Rattle.protocol.specs.World.{allUp, emptyCell, freshProcess, freshWorld};
+use commit_log::Log;
 use commit_log::Outcome;
 use coordinator::fresh::fresh_coordinator;
 use coordinator::fresh::no_batch;
@@ -52,12 +53,14 @@ pub fn fresh_world() -> World
 {
     let cell = empty_cell();
     let coordinator = fresh_coordinator();
+    let log = Log::empty();
     let process = fresh_process();
     let none = request_to(0, no_entry());
     World {
         acceptors: 0,
         cells: [cell; 80],
         coordinators: [coordinator; 3],
+        logs: [log; 3],
         processes: [process; 16],
         down: all_up(),
         messages: [none; 128],

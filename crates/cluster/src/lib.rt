@@ -1,7 +1,6 @@
 // The world: its steps.
 pub mod advance;
 pub mod fresh;
-mod kept;
 mod plan;
 
 use protocol::World;

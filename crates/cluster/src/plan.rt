@@ -1,18 +1,14 @@
 // What an order does to the parts of the world that it touches.
 ghost use mathlib.Core.Path.{_≡_};
-ghost use mathlib.Core.Bool.{cond};
-ghost use lib.Dec.{eqb};
-ghost use Rattle.steps.specs.Limits.{mostAcceptors};
+ghost use Rattle.protocol.specs.Step.{acceptorsCounted};
 ghost use Rattle.transition.specs.Plan.{planOf};
-ghost use Rattle.cluster.specs.Kept.{changeIn};
+ghost use Rattle.cluster.specs.Changed.{changeIn};
 use crate::Order;
-use crate::kept;
 use entry::refusal::OUTSIDE_LIMITS;
+use protocol::Change;
+use protocol::Parts;
 use steps::Step;
 use steps::limits;
-use transition::Change;
-use transition::Parts;
-use transition::Places;
 use transition::changes;
 
 // What a step does, its numbers being within their limits.
@@ -41,7 +37,7 @@ fn plan(p: Parts, s: Step) -> Change
 
 // Before setup five acceptors count.
 fn counted(acceptors: u8) -> u8
-    ensures { λ r. ⌜ r ≡ cond (eqb acceptors 0) mostAcceptors acceptors ⌝ }
+    ensures { λ r. ⌜ r ≡ acceptorsCounted acceptors ⌝ }
 {
     if acceptors == 0 {
         return limits::MOST_ACCEPTORS;
@@ -49,9 +45,8 @@ fn counted(acceptors: u8) -> u8
     acceptors
 }
 
-// The parts p stand at these places, or at others where there are no such places.
-pub fn change(o: Order, at: Places, p: Parts) -> Change
-    ensures { λ r. ⌜ r ≡ changeIn o at p ⌝ }
+pub fn change(o: Order, p: Parts) -> Change
+    ensures { λ r. ⌜ r ≡ changeIn o p ⌝ }
 {
     if o.refused != 0 {
         return changes::still(p, o.refused);
@@ -60,10 +55,5 @@ pub fn change(o: Order, at: Places, p: Parts) -> Change
     if limits::outside(counted(p.acceptors), s) {
         return changes::still(p, OUTSIDE_LIMITS);
     }
-    if kept::are_there(at) {
-        return plan(p, s);
-    }
-    let mut c = plan(kept::standing(at, p), s);
-    c.parts = kept::kept(at, c.parts, p);
-    c
+    plan(p, s)
 }

@@ -14,7 +14,7 @@ use Rattle.protocol.specs.declared.Queue.{Queue}
 use Rattle.protocol.specs.Batch.{batchOf, entriesOf, noEntry}
 use Rattle.protocol.specs.Limits.{batchEntries, queuePlaces}
 use Rattle.protocol.specs.Queue.{firstBatch, isFull, isIn, joined, leftBy, queueOf, queued, without}
-use Rattle.coordinator.specs.Join.{joining}
+use Rattle.protocol.specs.Queue.{joining}
 use Rattle.coordinator.proofs.FrontLaws.{front-end, front-step}
 
 -- ---- the i-th of the first m, where there is one

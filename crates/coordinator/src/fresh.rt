@@ -4,7 +4,6 @@ ghost use mathlib.Core.Path.{_≡_};
 ghost use Rattle.protocol.specs.Batch.{noBatch, noEntry};
 ghost use Rattle.protocol.specs.Queue.{queueOf};
 ghost use Rattle.protocol.specs.World.{freshCoordinator, newRound};
-use commit_log::Log;
 use entry::Entry;
 use protocol::Batch;
 use protocol::Coordinator;
@@ -67,7 +66,6 @@ pub fn fresh_coordinator() -> Coordinator
 {
     Coordinator {
         applied: 0,
-        log: Log::empty(),
         queue: empty_queue(),
         round: new_round(0),
     }

@@ -1,7 +1,7 @@
 // A coordinator's queue.
 ghost use mathlib.Core.Path.{_≡_};
 ghost use Rattle.protocol.specs.Queue.{firstBatch, isFull, isIn, leftBy, queued};
-ghost use Rattle.coordinator.specs.Join.{joining};
+ghost use Rattle.protocol.specs.Queue.{joining};
 use crate::fresh::no_entry;
 use crate::limits::BATCH_ENTRIES;
 use crate::limits::least;

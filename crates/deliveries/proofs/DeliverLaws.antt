@@ -3,22 +3,24 @@ use Prim.Native.Nat.{ℕ}
 use mathlib.Core.Bool.{Bool, false}
 use mathlib.Core.Path.{_≡_, refl}
 use lib.Dec.{eqb, leb}
+use Rattle.entry.specs.Refusal.{firstRefusal}
 use Rattle.steps.specs.declared.Step.the-variants.{Deliver}
-use Rattle.messages.specs.Parts.{receiverDownOf}
-use Rattle.transition.specs.declared.Parts.{Parts}
-use Rattle.transition.specs.Change.{still}
-use Rattle.transition.specs.Handed.{handed}
-use Rattle.transition.specs.Plan.{changeOf, planOf}
-use Rattle.transition.specs.Refusal.{firstOf, placeless, refusalIn}
+use Rattle.protocol.specs.declared.Parts.{Parts}
+use Rattle.protocol.specs.Change.{still}
+use Rattle.protocol.specs.Deliver.{handed, noPlaceFor, receiverDown}
+use Rattle.protocol.specs.Step.{changeOf, stepChecks}
+use Rattle.transition.specs.Plan.{planOf, refusalIn}
+use Rattle.transition.specs.Refusal.{firstOf}
 use Rattle.transition.proofs.PlanLaws.{done-is, refused-is, same-first}
 
 module _ (p : Parts) (msg : ℕ) where
   pub first-refusal : (down full : Bool)
-      → down ≡ receiverDownOf (p .down) (p .message) (p .message .kind)
-      → full ≡ placeless p (p .message .kind)
+      → down ≡ receiverDown (p .down) (p .message) (p .message .kind)
+      → full ≡ noPlaceFor p (p .message .kind)
       → firstOf (leb (p .sent) msg) down (eqb (p .acceptors) 0) full false ≡ refusalIn p (Deliver msg)
-  unfolding refusalIn
-  first-refusal down full down-is full-is = same-first _ _ _ _ _ _ _ _ _ _ refl down-is refl full-is refl
+  unfolding stepChecks firstRefusal
+  first-refusal down full down-is full-is =
+      same-first (leb (p .sent) msg) (leb (p .sent) msg) _ _ (eqb (p .acceptors) 0) (eqb (p .acceptors) 0) _ _ false false refl down-is refl full-is refl
 
   module _ (n : ℕ) (is : n ≡ refusalIn p (Deliver msg)) where
     pub deliver-refused : (n ≡ 0 → ⊥) → still p n ≡ planOf p (Deliver msg)

@@ -13,16 +13,18 @@ use Rattle.protocol.specs.declared.Message.{Message}
 use Rattle.protocol.specs.declared.Process.{Process}
 use Rattle.protocol.specs.declared.Queue.{Queue}
 use Rattle.protocol.specs.declared.Round.{Round}
+use Rattle.protocol.specs.Ballot.{majority}
 use Rattle.protocol.specs.Acceptor.{accepting, accepts, promises, promising}
-use Rattle.protocol.specs.Coordinator.{acceptanceHeard, isCurrent, isHeard, promiseHeard, withQueue, withRound}
+use Rattle.protocol.specs.Coordinator.{counting, isCurrent, isHeard, learning, promiseHeard, withQueue, withRound}
 use Rattle.protocol.specs.Message.{acceptedFrom, promiseFrom}
 use Rattle.protocol.specs.Process.{hearingOutcome, taking}
-use Rattle.coordinator.specs.Join.{joining}
+use Rattle.protocol.specs.Queue.{joining}
 use Rattle.coordinator.specs.Limits.{setPlaces}
 use Rattle.coordinator.proofs.RoundLaws.{heard-inside}
-use Rattle.transition.specs.declared.Parts.{Parts}
-use Rattle.transition.specs.Change.{cellNow, coordinatorNow, processNow, sending}
-use Rattle.transition.specs.Handed.{done, handed}
+use Rattle.protocol.specs.declared.Parts.{Parts}
+use Rattle.protocol.specs.Change.{cellNow, coordinatorNow, processNow, sending}
+use Rattle.protocol.specs.Change.{done, learns}
+use Rattle.protocol.specs.Deliver.{handed}
 
 -- ---- a promise or an acceptance, by whether it is heard
 
@@ -121,12 +123,15 @@ module _ (p : Parts) where
       unfolding handed
       promise-counted r is = rw (heard, in-set (p .message .acceptor) r _ _ inside is)
 
-      pub acceptance-counted : (c : Coordinator)
-          → c
-          ≡ cond
-          (ltb (p .message .acceptor) setPlaces)
-          (acceptanceHeard (p .acceptors) (p .coordinator) (p .message .acceptor))
-          (p .coordinator)
-          → done (coordinatorNow p c) ≡ handed p Accepted
-      unfolding handed
-      acceptance-counted c is = rw (heard, in-set (p .message .acceptor) c _ _ inside is)
+      module _ (r : Round) (is : r ≡ cond (ltb (p .message .acceptor) setPlaces) (counting (p .coordinator .round) (p .message .acceptor)) (p .coordinator .round)) where
+        counted : r ≡ counting (p .coordinator .round) (p .message .acceptor)
+        counted = in-set (p .message .acceptor) r _ _ inside is
+
+        pub acceptance-counted : majority (p .acceptors) (r .acceptances) ≡ false → done (coordinatorNow p (withRound (p .coordinator) r)) ≡ handed p Accepted
+        unfolding handed
+        acceptance-counted few = let k = rw counted at few in rw (heard, k, counted)
+
+        pub batch-learned : majority (p .acceptors) (r .acceptances) ≡ true → (c : Coordinator) → c ≡ learning (p .coordinator)
+            → learns (coordinatorNow p c) (p .coordinator .round .proposal) ≡ handed p Accepted
+        unfolding handed
+        batch-learned most c after = let k = rw counted at most in rw (heard, k, after)

@@ -4,9 +4,9 @@ ghost use mathlib.Core.Path.{_≡_};
 ghost use Rattle.steps.specs.declared.Step.the-variants.{Deliver};
 ghost use Rattle.protocol.specs.declared.Kind.the-variants as kind;
 ghost use Rattle.protocol.specs.Queue.{isFull, isIn, queued};
-ghost use Rattle.transition.specs.Handed.{handed};
+ghost use Rattle.protocol.specs.Deliver.{handed, noPlaceFor};
 ghost use Rattle.transition.specs.Plan.{planOf};
-ghost use Rattle.transition.specs.Refusal.{lacks, placeless};
+ghost use Rattle.protocol.specs.Send.{lacksNumbers};
 use coordinator::learn;
 use coordinator::queue;
 use coordinator::round;
@@ -14,11 +14,11 @@ use entry::Entry;
 use messages::message;
 use messages::parties;
 use messages::send;
+use protocol::Change;
 use protocol::Kind;
+use protocol::Parts;
 use protocol::Queue;
 use steps::limits::MOST_ACCEPTORS;
-use transition::Change;
-use transition::Parts;
 use transition::changes;
 use transition::refusal;
 
@@ -34,7 +34,7 @@ fn is_full_for(q: Queue, e: Entry) -> bool
 
 // Whether an acceptor that answers lacks a number for it.
 fn lacks_answer(answers: bool, sent: u8) -> bool
-    ensures { λ r. ⌜ r ≡ (answers && lacks sent 1) ⌝ }
+    ensures { λ r. ⌜ r ≡ (answers && lacksNumbers sent 1) ⌝ }
 {
     if !answers {
         return false;
@@ -43,7 +43,7 @@ fn lacks_answer(answers: bool, sent: u8) -> bool
 }
 
 fn placeless(p: Parts) -> bool
-    ensures { λ r. ⌜ r ≡ placeless p (p .message .kind) ⌝ }
+    ensures { λ r. ⌜ r ≡ noPlaceFor p (p .message .kind) ⌝ }
 {
     let m = p.message;
     let k = m.kind;
@@ -114,15 +114,22 @@ fn accepted(mut p: Parts) -> Change
     ensures { λ r. ⌜ r ≡ handed p kind.Accepted ⌝ }
 {
     let m = p.message;
-    let c = p.coordinator;
+    let mut c = p.coordinator;
     if !round::is_current(c, m.inst, m.ballot) {
         return changes::still(p, 0);
     }
     if MOST_ACCEPTORS <= m.acceptor {
         return changes::still(p, 0);
     }
-    p.coordinator = learn::acceptance_heard(p.acceptors, c, m.acceptor);
-    changes::still(p, 0)
+    let r = round::counting(c.round, m.acceptor);
+    if !round::is_majority(p.acceptors, r.acceptances) {
+        c.round = r;
+        p.coordinator = c;
+        return changes::still(p, 0);
+    }
+    let learned = c.round.proposal;
+    p.coordinator = learn::learning(c);
+    changes::learns(p, learned)
 }
 
 fn tell(mut p: Parts) -> Change

@@ -2,23 +2,16 @@
 use Prim.Native.Nat.{ℕ, _≤_}
 use mathlib.Core.Bool.{Bool, false, true}
 use mathlib.Core.List.{List}
-use mathlib.Core.Path.{_≡_, refl, sym}
+use mathlib.Core.Path.{_≡_, sym}
 use denote.Laws.{Is}
 use denote.Struct.Declared.{row}
 use lib.ListN.{List·getD-eq-default, getD, length, length-map, set}
 use lib.Seq.{set-out}
 use mir.Val.{Val}
-use Rattle.steps.specs.declared.Role.{Role}
 use Rattle.steps.specs.declared.Role.the-variants.{Acceptor, Coord, Proc}
 use Rattle.protocol.proofs.Down.{the-type as down-type}
 use Rattle.protocol.specs.declared.Down.{Down}
-use Rattle.protocol.specs.declared.Kind.{Kind}
-use Rattle.protocol.specs.declared.Kind.the-variants.{Request, Prepare, Accept, Promise, Accepted, Tell, Restore}
-use Rattle.protocol.specs.declared.Message.{Message}
-use Rattle.protocol.specs.declared.World.{World}
-use Rattle.protocol.specs.Deliver.{receiverDown}
-use Rattle.protocol.specs.World.{crashed, isDown}
-use Rattle.messages.specs.Parts.{downOf, receiverDownOf}
+use Rattle.protocol.specs.World.{crashed}
 
 module _ (d : Down) (vs : List Val) (g : Is (row down-type) d vs) where
   pub acceptors-length : length (d .acceptors) ≡ 5
@@ -33,21 +26,6 @@ module _ (d : Down) (vs : List Val) (g : Is (row down-type) d vs) where
 -- none beyond the list
 pub no-party-there : (ds : List Bool) (id : ℕ) → length ds ≤ id → false ≡ getD ds id false
 no-party-there ds id h = sym (List·getD-eq-default ds false h)
-
-pub down-in-world : (w : World) (role : Role) (id : ℕ) → downOf (w .down) role id ≡ isDown w role id
-down-in-world w Acceptor id = refl
-down-in-world w Coord id = refl
-down-in-world w Proc id = refl
-
-pub receiver-in-world : (w : World) (m : Message) (k : Kind) → receiverDownOf (w .down) m k ≡ receiverDown w m k
-unfolding receiverDown
-receiver-in-world w m Request = refl
-receiver-in-world w m Prepare = refl
-receiver-in-world w m Accept = refl
-receiver-in-world w m Promise = refl
-receiver-in-world w m Accepted = refl
-receiver-in-world w m Tell = refl
-receiver-in-world w m Restore = refl
 
 -- nobody crashes beyond the list
 module _ (d : Down) (id : ℕ) where

@@ -1,6 +1,7 @@
 // Who is down.
 ghost use mathlib.Core.Path.{_≡_};
-ghost use Rattle.messages.specs.Parts.{downOf, receiverDownOf};
+ghost use Rattle.protocol.specs.World.{isDown};
+ghost use Rattle.protocol.specs.Deliver.{receiverDown};
 ghost use Rattle.protocol.specs.Ballot.{owner};
 ghost use Rattle.protocol.specs.World.{crashed};
 use protocol::Down;
@@ -18,7 +19,7 @@ pub fn owner(ballot: u8) -> u8
 }
 
 pub fn is_down(d: Down, role: Role, id: u8) -> bool
-    ensures { λ r. ⌜ r ≡ downOf d role id ⌝ }
+    ensures { λ r. ⌜ r ≡ isDown d role id ⌝ }
 {
     match role {
         Role::Acceptor => {
@@ -43,7 +44,7 @@ pub fn is_down(d: Down, role: Role, id: u8) -> bool
 }
 
 pub fn receiver_down(d: Down, m: Message) -> bool
-    ensures { λ r. ⌜ r ≡ receiverDownOf d m (m .kind) ⌝ }
+    ensures { λ r. ⌜ r ≡ receiverDown d m (m .kind) ⌝ }
 {
     let k = m.kind;
     match k {

@@ -6,7 +6,7 @@ use Rattle.entry.specs.Entry.{takeEntry}
 use Rattle.steps.specs.declared.Step.{Step}
 use Rattle.steps.specs.declared.Step.the-variants.{Setup, Request, Open, Propose, Deliver}
 use Rattle.protocol.specs.declared.World.{World}
-use Rattle.protocol.specs.World.{coordinatorOf}
+use Rattle.protocol.specs.World.{coordinatorOf, logOf}
 use Rattle.protocol.proofs.Compute.{computed}
 
 abbrev holdersBy : ℕ → List ℕ
@@ -17,8 +17,8 @@ abbrev Agree : World → ℕ → ℕ → ℕ → Type 0
 Agree w j k p =
     (coordinatorOf w j .applied ≡ 1)
     × (coordinatorOf w k .applied ≡ 1)
-    × (coordinatorOf w j .log .holders ≡ holdersBy p)
-    × (coordinatorOf w k .log .holders ≡ holdersBy p)
+    × (logOf w j .holders ≡ holdersBy p)
+    × (logOf w k .holders ≡ holdersBy p)
 
 -- ---- an accepted batch is proposed again
 

@@ -12,18 +12,17 @@ use Rattle.commit_log.specs.Scan.{allFrom, anyFrom}
 use Rattle.steps.specs.declared.Step.{Step}
 use Rattle.steps.specs.Limits.{outsideStep}
 use Rattle.protocol.specs.declared.World.{World}
-use Rattle.protocol.specs.Acceptor.{acceptDelivered, prepareDelivered}
 use Rattle.protocol.specs.Batch.{batchOf, noBatch}
-use Rattle.protocol.specs.Coordinator.{acceptanceHeard, acceptedDelivered, batchToPropose, learning, promiseDelivered, promiseHeard, requestDelivered}
-use Rattle.protocol.specs.Deliver.{delivered, noPlaceFor, receiverDown}
+use Rattle.protocol.specs.Coordinator.{batchToPropose, learning, promiseHeard}
+use Rattle.protocol.specs.Deliver.{handed}
 use Rattle.protocol.specs.Message.{noReplay}
-use Rattle.protocol.specs.Process.{restoreDelivered, tellDelivered}
-use Rattle.protocol.specs.Queue.{firstBatch, isIn, leftBy, queueOf, without}
-use Rattle.protocol.specs.Send.{sendToAll}
-use Rattle.protocol.specs.Step.{afterStep, cannotOpen, cannotPropose, heldFrom, opened, proposed, requestChecks, restored, run, stepChecks, stepOf, stepRefusal}
+use Rattle.protocol.specs.Places.{placesOf}
+use Rattle.protocol.specs.Queue.{firstBatch, isIn, joining, leftBy, queueOf, without}
+use Rattle.protocol.specs.Send.{copyOf, sendToAll}
+use Rattle.protocol.specs.Step.{changeOf, heldFrom, messageFor, run, stepChecks, stepOf, stepRefusal}
 use Rattle.protocol.specs.World.{allUp, freshCoordinator, freshProcess, freshWorld}
 
 -- the world after a list of steps from the fresh world
 unfoldable pub computed : List Step → World
-unfolding run stepOf stepRefusal stepChecks requestChecks cannotOpen cannotPropose heldFrom opened proposed restored afterStep delivered noPlaceFor receiverDown firstRefusal outsideStep outside illFormed sendToAll prepareDelivered acceptDelivered promiseDelivered promiseHeard acceptedDelivered acceptanceHeard learning requestDelivered batchToPropose firstBatch batchOf isIn sameEntry leftBy queueOf without tellDelivered restoreDelivered freshWorld freshCoordinator freshProcess allUp noBatch noReplay emptyLog feed enter refusalOf afterEntry voted committing remembered runningSet outcomeOfVotes running replayOf replayFrom groupReplay anyFrom allFrom ones onesIn
+unfolding run stepOf placesOf stepRefusal stepChecks changeOf messageFor heldFrom handed firstRefusal outsideStep outside illFormed sendToAll copyOf promiseHeard learning joining batchToPropose firstBatch batchOf isIn sameEntry leftBy queueOf without freshWorld freshCoordinator freshProcess allUp noBatch noReplay emptyLog feed enter refusalOf afterEntry voted committing remembered runningSet outcomeOfVotes running replayOf replayFrom groupReplay anyFrom allFrom ones onesIn
 computed steps = run freshWorld steps

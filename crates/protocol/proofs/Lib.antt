@@ -2,3 +2,4 @@ pub mod Acceptors
 pub mod Agreeing
 pub mod Compute
 pub mod Processes
+pub mod PutBack

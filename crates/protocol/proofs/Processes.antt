@@ -13,7 +13,7 @@ use Rattle.steps.specs.declared.Step.{Step}
 use Rattle.steps.specs.declared.Step.the-variants.{Setup, Request, Open, Propose, Deliver, Tell, Restore}
 use Rattle.protocol.specs.declared.World.{World}
 use Rattle.protocol.specs.Step.{stepOf}
-use Rattle.protocol.specs.World.{coordinatorOf, processOf}
+use Rattle.protocol.specs.World.{logOf, processOf}
 use Rattle.protocol.proofs.Compute.{computed}
 
 abbrev heardOf : World → ℕ → ℕ → Outcome
@@ -40,7 +40,7 @@ pub nothing-heard : heardOf (computed stores) 2 4 ≡ outcome.Open
 unfolding computed
 nothing-heard = refl
 
-pub committed : outcomeOf (coordinatorOf (computed stores) 0 .log) 4 ≡ outcome.Commit
+pub committed : outcomeOf (logOf (computed stores) 0) 4 ≡ outcome.Commit
 unfolding computed
 committed = refl
 

@@ -2,35 +2,22 @@
 use Prim.Native.Nat.{ℕ, _+_, min}
 use mathlib.Core.Bool.{Bool, true, _&&_, cond}
 use lib.Dec.{eqb, ltb}
-use Rattle.entry.specs.declared.Entry.{Entry}
 use Rattle.entry.specs.Bits.{with}
-use Rattle.commit_log.specs.Enter.{feed}
 use Rattle.steps.specs.Limits.{instances, mostAcceptors}
 use Rattle.protocol.specs.declared.Batch.{Batch}
 use Rattle.protocol.specs.declared.Coordinator.{Coordinator}
 use Rattle.protocol.specs.declared.Queue.{Queue}
 use Rattle.protocol.specs.declared.Round.{Round}
-use Rattle.protocol.specs.declared.World.{World}
-use Rattle.protocol.specs.Ballot.{majority, owner}
-use Rattle.protocol.specs.Batch.{entriesOf}
-use Rattle.protocol.specs.Queue.{firstBatch, isIn, joined, leftBy, queued}
-use Rattle.protocol.specs.World.{coordinatorOf, newRound, withCoordinator}
+use Rattle.protocol.specs.Queue.{firstBatch, leftBy}
+use Rattle.protocol.specs.World.{newRound}
 
 -- ---- the coordinator with one part changed
 
 abbrev pub withQueue : Coordinator → Queue → Coordinator
-withQueue c q = record { applied = c .applied; log = c .log; queue = q; round = c .round }
+withQueue c q = record { applied = c .applied; queue = q; round = c .round }
 
 abbrev pub withRound : Coordinator → Round → Coordinator
-withRound c r = record { applied = c .applied; log = c .log; queue = c .queue; round = r }
-
--- ---- requests
-
--- "A delivered request joins the queue unless an equal entry is there."
-unfoldable pub requestDelivered : World → ℕ → Entry → World
-requestDelivered w k e =
-    let c = coordinatorOf w k in
-    cond (isIn e (queued (c .queue))) w (withCoordinator w k (withQueue c (joined (c .queue) e)))
+withRound c r = record { applied = c .applied; queue = c .queue; round = r }
 
 -- ---- promises
 
@@ -57,11 +44,6 @@ hearing r a held batch = record {
 -- the promise of a, with its accepted pair, is heard
 unfoldable pub promiseHeard : Round → ℕ → ℕ → Batch → Round
 promiseHeard r a held batch = cond (ltb (r .held) held) (hearing r a held batch) (hearing r a (r .held) (r .batch))
-
-unfoldable pub promiseDelivered : World → ℕ → ℕ → ℕ → ℕ → Batch → World
-promiseDelivered w i b a held batch =
-    let c = coordinatorOf w (owner b) in
-    cond (isHeard c i b a) (withCoordinator w (owner b) (withRound c (promiseHeard (c .round) a held batch))) w
 
 -- ---- proposals
 
@@ -93,23 +75,11 @@ counting r a = record {
   acceptances = with (r .acceptances) a;
 }
 
--- "When a majority accepted, the batch is applied in order; a refused entry is skipped. Queue entries equal to an entry of the learned
--- batch leave". Instances end at 15, so the least of the two is the first one in every world that steps lead to.
+-- "When a majority accepted, the batch is applied": one instance more; the batch is for its log. "Queue entries equal to an entry of the
+-- learned batch leave". Instances end at 15, so the least of the two is the first one in every world that steps lead to.
 unfoldable pub learning : Coordinator → Coordinator
 learning c = record {
   applied = min (c .applied + 1) instances;
-  log = feed (c .log) (entriesOf (c .round .proposal));
   queue = leftBy (c .queue) (c .round .proposal);
   round = newRound 0;
 }
-
--- the coordinator with one acceptance more, where there are n acceptors
-unfoldable pub acceptanceHeard : ℕ → Coordinator → ℕ → Coordinator
-acceptanceHeard n c a =
-    let r = counting (c .round) a in
-    cond (majority n (r .acceptances)) (learning c) (withRound c r)
-
-unfoldable pub acceptedDelivered : World → ℕ → ℕ → ℕ → World
-acceptedDelivered w i b a =
-    let c = coordinatorOf w (owner b) in
-    cond (isHeard c i b a) (withCoordinator w (owner b) (acceptanceHeard (w .acceptors) c a)) w

@@ -1,46 +1,86 @@
 -- The step `deliver`: what a message of each kind does to its receiver.
-use mathlib.Core.Bool.{Bool, false, _&&_, not}
+use mathlib.Core.Bool.{Bool, false, _&&_, not, cond}
+use lib.Dec.{ltb}
 use Rattle.steps.specs.declared.Role.the-variants.{Acceptor, Coord, Proc}
+use Rattle.protocol.specs.declared.Change.{Change}
+use Rattle.protocol.specs.declared.Down.{Down}
 use Rattle.protocol.specs.declared.Kind.{Kind}
 use Rattle.protocol.specs.declared.Kind.the-variants.{Request, Prepare, Accept, Promise, Accepted, Tell, Restore}
 use Rattle.protocol.specs.declared.Message.{Message}
-use Rattle.protocol.specs.declared.World.{World}
-use Rattle.protocol.specs.Acceptor.{acceptDelivered, accepts, prepareDelivered, promises}
-use Rattle.protocol.specs.Ballot.{owner}
-use Rattle.protocol.specs.Coordinator.{acceptedDelivered, promiseDelivered, requestDelivered}
-use Rattle.protocol.specs.Process.{restoreDelivered, tellDelivered}
-use Rattle.protocol.specs.Queue.{isFull, isIn, queued}
+use Rattle.protocol.specs.declared.Parts.{Parts}
+use Rattle.protocol.specs.Acceptor.{accepting, accepts, promises, promising}
+use Rattle.protocol.specs.Ballot.{majority, owner}
+use Rattle.protocol.specs.Change.{cellNow, coordinatorNow, done, learns, processNow, sending}
+use Rattle.protocol.specs.Coordinator.{counting, isHeard, learning, promiseHeard, withQueue, withRound}
+use Rattle.protocol.specs.Message.{acceptedFrom, promiseFrom}
+use Rattle.protocol.specs.Process.{hearingOutcome, taking}
+use Rattle.protocol.specs.Queue.{isFull, isIn, joining, queued}
 use Rattle.protocol.specs.Send.{lacksNumbers}
-use Rattle.protocol.specs.World.{cellOf, coordinatorOf, isDown}
+use Rattle.protocol.specs.World.{isDown}
 
 -- the receiver is down
-unfoldable pub receiverDown : World → Message → Kind → Bool
-receiverDown w m Request = isDown w Coord (m .to)
-receiverDown w m Prepare = isDown w Acceptor (m .acceptor)
-receiverDown w m Accept = isDown w Acceptor (m .acceptor)
-receiverDown w m Promise = isDown w Coord (owner (m .ballot))
-receiverDown w m Accepted = isDown w Coord (owner (m .ballot))
-receiverDown w m Tell = isDown w Proc (m .to)
-receiverDown w m Restore = isDown w Proc (m .to)
+abbrev pub receiverDown : Down → Message → Kind → Bool
+receiverDown d m Request = isDown d Coord (m .to)
+receiverDown d m Prepare = isDown d Acceptor (m .acceptor)
+receiverDown d m Accept = isDown d Acceptor (m .acceptor)
+receiverDown d m Promise = isDown d Coord (owner (m .ballot))
+receiverDown d m Accepted = isDown d Coord (owner (m .ballot))
+receiverDown d m Tell = isDown d Proc (m .to)
+receiverDown d m Restore = isDown d Proc (m .to)
 
 -- 6: no number is left for the answer of an acceptor that has one to send, or the queue is full for a new entry
-unfoldable pub noPlaceFor : World → Message → Kind → Bool
-noPlaceFor w m Request =
-    let q = coordinatorOf w (m .to) .queue in
-    isFull q && not (isIn (m .entry) (queued q))
-noPlaceFor w m Prepare = promises (cellOf w (m .acceptor) (m .inst)) (m .ballot) && lacksNumbers w 1
-noPlaceFor w m Accept = accepts (cellOf w (m .acceptor) (m .inst)) (m .ballot) && lacksNumbers w 1
-noPlaceFor w m Promise = false
-noPlaceFor w m Accepted = false
-noPlaceFor w m Tell = false
-noPlaceFor w m Restore = false
+abbrev pub noPlaceFor : Parts → Kind → Bool
+noPlaceFor p Request = isFull (p .coordinator .queue) && not (isIn (p .message .entry) (queued (p .coordinator .queue)))
+noPlaceFor p Prepare = promises (p .cell) (p .message .ballot) && lacksNumbers (p .sent) 1
+noPlaceFor p Accept = accepts (p .cell) (p .message .ballot) && lacksNumbers (p .sent) 1
+noPlaceFor p Promise = false
+noPlaceFor p Accepted = false
+noPlaceFor p Tell = false
+noPlaceFor p Restore = false
 
--- the world after the message is delivered
-unfoldable pub delivered : World → Message → Kind → World
-delivered w m Request = requestDelivered w (m .to) (m .entry)
-delivered w m Prepare = prepareDelivered w (m .inst) (m .ballot) (m .acceptor)
-delivered w m Accept = acceptDelivered w (m .inst) (m .ballot) (m .acceptor) (m .batch)
-delivered w m Promise = promiseDelivered w (m .inst) (m .ballot) (m .acceptor) (m .held) (m .batch)
-delivered w m Accepted = acceptedDelivered w (m .inst) (m .ballot) (m .acceptor)
-delivered w m Tell = tellDelivered w (m .to) (m .tx) (m .outcome)
-delivered w m Restore = restoreDelivered w (m .to) (m .store) (m .position) (m .replay)
+-- what the message does
+unfoldable pub handed : Parts → Kind → Change
+-- "A delivered request joins the queue unless an equal entry is there."
+handed p Request = done (coordinatorNow p (withQueue (p .coordinator) (joining (p .coordinator .queue) (p .message .entry))))
+-- "Prepare of b: if b is above the promised ballot, it promises b and sends b's coordinator a promise with its accepted pair; else nothing."
+handed p Prepare =
+    let m = p .message in
+    let x = p .cell in
+    cond
+    (promises x (m .ballot))
+    (sending (cellNow p (promising x (m .ballot))) 1 (promiseFrom (m .inst) (m .ballot) (m .acceptor) (x .ballot) (x .batch)))
+    (done p)
+-- "Accept of b: if b is not below the promised ballot, it promises and accepts b and sends b's coordinator accepted; else nothing."
+handed p Accept =
+    let m = p .message in
+    cond
+    (accepts (p .cell) (m .ballot))
+    (sending (cellNow p (accepting (m .ballot) (m .batch))) 1 (acceptedFrom (m .inst) (m .ballot) (m .acceptor)))
+    (done p)
+-- "Promises and acceptances for another instance, or for a ballot other than the one opened last, are passed over"
+handed p Promise =
+    let m = p .message in
+    let c = p .coordinator in
+    cond
+    (isHeard c (m .inst) (m .ballot) (m .acceptor))
+    (done (coordinatorNow p (withRound c (promiseHeard (c .round) (m .acceptor) (m .held) (m .batch)))))
+    (done p)
+-- "When a majority accepted, the batch is applied in order; a refused entry is skipped."
+handed p Accepted =
+    let m = p .message in
+    let c = p .coordinator in
+    let r = counting (c .round) (m .acceptor) in
+    cond
+    (isHeard c (m .inst) (m .ballot) (m .acceptor))
+    (cond
+    (majority (p .acceptors) (r .acceptances))
+    (learns (coordinatorNow p (learning c)) (c .round .proposal))
+    (done (coordinatorNow p (withRound c r))))
+    (done p)
+-- "It hears outcomes only by `tell`."
+handed p Tell = done (processNow p (hearingOutcome (p .process) (p .message .tx) (p .message .outcome)))
+-- "A process takes a delivered restore exactly if its position is above the last it took, 0 at first, and from then believes it holds that
+-- store and no other."
+handed p Restore =
+    let m = p .message in
+    cond (ltb (p .process .position) (m .position)) (done (processNow p (taking (p .process) (m .store) (m .position) (m .replay)))) (done p)

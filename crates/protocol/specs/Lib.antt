@@ -1,10 +1,12 @@
 pub mod Acceptor
 pub mod Ballot
 pub mod Batch
+pub mod Change
 pub mod Coordinator
 pub mod Deliver
 pub mod Limits
 pub mod Message
+pub mod Places
 pub mod Process
 pub mod Queue
 pub mod Send

@@ -8,10 +8,33 @@ use Rattle.protocol.specs.declared.World.{World}
 use Rattle.protocol.specs.World.{withMessage}
 
 -- 6: fewer message numbers left than the step sends
-abbrev pub lacksNumbers : World → ℕ → Bool
-lacksNumbers w n = ltb (messages - w .sent) n
+abbrev pub lacksNumbers : ℕ → ℕ → Bool
+lacksNumbers sent n = ltb (messages - sent) n
 
--- a message to each of n acceptors, acceptor 0 first
+-- so many messages, by their number among them
 unfoldable pub sendToAll : World → ℕ → (ℕ → Message) → World
 sendToAll w ℕ.zero message = w
 sendToAll w (suc n) message = withMessage (sendToAll w n message) (message n)
+
+-- the message, to another acceptor
+abbrev pub addressed : Message → ℕ → Message
+addressed m acceptor = record {
+  kind = m .kind;
+  to = m .to;
+  acceptor = acceptor;
+  inst = m .inst;
+  ballot = m .ballot;
+  held = m .held;
+  batch = m .batch;
+  entry = m .entry;
+  tx = m .tx;
+  outcome = m .outcome;
+  store = m .store;
+  position = m .position;
+  replay = m .replay;
+}
+
+-- "acceptor 0 first": the message itself, and then the same to acceptor 1, 2 and so on
+unfoldable pub copyOf : Message → ℕ → Message
+copyOf m ℕ.zero = m
+copyOf m (suc i) = addressed m (suc i)

@@ -1,36 +1,49 @@
--- The steps of the world: for each kind the refusals, in the order in which they are tried, and what the step does.
+-- The steps of the world: for each kind the refusals, in the order in which they are tried, and what the step does. Both go by the parts of the
+-- world that the step touches.
 use Prim.Native.Nat.{ℕ, suc}
 use mathlib.Core.Bool.{Bool, _&&_, _||_, not, cond}
 use mathlib.Core.List.{List, [], _∷_}
 use lib.Dec.{eqb, leb}
+use lib.ListN.{getD, set}
 use Rattle.entry.specs.declared.Entry.{Entry}
 use Rattle.entry.specs.Entry.{illFormed}
+use Rattle.entry.specs.Limits.{stores}
 use Rattle.entry.specs.Refusal.{accepted, check, Check, firstRefusal, illFormedVote, noPlace, notMet, notSentYet, outsideLimits, partyDown}
 use Rattle.commit_log.specs.declared.Log.{Log}
+use Rattle.commit_log.specs.Enter.{feed}
 use Rattle.commit_log.specs.Outcome.{isOpen, outcomeOf}
-use Rattle.commit_log.specs.Refusal.{holdsAny}
 use Rattle.commit_log.specs.Replay.{replayOf}
 use Rattle.steps.specs.declared.Role.the-variants.{Coord, Proc}
 use Rattle.steps.specs.declared.Step.{Step}
 use Rattle.steps.specs.declared.Step.the-variants.{Setup, Request, Open, Propose, Deliver, Tell, Restore, Crash}
 use Rattle.steps.specs.Limits.{mostAcceptors, outsideStep}
+use Rattle.protocol.specs.declared.Batch.{Batch}
+use Rattle.protocol.specs.declared.Change.{Change}
+use Rattle.protocol.specs.declared.Coordinator.{Coordinator}
+use Rattle.protocol.specs.declared.Message.{Message}
+use Rattle.protocol.specs.declared.Parts.{Parts}
+use Rattle.protocol.specs.declared.Places.{Places}
+use Rattle.protocol.specs.declared.Process.{Process}
 use Rattle.protocol.specs.declared.Stepped.{Stepped}
 use Rattle.protocol.specs.declared.World.{World}
 use Rattle.protocol.specs.Ballot.{majority, owner}
+use Rattle.protocol.specs.Batch.{entriesOf}
+use Rattle.protocol.specs.Change.{acceptorsNow, coordinatorNow, done, downNow, parts, sending}
 use Rattle.protocol.specs.Coordinator.{batchToPropose, proposing, withRound}
-use Rattle.protocol.specs.Deliver.{delivered, noPlaceFor, receiverDown}
+use Rattle.protocol.specs.Deliver.{handed, noPlaceFor, receiverDown}
 use Rattle.protocol.specs.Message.{acceptTo, prepareTo, requestTo, restoreTo, tellTo}
+use Rattle.protocol.specs.Places.{messageAt, placesOf}
 use Rattle.protocol.specs.Process.{believes}
-use Rattle.protocol.specs.Send.{lacksNumbers, sendToAll}
-use Rattle.protocol.specs.World.{coordinatorOf, crashed, isDown, messageOf, newRound, processOf, withAcceptors, withCoordinator, withDown, withMessage}
+use Rattle.protocol.specs.Send.{copyOf, lacksNumbers, sendToAll}
+use Rattle.protocol.specs.World.{coordinatorOf, crashed, emptyCell, isDown, logOf, messageOf, newRound, processOf}
 
 -- 5: no setup
-abbrev pub noSetup : World → Bool
-noSetup w = eqb (w .acceptors) 0
+abbrev pub noSetup : Parts → Bool
+noSetup p = eqb (p .acceptors) 0
 
 -- "before setup five acceptors count"
-abbrev pub acceptorsCounted : World → ℕ
-acceptorsCounted w = cond (noSetup w) mostAcceptors (w .acceptors)
+abbrev pub acceptorsCounted : ℕ → ℕ
+acceptorsCounted n = cond (eqb n 0) mostAcceptors n
 
 -- the store that the process holds; one past the last store if it holds none
 unfoldable pub heldFrom : ℕ → ℕ → List ℕ → ℕ
@@ -42,105 +55,148 @@ heldStore l process = heldFrom process 0 (l .holders)
 
 -- ---- refusals
 
--- "no majority of promises; proposed already; nothing to propose"
-unfoldable pub cannotPropose : World → ℕ → ℕ → ℕ → Bool
-cannotPropose w c i b =
-    let k = coordinatorOf w c in
+-- "voter does not believe it holds `by`"
+abbrev pub unbelieved : Entry → Process → Bool
+unbelieved e p = not (e .take) && not (believes p (e .by))
+
+-- "a ballot of its own, above all it opened in the current instance"
+abbrev pub cannotOpen : Coordinator → ℕ → ℕ → ℕ → Bool
+cannotOpen k c i b = not (eqb i (k .applied)) || not (eqb (owner b) c) || leb b (k .round .ballot)
+
+-- "no majority of promises; proposed already; nothing to propose", where there are n acceptors
+abbrev pub cannotPropose : ℕ → Coordinator → ℕ → ℕ → Bool
+cannotPropose n k i b =
     not (eqb i (k .applied))
     || not (eqb b (k .round .ballot))
-    || not (majority (w .acceptors) (k .round .promises))
+    || not (majority n (k .round .promises))
     || k .round .proposed
     || eqb (k .round .held) 0 && eqb (k .queue .count) 0
 
--- "a ballot of its own, above all it opened in the current instance"
-unfoldable pub cannotOpen : World → ℕ → ℕ → ℕ → Bool
-cannotOpen w c i b =
-    let k = coordinatorOf w c in
-    not (eqb i (k .applied)) || not (eqb (owner b) c) || leb b (k .round .ballot)
-
+-- the refusals after 2, by the parts that the step touches. A message that was not sent has no receiver, so 4 is tried before 3
+unfoldable pub stepChecks : Parts → Step → List Check
+stepChecks p (Setup n) = check notMet (not (noSetup p)) ∷ []
 -- "A sent vote meets 1, 2, 3, 5, 6, 7": of those, 5 and 7 are no matter of a take
-unfoldable pub requestChecks : World → Entry → ℕ → List Check
-requestChecks w e to =
-    check partyDown (isDown w Proc (e .process) || isDown w Coord to)
-    ∷ check notMet (noSetup w || not (e .take) && not (believes (processOf w (e .process)) (e .by)))
-    ∷ check noPlace (lacksNumbers w 1)
+stepChecks p (Request e to) =
+    check partyDown (isDown (p .down) Proc (e .process) || isDown (p .down) Coord to)
+    ∷ check notMet (noSetup p || unbelieved e (p .process))
+    ∷ check noPlace (lacksNumbers (p .sent) 1)
     ∷ check illFormedVote (not (e .take) && illFormed e)
     ∷ []
-
--- the refusals after 2. A message that was not sent has no receiver, so 4 is tried before 3
-unfoldable pub stepChecks : World → Step → List Check
-stepChecks w (Setup n) = check notMet (not (noSetup w)) ∷ []
-stepChecks w (Request e to) = requestChecks w e to
-stepChecks w (Open c i b) =
-    check partyDown (isDown w Coord c)
-    ∷ check notMet (noSetup w || cannotOpen w c i b)
-    ∷ check noPlace (lacksNumbers w (w .acceptors))
+stepChecks p (Open c i b) =
+    check partyDown (isDown (p .down) Coord c)
+    ∷ check notMet (noSetup p || cannotOpen (p .coordinator) c i b)
+    ∷ check noPlace (lacksNumbers (p .sent) (p .acceptors))
     ∷ []
-stepChecks w (Propose c i b) =
-    check partyDown (isDown w Coord c)
-    ∷ check notMet (noSetup w || cannotPropose w c i b)
-    ∷ check noPlace (lacksNumbers w (w .acceptors))
+stepChecks p (Propose c i b) =
+    check partyDown (isDown (p .down) Coord c)
+    ∷ check notMet (noSetup p || cannotPropose (p .acceptors) (p .coordinator) i b)
+    ∷ check noPlace (lacksNumbers (p .sent) (p .acceptors))
     ∷ []
-stepChecks w (Deliver m) =
-    check notSentYet (leb (w .sent) m)
-    ∷ check partyDown (receiverDown w (messageOf w m) (messageOf w m .kind))
-    ∷ check notMet (noSetup w)
-    ∷ check noPlace (noPlaceFor w (messageOf w m) (messageOf w m .kind))
+stepChecks p (Deliver m) =
+    check notSentYet (leb (p .sent) m)
+    ∷ check partyDown (receiverDown (p .down) (p .message) (p .message .kind))
+    ∷ check notMet (noSetup p)
+    ∷ check noPlace (noPlaceFor p (p .message .kind))
     ∷ []
-stepChecks w (Tell c p tx) =
-    check partyDown (isDown w Coord c || isDown w Proc p)
-    ∷ check notMet (noSetup w || isOpen (outcomeOf (coordinatorOf w c .log) tx))
-    ∷ check noPlace (lacksNumbers w 1)
+stepChecks p (Tell c process tx) =
+    check partyDown (isDown (p .down) Coord c || isDown (p .down) Proc process)
+    ∷ check notMet (noSetup p || isOpen (p .message .outcome))
+    ∷ check noPlace (lacksNumbers (p .sent) 1)
     ∷ []
-stepChecks w (Restore c p) =
-    check partyDown (isDown w Coord c || isDown w Proc p)
-    ∷ check notMet (noSetup w || not (holdsAny (coordinatorOf w c .log .holders) p))
-    ∷ check noPlace (lacksNumbers w 1)
+stepChecks p (Restore c process) =
+    check partyDown (isDown (p .down) Coord c || isDown (p .down) Proc process)
+    ∷ check notMet (noSetup p || leb stores (p .message .store))
+    ∷ check noPlace (lacksNumbers (p .sent) 1)
     ∷ []
-stepChecks w (Crash role id) = check partyDown (isDown w role id) ∷ check notMet (noSetup w) ∷ []
+stepChecks p (Crash role id) = check partyDown (isDown (p .down) role id) ∷ check notMet (noSetup p) ∷ []
 
 -- the answer to a step: "The lowest number that applies is given."
-unfoldable pub stepRefusal : World → Step → ℕ
-stepRefusal w s = firstRefusal (check outsideLimits (outsideStep (acceptorsCounted w) s) ∷ stepChecks w s)
+unfoldable pub stepRefusal : Parts → Step → ℕ
+stepRefusal p s = firstRefusal (check outsideLimits (outsideStep (acceptorsCounted (p .acceptors)) s) ∷ stepChecks p s)
 
--- ---- what an accepted step does
+-- ---- what an accepted step does to the parts, and what it sends
 
+unfoldable pub changeOf : Parts → Step → Change
+changeOf p (Setup n) = done (acceptorsNow p n)
+changeOf p (Request e to) = sending p 1 (requestTo to e)
 -- "sends prepare to every acceptor, down or not, acceptor 0 first"
-unfoldable pub opened : World → ℕ → ℕ → ℕ → World
-opened w c i b = sendToAll (withCoordinator w c (withRound (coordinatorOf w c) (newRound b))) (w .acceptors) (prepareTo i b)
-
+changeOf p (Open c i b) = sending (coordinatorNow p (withRound (p .coordinator) (newRound b))) (p .acceptors) (prepareTo i b 0)
 -- "Sends accept to every acceptor in the same order."
-unfoldable pub proposed : World → ℕ → ℕ → ℕ → World
-proposed w c i b =
-    let k = coordinatorOf w c in
-    let v = batchToPropose k in
-    sendToAll (withCoordinator w c (withRound k (proposing (k .round) v))) (w .acceptors) (acceptTo i b v)
+changeOf p (Propose c i b) =
+    let v = batchToPropose (p .coordinator) in
+    sending (coordinatorNow p (withRound (p .coordinator) (proposing (p .coordinator .round) v))) (p .acceptors) (acceptTo i b v 0)
+changeOf p (Deliver m) = handed p (p .message .kind)
+changeOf p (Tell c process tx) = sending p 1 (p .message)
+changeOf p (Restore c process) = sending p 1 (p .message)
+changeOf p (Crash role id) = done (downNow p (crashed (p .down) role id))
 
+-- ---- the message of a step, where d is the one that it delivers; l is the log of a coordinator that applied n instances
+
+unfoldable pub messageFor : Step → Message → Log → ℕ → Message
+messageFor (Setup k) d l n = d
+messageFor (Request e to) d l n = d
+messageFor (Open c i b) d l n = d
+messageFor (Propose c i b) d l n = d
+messageFor (Deliver m) d l n = d
+-- "`tell` sends a process the outcome of a decided tx."
+messageFor (Tell c process tx) d l n = tellTo process tx (outcomeOf l tx)
 -- "`restore` sends the store's holder, by this coordinator's log, the applied count as position and the store's replay."
-unfoldable pub restored : World → ℕ → ℕ → World
-restored w c p =
-    let k = coordinatorOf w c in
-    let store = heldStore (k .log) p in
-    withMessage w (restoreTo p store (k .applied) (replayOf (k .log) store))
+messageFor (Restore c process) d l n = restoreTo process (heldStore l process) n (replayOf l (heldStore l process))
+messageFor (Crash role id) d l n = d
 
-unfoldable pub afterStep : World → Step → World
-afterStep w (Setup n) = withAcceptors w n
-afterStep w (Request e to) = withMessage w (requestTo to e)
-afterStep w (Open c i b) = opened w c i b
-afterStep w (Propose c i b) = proposed w c i b
-afterStep w (Deliver m) = delivered w (messageOf w m) (messageOf w m .kind)
-afterStep w (Tell c p tx) = withMessage w (tellTo p tx (outcomeOf (coordinatorOf w c .log) tx))
-afterStep w (Restore c p) = restored w c p
-afterStep w (Crash role id) = withDown w (crashed (w .down) role id)
+-- ---- the step: the parts are taken from their places, changed, and put back
 
--- ---- the step
+-- the parts at these places, and the message
+abbrev pub partsAt : World → Places → Message → Parts
+partsAt w at m =
+    parts
+    (w .acceptors)
+    (w .sent)
+    (w .down)
+    (coordinatorOf w (at .coordinator))
+    (getD (w .cells) (at .cell) emptyCell)
+    (processOf w (at .process))
+    m
+
+abbrev pub deliveredIn : World → Step → Message
+deliveredIn w s = messageOf w (messageAt s)
+
+abbrev pub placesIn : World → Step → Places
+placesIn w s = placesOf s (deliveredIn w s)
+
+abbrev pub messageIn : World → Step → Message
+messageIn w s =
+    let k = placesIn w s .coordinator in
+    messageFor s (deliveredIn w s) (logOf w k) (coordinatorOf w k .applied)
+
+abbrev pub partsOf : World → Step → Parts
+partsOf w s = partsAt w (placesIn w s) (messageIn w s)
+
+-- the world with these parts at these places, and the coordinator's log fed the batch
+abbrev pub putBack : World → Places → Parts → Batch → World
+putBack w at p b = record {
+  acceptors = p .acceptors;
+  cells = set (w .cells) (at .cell) (p .cell);
+  coordinators = set (w .coordinators) (at .coordinator) (p .coordinator);
+  logs = set (w .logs) (at .coordinator) (feed (logOf w (at .coordinator)) (entriesOf b));
+  processes = set (w .processes) (at .process) (p .process);
+  down = p .down;
+  messages = w .messages;
+  sent = w .sent;
+}
+
+-- the world after the change
+abbrev pub changed : World → Places → Change → World
+changed w at ch = sendToAll (putBack w at (ch .parts) (ch .learned)) (ch .count) (copyOf (ch .message))
 
 abbrev pub answered : World → ℕ → Stepped
 answered w n = record { world = w; answer = n }
 
 -- the world after the step, and the answer: a refused step leaves the world as it was
 unfoldable pub stepOf : World → Step → Stepped
-stepOf w s = cond (eqb (stepRefusal w s) accepted) (answered (afterStep w s) accepted) (answered w (stepRefusal w s))
+stepOf w s =
+    let p = partsOf w s in
+    cond (eqb (stepRefusal p s) accepted) (answered (changed w (placesIn w s) (changeOf p s)) accepted) (answered w (stepRefusal p s))
 
 -- "Each later one gets the world that the last one handed back"
 unfoldable pub run : World → List Step → World

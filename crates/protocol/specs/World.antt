@@ -1,9 +1,10 @@
--- The world's value: the fresh world, what stands where, and the world with one part changed.
+-- The world's value: the fresh world, what stands where, the world with one message more, and who is down.
 use Prim.Native.Nat.{ℕ, _+_, _*_}
 use mathlib.Core.Bool.{Bool, true, false}
 use mathlib.Core.List.{[]}
 use lib.ListN.{getD, replicate, set}
 use Rattle.entry.specs.Limits.{transactions}
+use Rattle.commit_log.specs.declared.Log.{Log}
 use Rattle.commit_log.specs.declared.Outcome.the-variants.{Open}
 use Rattle.commit_log.specs.Log.{emptyLog}
 use Rattle.steps.specs.declared.Role.{Role}
@@ -32,7 +33,7 @@ abbrev pub newRound : ℕ → Round
 newRound b = record { ballot = b; promises = 0; held = 0; batch = noBatch; proposed = false; proposal = noBatch; acceptances = 0 }
 
 unfoldable pub freshCoordinator : Coordinator
-freshCoordinator = record { applied = 0; log = emptyLog; queue = queueOf []; round = newRound 0 }
+freshCoordinator = record { applied = 0; queue = queueOf []; round = newRound 0 }
 
 -- a process as in a fresh world: it heard nothing and took no restore
 unfoldable pub freshProcess : Process
@@ -51,6 +52,7 @@ freshWorld = record {
   acceptors = 0;
   cells = replicate cellPlaces emptyCell;
   coordinators = replicate coordinators freshCoordinator;
+  logs = replicate coordinators emptyLog;
   processes = replicate processPlaces freshProcess;
   down = allUp;
   messages = replicate messages noMessage;
@@ -66,73 +68,23 @@ cellOf w a i = getD (w .cells) (a * instances + i) emptyCell
 abbrev pub coordinatorOf : World → ℕ → Coordinator
 coordinatorOf w c = getD (w .coordinators) c freshCoordinator
 
+-- coordinator c's log
+abbrev pub logOf : World → ℕ → Log
+logOf w c = getD (w .logs) c emptyLog
+
 abbrev pub processOf : World → ℕ → Process
 processOf w p = getD (w .processes) p freshProcess
 
 abbrev pub messageOf : World → ℕ → Message
 messageOf w m = getD (w .messages) m noMessage
 
-abbrev pub isDown : World → Role → ℕ → Bool
-isDown w Acceptor id = getD (w .down .acceptors) id false
-isDown w Coord id = getD (w .down .coordinators) id false
-isDown w Proc id = getD (w .down .processes) id false
+-- the party is down
+abbrev pub isDown : Down → Role → ℕ → Bool
+isDown d Acceptor id = getD (d .acceptors) id false
+isDown d Coord id = getD (d .coordinators) id false
+isDown d Proc id = getD (d .processes) id false
 
--- ---- with one part changed
-
-abbrev pub withAcceptors : World → ℕ → World
-withAcceptors w n = record {
-  acceptors = n;
-  cells = w .cells;
-  coordinators = w .coordinators;
-  processes = w .processes;
-  down = w .down;
-  messages = w .messages;
-  sent = w .sent;
-}
-
-abbrev pub withCell : World → ℕ → ℕ → Cell → World
-withCell w a i x = record {
-  acceptors = w .acceptors;
-  cells = set (w .cells) (a * instances + i) x;
-  coordinators = w .coordinators;
-  processes = w .processes;
-  down = w .down;
-  messages = w .messages;
-  sent = w .sent;
-}
-
-abbrev pub withCoordinator : World → ℕ → Coordinator → World
-withCoordinator w c x = record {
-  acceptors = w .acceptors;
-  cells = w .cells;
-  coordinators = set (w .coordinators) c x;
-  processes = w .processes;
-  down = w .down;
-  messages = w .messages;
-  sent = w .sent;
-}
-
-abbrev pub withProcess : World → ℕ → Process → World
-withProcess w p x = record {
-  acceptors = w .acceptors;
-  cells = w .cells;
-  coordinators = w .coordinators;
-  processes = set (w .processes) p x;
-  down = w .down;
-  messages = w .messages;
-  sent = w .sent;
-}
-
-abbrev pub withDown : World → Down → World
-withDown w d = record {
-  acceptors = w .acceptors;
-  cells = w .cells;
-  coordinators = w .coordinators;
-  processes = w .processes;
-  down = d;
-  messages = w .messages;
-  sent = w .sent;
-}
+-- ---- changes
 
 -- with one message more
 abbrev pub withMessage : World → Message → World
@@ -140,6 +92,7 @@ withMessage w m = record {
   acceptors = w .acceptors;
   cells = w .cells;
   coordinators = w .coordinators;
+  logs = w .logs;
   processes = w .processes;
   down = w .down;
   messages = set (w .messages) (w .sent) m;

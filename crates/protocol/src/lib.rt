@@ -82,7 +82,6 @@ pub struct Round {
 pub struct Coordinator {
     // How many instances it applied; the next is its current one.
     pub applied: u8,
-    pub log: Log,
     pub queue: Queue,
     pub round: Round,
 }
@@ -115,12 +114,44 @@ pub struct World {
     // Acceptor a's cell of instance i stands at a * 16 + i.
     pub cells: [Cell; 80],
     pub coordinators: [Coordinator; 3],
+    // By coordinator.
+    pub logs: [Log; 3],
     // Processes are numbered from 1.
     pub processes: [Process; 16],
     pub down: Down,
     // The first `sent` were sent, numbered from 0.
     pub messages: [Message; 128],
     pub sent: u8,
+}
+
+// The parts of the world that a step looks at and may change: of coordinators, cells, processes and messages the one that it is about.
+pub struct Parts {
+    pub acceptors: u8,
+    pub sent: u8,
+    pub down: Down,
+    pub coordinator: Coordinator,
+    pub cell: Cell,
+    pub process: Process,
+    // The message that the step delivers, or that it sends by what the coordinator's log says.
+    pub message: Message,
+}
+
+// The answer to a step, the parts after it, and what it sends.
+pub struct Change {
+    pub answer: u8,
+    pub parts: Parts,
+    // So many messages: this one first, and then the same to acceptors 1, 2 and so on.
+    pub count: u8,
+    pub message: Message,
+    // The batch that the coordinator learned, for its log; one without entries if none.
+    pub learned: Batch,
+}
+
+// Where in the world the parts of a step stand.
+pub struct Places {
+    pub coordinator: u8,
+    pub cell: usize,
+    pub process: u8,
 }
 
 // The world after a step, and the answer.

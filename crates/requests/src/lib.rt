@@ -1,21 +1,26 @@
 // The steps that need no ballot: setup, take and vote, tell, restore, crash.
 ghost use mathlib.Core.Path.{_≡_};
-ghost use mathlib.Core.Bool.{_&&_, not};
+ghost use mathlib.Core.Bool.{_&&_, _||_, not};
 ghost use Rattle.entry.specs.Entry.{illFormed};
+ghost use Rattle.steps.specs.declared.Role.the-variants.{Coord, Proc};
 ghost use Rattle.steps.specs.declared.Step.the-variants.{Crash, Request, Restore, Setup, Tell};
-ghost use Rattle.protocol.specs.Step.{heldFrom};
+ghost use Rattle.commit_log.specs.Replay.{replayOf};
+ghost use Rattle.protocol.specs.Message.{restoreTo};
+ghost use Rattle.protocol.specs.Step.{heldFrom, heldStore, messageFor, unbelieved};
+ghost use Rattle.protocol.specs.World.{isDown};
 ghost use Rattle.transition.specs.Plan.{planOf};
-ghost use Rattle.transition.specs.Refusal.{deaf, unbelieved};
-use commit_log::refusal::holds_or_held;
+use commit_log::Log;
 use entry::Entry;
 use entry::limits::STORES;
 use messages::message;
 use messages::parties;
 use messages::send;
+use protocol::Change;
+use protocol::Message;
+use protocol::Parts;
 use protocol::Process;
 use steps::Role;
-use transition::Change;
-use transition::Parts;
+use steps::Step;
 use transition::changes;
 use transition::refusal;
 
@@ -72,7 +77,7 @@ pub fn request(p: Parts, e: Entry, to: u8) -> Change
 
 // Whether nothing can be said to a process: it or the coordinator is down.
 fn deaf(p: Parts, coord: u8, process: u8) -> bool
-    ensures { λ r. ⌜ r ≡ deaf p coord process ⌝ }
+    ensures { λ r. ⌜ r ≡ (isDown (p .down) Coord coord || isDown (p .down) Proc process) ⌝ }
 {
     refusal::either(
         parties::is_down(p.down, Role::Coord, coord),
@@ -83,8 +88,8 @@ fn deaf(p: Parts, coord: u8, process: u8) -> bool
 pub fn tell(p: Parts, coord: u8, process: u8, tx: u8) -> Change
     ensures { λ r. ⌜ r ≡ planOf p (Tell coord process tx) ⌝ }
 {
-    let l = p.coordinator.log;
-    let o = l.outcome(tx);
+    let m = p.message;
+    let o = m.outcome;
     let open = o.is_open();
     let unmet = refusal::either(p.acceptors == 0, open);
     let answer = refusal::first_of(
@@ -97,7 +102,25 @@ pub fn tell(p: Parts, coord: u8, process: u8, tx: u8) -> Change
     if answer != 0 {
         return changes::still(p, answer);
     }
-    changes::sending(p, 1, message::tell_to(process, tx, o))
+    changes::sending(p, 1, m)
+}
+
+pub fn restore(p: Parts, coord: u8, process: u8) -> Change
+    ensures { λ r. ⌜ r ≡ planOf p (Restore coord process) ⌝ }
+{
+    let m = p.message;
+    let unmet = refusal::either(p.acceptors == 0, STORES <= m.store);
+    let answer = refusal::first_of(
+        false,
+        deaf(p, coord, process),
+        unmet,
+        send::lacks_numbers(p.sent, 1),
+        false,
+    );
+    if answer != 0 {
+        return changes::still(p, answer);
+    }
+    changes::sending(p, 1, m)
 }
 
 // The store that the process holds; one past the last store if it holds none.
@@ -114,30 +137,41 @@ fn held_store(holders: [u8; 8], process: u8) -> u8
     s
 }
 
-pub fn restore(p: Parts, coord: u8, process: u8) -> Change
-    ensures { λ r. ⌜ r ≡ planOf p (Restore coord process) ⌝ }
+fn restored(log: Log, applied: u8, process: u8) -> Message
+    ensures { λ r. ⌜ r ≡ restoreTo process (heldStore log process) applied (replayOf log (heldStore log process)) ⌝ }
 {
-    let l = p.coordinator.log;
-    let holders = l.holders;
-    // With nobody in the past: whether it holds some store.
-    let holds = holds_or_held(holders, 0, process);
-    let unmet = refusal::either(p.acceptors == 0, !holds);
-    let answer = refusal::first_of(
-        false,
-        deaf(p, coord, process),
-        unmet,
-        send::lacks_numbers(p.sent, 1),
-        false,
-    );
-    if answer != 0 {
-        return changes::still(p, answer);
-    }
+    let holders = log.holders;
     let store = held_store(holders, process);
-    changes::sending(
-        p,
-        1,
-        message::restore_to(process, store, p.coordinator.applied, l.replay(store)),
-    )
+    message::restore_to(process, store, applied, log.replay(store))
+}
+
+// The message of a step, where `delivered` is the one that it delivers: a tell or a restore sends what the log of a coordinator that applied so
+// many instances says.
+pub fn said(s: Step, delivered: Message, log: Log, applied: u8) -> Message
+    ensures { λ r. ⌜ r ≡ messageFor s delivered log applied ⌝ }
+{
+    match s {
+        Step::Setup { acceptors: _ } => delivered,
+        Step::Request { entry: _, to: _ } => delivered,
+        Step::Open {
+            coord: _,
+            inst: _,
+            ballot: _,
+        } => delivered,
+        Step::Propose {
+            coord: _,
+            inst: _,
+            ballot: _,
+        } => delivered,
+        Step::Deliver { msg: _ } => delivered,
+        Step::Tell {
+            coord: _,
+            process,
+            tx,
+        } => message::tell_to(process, tx, log.outcome(tx)),
+        Step::Restore { coord: _, process } => restored(log, applied, process),
+        Step::Crash { role: _, id: _ } => delivered,
+    }
 }
 
 pub fn crash(mut p: Parts, role: Role, id: u8) -> Change

@@ -3,9 +3,9 @@ use Prim.Native.Nat.{ℕ}
 use mathlib.Core.Bool.{Bool}
 use mathlib.Core.Path.{_≡_, sym}
 use borrow.Author.Tests.{eq-eqb, ne-eqb}
-use Rattle.transition.specs.declared.Change.{Change}
-use Rattle.transition.specs.declared.Parts.{Parts}
-use Rattle.transition.specs.Change.{still}
+use Rattle.protocol.specs.declared.Change.{Change}
+use Rattle.protocol.specs.declared.Parts.{Parts}
+use Rattle.protocol.specs.Change.{still}
 use Rattle.transition.specs.Plan.{decided}
 use Rattle.transition.specs.Refusal.{firstOf}
 

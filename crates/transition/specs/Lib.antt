@@ -1,5 +1,3 @@
-pub mod Change
-pub mod Handed
-pub mod Places
+pub mod Asks
 pub mod Plan
 pub mod Refusal

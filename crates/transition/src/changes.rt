@@ -1,11 +1,13 @@
 // Changes of the parts.
 ghost use mathlib.Core.Path.{_≡_};
-ghost use Rattle.transition.specs.Change.{sending, still};
-use crate::Change;
-use crate::Parts;
+ghost use Rattle.protocol.specs.Change.{learns, sending, still};
+use coordinator::fresh::no_batch;
 use coordinator::fresh::no_entry;
 use messages::message::request_to;
+use protocol::Batch;
+use protocol::Change;
 use protocol::Message;
+use protocol::Parts;
 
 // The parts are these, and nothing is sent.
 pub fn still(p: Parts, answer: u8) -> Change
@@ -17,6 +19,7 @@ pub fn still(p: Parts, answer: u8) -> Change
         parts: p,
         count: 0,
         message: none,
+        learned: no_batch(),
     }
 }
 
@@ -29,5 +32,20 @@ pub fn sending(p: Parts, count: u8, m: Message) -> Change
         parts: p,
         count: count,
         message: m,
+        learned: no_batch(),
+    }
+}
+
+// The parts are these now, and the coordinator's log is to be fed the batch.
+pub fn learns(p: Parts, batch: Batch) -> Change
+    ensures { λ r. ⌜ r ≡ learns p batch ⌝ }
+{
+    let none = request_to(0, no_entry());
+    Change {
+        answer: 0,
+        parts: p,
+        count: 0,
+        message: none,
+        learned: batch,
     }
 }

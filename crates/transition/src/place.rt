@@ -1,11 +1,13 @@
 // Where in the world the parts of a step stand.
 ghost use mathlib.Core.Path.{_≡_};
-ghost use Rattle.transition.specs.Places.{deliveryPlaces, messageAt, onlyCell, onlyCoordinator, onlyProcess, placesOf};
-use crate::Places;
+ghost use Rattle.transition.specs.Asks.{asksLog};
+ghost use Rattle.protocol.specs.Places.{deliveryPlaces, messageAt, onlyCell, onlyCoordinator, onlyProcess, placesOf};
 use messages::parties;
 use protocol::Kind;
 use protocol::Message;
+use protocol::Places;
 use steps::Step;
+use steps::limits::COORDINATORS;
 use steps::limits::MESSAGES;
 
 // The message that the step delivers; message 0 if it delivers none.
@@ -39,11 +41,42 @@ pub fn message_at(s: Step) -> u8
     }
 }
 
+// Whether the step sends what a coordinator's log says.
+pub fn asks_log(s: Step) -> bool
+    ensures { λ r. ⌜ r ≡ asksLog s ⌝ }
+{
+    match s {
+        Step::Setup { acceptors: _ } => false,
+        Step::Request { entry: _, to: _ } => false,
+        Step::Open {
+            coord: _,
+            inst: _,
+            ballot: _,
+        } => false,
+        Step::Propose {
+            coord: _,
+            inst: _,
+            ballot: _,
+        } => false,
+        Step::Deliver { msg: _ } => false,
+        Step::Tell {
+            coord: _,
+            process: _,
+            tx: _,
+        } => true,
+        Step::Restore {
+            coord: _,
+            process: _,
+        } => true,
+        Step::Crash { role: _, id: _ } => false,
+    }
+}
+
 fn only_coordinator(k: u8) -> Places
     ensures { λ r. ⌜ r ≡ onlyCoordinator k ⌝ }
 {
     Places {
-        coordinator: k,
+        coordinator: k % COORDINATORS,
         cell: 0,
         process: 0,
     }
@@ -54,7 +87,7 @@ fn only_cell(acceptor: u8, inst: u8) -> Places
 {
     Places {
         coordinator: 0,
-        cell: acceptor as usize * 16 + inst as usize,
+        cell: (acceptor as usize * 16 + inst as usize) % 80,
         process: 0,
     }
 }
@@ -65,7 +98,7 @@ fn only_process(k: u8) -> Places
     Places {
         coordinator: 0,
         cell: 0,
-        process: k,
+        process: k % 16,
     }
 }
 

@@ -22,3 +22,10 @@ module _ {A : Type 0} (text : ℕ → A → List ℕ) (xs : List A) (i : ℕ) (d
       ap (λ (a : A). each f i ++ text (i + 1) a) (in-list xs (i + 1) d e h)
       ∙ ap (λ (n : ℕ). each f i ++ text n (getD xs n e)) (add-one i)
       ∙ each-more f i
+
+-- of two arrays
+pub next-of-both : {A B : Type 0} (text : ℕ → A → B → List ℕ) (xs : List A) (ys : List B) (i : ℕ) (d e : A) (f g : B) → i < length xs → i < length ys
+    → each (λ j. text j (getD xs j e) (getD ys j g)) i ++ text i (getD xs i d) (getD ys i f) ≡ each (λ j. text j (getD xs j e) (getD ys j g)) (i + 1)
+next-of-both {A} {B} text xs ys i d e f g h k =
+    let t : ℕ → List ℕ = λ j. text j (getD xs j e) (getD ys j g) in
+    (λ n. each t i ++ text i (in-list xs i d e h n) (in-list ys i f g k n)) ∙ each-more t i

@@ -3,6 +3,8 @@ use Prim.Native.Nat.{ℕ}
 use mathlib.Core.List.{List, _++_}
 use lib.ListN.{getD}
 use Rattle.ascii.specs.Bytes.{ascii}
+use Rattle.commit_log.specs.declared.Log.{Log}
+use Rattle.commit_log.specs.Log.{emptyLog}
 use Rattle.steps.specs.Limits.{coordinators}
 use Rattle.protocol.specs.declared.Coordinator.{Coordinator}
 use Rattle.protocol.specs.World.{freshCoordinator}
@@ -11,9 +13,9 @@ use Rattle.report.specs.Report.{each, end, field, logText}
 abbrev pub coordinatorLine : ℕ → ℕ → List ℕ
 coordinatorLine coord applied = field (ascii "coord=") coord ++ field (ascii " applied=") applied ++ end
 
-abbrev pub coordinatorText : ℕ → Coordinator → List ℕ
-coordinatorText coord c = coordinatorLine coord (c .applied) ++ logText (c .log)
+abbrev pub coordinatorText : ℕ → Coordinator → Log → List ℕ
+coordinatorText coord c log = coordinatorLine coord (c .applied) ++ logText log
 
 -- the coordinators, by number
-abbrev pub coordinatorsText : List Coordinator → List ℕ
-coordinatorsText cs = each (λ k. coordinatorText k (getD cs k freshCoordinator)) coordinators
+abbrev pub coordinatorsText : List Coordinator → List Log → List ℕ
+coordinatorsText cs logs = each (λ k. coordinatorText k (getD cs k freshCoordinator) (getD logs k emptyLog)) coordinators

@@ -9,4 +9,4 @@ use Rattle.world_report.specs.Processes.{byProcess, heardText, restoreTe
 
 -- a world as it is printed, behind the answers
 unfoldable pub worldText : World → List ℕ
-worldText w = coordinatorsText (w .coordinators) ++ byProcess heardText (w .processes) ++ byProcess restoreText (w .processes)
+worldText w = coordinatorsText (w .coordinators) (w .logs) ++ byProcess heardText (w .processes) ++ byProcess restoreText (w .processes)

@@ -4,6 +4,7 @@ ghost use Rattle.steps.specs.Limits.{coordinators};
 ghost use Rattle.report.specs.Within.{Within, longestLine};
 ghost use Rattle.world_report.specs.Coordinators.{coordinatorLine, coordinatorText, coordinatorsText};
 ghost use Rattle.world_report.specs.Longest.{longestCoordinator};
+use commit_log::Log;
 use protocol::Coordinator;
 use steps::limits::COORDINATORS;
 
@@ -16,22 +17,22 @@ pub fn coordinator_line(out: &mut [u8], at: usize, coord: u8, applied: u8) -> us
 }
 
 // Its line and its log.
-pub fn put_coordinator(out: &mut [u8], at: usize, coord: u8, c: Coordinator) -> usize
-    ensures { λ r. ⌜ Within longestCoordinator (now (out .entry)) at (coordinatorText coord c) (now (out .exit)) r ⌝ }
+pub fn put_coordinator(out: &mut [u8], at: usize, coord: u8, c: Coordinator, log: Log) -> usize
+    ensures { λ r. ⌜ Within longestCoordinator (now (out .entry)) at (coordinatorText coord c log) (now (out .exit)) r ⌝ }
 {
-    let log = c.log;
     let at = coordinator_line(out, at, coord, c.applied);
     report::put_log(out, at, log)
 }
 
-pub fn put_coordinators(out: &mut [u8], at: usize, cs: [Coordinator; 3]) -> usize
-    ensures { λ r. ⌜ Within (coordinators * longestCoordinator) (now (out .entry)) at (coordinatorsText cs) (now (out .exit)) r ⌝ }
+pub fn put_coordinators(out: &mut [u8], at: usize, cs: [Coordinator; 3], logs: [Log; 3]) -> usize
+    ensures { λ r. ⌜ Within (coordinators * longestCoordinator) (now (out .entry)) at (coordinatorsText cs logs) (now (out .exit)) r ⌝ }
 {
     let mut to = at;
     let mut i: u8 = 0;
     while i < COORDINATORS {
         let c = cs[i as usize];
-        to = put_coordinator(out, to, i, c);
+        let log = logs[i as usize];
+        to = put_coordinator(out, to, i, c, log);
         i += 1;
     }
     to

@@ -12,8 +12,9 @@ pub fn put_world(out: &mut [u8], at: usize, w: World) -> usize
     ensures { λ r. ⌜ Within longestWorld (now (out .entry)) at (worldText w) (now (out .exit)) r ⌝ }
 {
     let cs = w.coordinators;
+    let logs = w.logs;
     let ps = w.processes;
-    let at = coordinators::put_coordinators(out, at, cs);
+    let at = coordinators::put_coordinators(out, at, cs, logs);
     let at = processes::put_all_heard(out, at, ps);
     processes::put_restores(out, at, ps)
 }

@@ -13,9 +13,10 @@ use Rattle.agreement.proofs.Limits.{in-bounds}
 use Rattle.cluster.specs.Orders.{ordered}
 use Rattle.lines.specs.Lines.{longest}
 use Rattle.log_laws.proofs.Answers.{fresh, not-given}
+use Rattle.protocol.specs.declared.Parts.{Parts}
 use Rattle.protocol.specs.declared.Stepped.{Stepped}
 use Rattle.protocol.specs.declared.World.{World}
-use Rattle.protocol.specs.Step.{acceptorsCounted, afterStep, answered, noSetup, requestChecks, run, stepChecks, stepOf, stepRefusal}
+use Rattle.protocol.specs.Step.{acceptorsCounted, answered, changed, changeOf, partsOf, placesIn, run, stepChecks, stepOf, stepRefusal}
 use Rattle.protocol.specs.World.{freshWorld}
 use Rattle.steps.specs.declared.Step.{Step}
 use Rattle.steps.specs.declared.Step.the-variants.{Setup, Request, Open, Propose, Deliver, Tell, Restore, Crash}
@@ -36,21 +37,21 @@ short-line : (w : World) (line : List ℕ) → length line ≤ longest → lineT
 unfolding orderOf
 short-line w line h = rw (le-ltb longest (length line) h)
 
-outside-refused : (w : World) (s : Step) → outsideStep (acceptorsCounted w) s ≡ true → stepOf w s ≡ answered w outsideLimits
+outside-refused : (w : World) (s : Step) → outsideStep (acceptorsCounted (w .acceptors)) s ≡ true → stepOf w s ≡ answered w outsideLimits
 unfolding stepOf stepRefusal firstRefusal
 outside-refused w s h = rw h
 
 -- In every world that steps lead to, no more acceptors count than a byte holds.
-pub few-counted : (steps : List Step) → acceptorsCounted (run freshWorld steps) ≤ most
-few-counted steps = go (noSetup (run freshWorld steps))
+pub few-counted : (steps : List Step) → acceptorsCounted (run freshWorld steps .acceptors) ≤ most
+few-counted steps = go (eqb (run freshWorld steps .acceptors) 0)
   where
     go : (b : Bool) → cond b mostAcceptors (run freshWorld steps .acceptors) ≤ most
     go true = omega arith
     go false = omega (arith, in-bounds steps .acceptors)
 
-module _ (w : World) (few : acceptorsCounted w ≤ most) where
+module _ (w : World) (few : acceptorsCounted (w .acceptors) ≤ most) where
   taken : (s : Step) → HasText s → (b : Bool) → beyond s ≡ b → ordered w (orderTo (cond b Outside (Read s))) ≡ stepOf w s
-  taken s t true h = sym (outside-refused w s (beyond-is-outside (acceptorsCounted w) few s t h))
+  taken s t true h = sym (outside-refused w s (beyond-is-outside (acceptorsCounted (w .acceptors)) few s t h))
   taken s t false h = refl
 
   -- The text of a step, if it is not over 100 bytes, is taken: its answer is the world's.
@@ -61,7 +62,7 @@ module _ (w : World) (few : acceptorsCounted w ≤ most) where
       ∙ taken s t (beyond s) refl
 
   -- The text of a step with a number outside its limits is answered 2, and the world stays as it was.
-  pub text-outside-limits : (s : Step) → HasText s → length (text s) ≤ longest → outsideStep (acceptorsCounted w) s ≡ true → lineTaken w (text s) ≡ answered w outsideLimits
+  pub text-outside-limits : (s : Step) → HasText s → length (text s) ≤ longest → outsideStep (acceptorsCounted (w .acceptors)) s ≡ true → lineTaken w (text s) ≡ answered w outsideLimits
   text-outside-limits s t h o = text-is-taken s t h ∙ outside-refused w s o
 
 -- A line over 100 bytes is answered 1, however long it is, and the world stays as it was.
@@ -82,42 +83,46 @@ other-line-is-unreadable w line h = go (ltb longest (length line)) (reading line
 
 -- ---- no other refusal of a step has the number 2
 
-none-is-2 : (w : World) (s : Step) → fresh outsideLimits (stepChecks w s) ≡ true
-unfolding stepChecks requestChecks
-none-is-2 w (Setup n) = refl
-none-is-2 w (Request e to) = refl
-none-is-2 w (Open c i b) = refl
-none-is-2 w (Propose c i b) = refl
-none-is-2 w (Deliver m) = refl
-none-is-2 w (Tell c p tx) = refl
-none-is-2 w (Restore c p) = refl
-none-is-2 w (Crash role id) = refl
+none-is-2 : (p : Parts) (s : Step) → fresh outsideLimits (stepChecks p s) ≡ true
+unfolding stepChecks
+none-is-2 p (Setup n) = refl
+none-is-2 p (Request e to) = refl
+none-is-2 p (Open c i b) = refl
+none-is-2 p (Propose c i b) = refl
+none-is-2 p (Deliver m) = refl
+none-is-2 p (Tell c q tx) = refl
+none-is-2 p (Restore c q) = refl
+none-is-2 p (Crash role id) = refl
 
-refused-2 : (w : World) (s : Step) → stepRefusal w s ≡ outsideLimits → outsideStep (acceptorsCounted w) s ≡ true
+refused-2 : (p : Parts) (s : Step) → stepRefusal p s ≡ outsideLimits → outsideStep (acceptorsCounted (p .acceptors)) s ≡ true
 unfolding stepRefusal firstRefusal
-refused-2 w s h = go (outsideStep (acceptorsCounted w) s) h
+refused-2 p s h = go (outsideStep (acceptorsCounted (p .acceptors)) s) h
   where
-    go : (b : Bool) → cond b outsideLimits (firstRefusal (stepChecks w s)) ≡ outsideLimits → b ≡ true
+    go : (b : Bool) → cond b outsideLimits (firstRefusal (stepChecks p s)) ≡ outsideLimits → b ≡ true
     go true k = refl
-    go false k = absurd (not-given outsideLimits (stepChecks w s) (λ e. omega arith) (none-is-2 w s) k)
+    go false k = absurd (not-given outsideLimits (stepChecks p s) (λ e. omega arith) (none-is-2 p s) k)
 
-answer-is-refusal : (w : World) (s : Step) → stepOf w s .answer ≡ stepRefusal w s
+answer-is-refusal : (w : World) (s : Step) → stepOf w s .answer ≡ stepRefusal (partsOf w s) s
 unfolding stepOf
-answer-is-refusal w s = go (eqb (stepRefusal w s) accepted) refl
+answer-is-refusal w s = go (eqb (stepRefusal p s) accepted) refl
   where
-    go : (b : Bool) → eqb (stepRefusal w s) accepted ≡ b → cond b (answered (afterStep w s) accepted) (answered w (stepRefusal w s)) .answer ≡ stepRefusal w s
-    go true k = sym (eqb-true (stepRefusal w s) accepted k)
+    p : Parts
+    p = partsOf w s
+
+    go : (b : Bool) → eqb (stepRefusal p s) accepted ≡ b
+        → cond b (answered (changed w (placesIn w s) (changeOf p s)) accepted) (answered w (stepRefusal p s)) .answer ≡ stepRefusal p s
+    go true k = sym (eqb-true (stepRefusal p s) accepted k)
     go false k = refl
 
 -- A line answered 2 is the text of a step with natural numbers of any size, one of them outside its limits.
-pub answered-2-is-outside : (w : World) → acceptorsCounted w ≤ most → (line : List ℕ) → lineTaken w line .answer ≡ outsideLimits
-    → (s : Step) × IsText line s × (outsideStep (acceptorsCounted w) s ≡ true)
+pub answered-2-is-outside : (w : World) → acceptorsCounted (w .acceptors) ≤ most → (line : List ℕ) → lineTaken w line .answer ≡ outsideLimits
+    → (s : Step) × IsText line s × (outsideStep (acceptorsCounted (w .acceptors)) s ≡ true)
 unfolding orderOf
 answered-2-is-outside w few line h = go (ltb longest (length line)) (reading line) refl h
   where
     go : (b : Bool) (r : Reading) → reading line ≡ r → ordered w (cond b (refusing unreadable) (orderTo r)) .answer ≡ outsideLimits
-        → (s : Step) × IsText line s × (outsideStep (acceptorsCounted w) s ≡ true)
+        → (s : Step) × IsText line s × (outsideStep (acceptorsCounted (w .acceptors)) s ≡ true)
     go true r k h = absurd (let z : ⊥ = omega arith in z)
-    go false (Read s) k h = (s, read-line-is-text line s k, refused-2 w s (sym (answer-is-refusal w s) ∙ h))
-    go false Outside k h = let t = outside-line-is-text line k in (t .0, t .1, t .2 (acceptorsCounted w) few)
+    go false (Read s) k h = (s, read-line-is-text line s k, refused-2 (partsOf w s) s (sym (answer-is-refusal w s) ∙ h))
+    go false Outside k h = let t = outside-line-is-text line k in (t .0, t .1, t .2 (acceptorsCounted (w .acceptors)) few)
     go false Unreadable k h = absurd (let z : ⊥ = omega arith in z)

@@ -1,19 +1,20 @@
 use mathlib.Core.Bool.{false}
 use mathlib.Core.Path.{ap, refl, _∙_, _≡_}
 use borrow.Author.Needs.{needs}
+use Rattle.entry.specs.Refusal.{firstRefusal}
 use Rattle.steps.specs.declared.Step.the-variants.{Propose}
 use Rattle.protocol.specs.declared.Batch.{Batch}
 use Rattle.protocol.specs.Coordinator.{proposing}
 use Rattle.protocol.specs.Message.{acceptTo}
-use Rattle.transition.specs.Plan.{changeOf, planOf}
-use Rattle.transition.specs.Refusal.{refusalIn}
+use Rattle.protocol.specs.Step.{changeOf, stepChecks}
+use Rattle.transition.specs.Plan.{planOf, refusalIn}
 use Rattle.transition.proofs.PlanLaws.{done-is, refused-is, same-first}
 use Rattle.ballots.proofs.RoundLaws.{round-sent}
 use Rattle.ballots.proofs.propose.Statement.{statement}
 use Rattle.ballots.proofs.propose.Tie as tie
 
 answer-is : (c : tie.After-first-of) → c .first-of .result ≡ refusalIn (c .before .before .before .before .before .args .p) (Propose (c .before .before .before .before .before .args .coord) (c .before .before .before .before .before .args .inst) (c .before .before .before .before .before .args .ballot))
-unfolding refusalIn
+unfolding stepChecks firstRefusal
 answer-is c =
     c .first-of .ensures ∙ same-first false false _ _ _ _ _ _ false false refl (c .before .before .before .is-down .ensures) (c .before .before .proposal-barred .ensures) (c .before .lacks-numbers .ensures) refl
 

@@ -1,7 +1,7 @@
 use borrow.Author.Needs.{needs}
 use mathlib.Core.Path.{_≡_, _∙_}
 use Rattle.steps.specs.declared.Step.the-variants.{Deliver}
-use Rattle.transition.specs.Refusal.{refusalIn}
+use Rattle.transition.specs.Plan.{refusalIn}
 use Rattle.deliveries.proofs.DeliverLaws.{deliver-done, deliver-refused, first-refusal}
 use Rattle.deliveries.proofs.deliver.Statement.{statement}
 use Rattle.deliveries.proofs.deliver.Tie as tie

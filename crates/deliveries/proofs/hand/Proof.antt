@@ -1,7 +1,7 @@
 use borrow.Author.Needs.{needs}
 use mathlib.Core.Path.{ap, sym, _∙_}
 use Rattle.protocol.specs.declared.Kind.{Kind}
-use Rattle.transition.specs.Handed.{handed}
+use Rattle.protocol.specs.Deliver.{handed}
 use Rattle.deliveries.proofs.hand.Statement.{statement}
 use Rattle.deliveries.proofs.hand.Tie as tie
 

@@ -2,7 +2,8 @@ use borrow.Author.Needs.{needs}
 use mathlib.Core.Bool.{Bool, _&&_}
 use mathlib.Core.Path.{ap, sym, _∙_}
 use Rattle.protocol.specs.declared.Kind.{Kind}
-use Rattle.transition.specs.Refusal.{lacks, placeless}
+use Rattle.protocol.specs.Deliver.{noPlaceFor}
+use Rattle.protocol.specs.Send.{lacksNumbers}
 use Rattle.deliveries.proofs.placeless.Statement.{statement}
 use Rattle.deliveries.proofs.placeless.Tie as tie
 
@@ -43,25 +44,25 @@ enum-told-7 : tie.Need-enum-told-7
 enum-told-7 c = search needs
 
 returns : tie.Need-returns
-returns c = c .is-full-for .ensures ∙ ap (λ (k : Kind). placeless (c .before .before .before .before .args .p) k) (sym (c .before .enum-told .given .1))
+returns c = c .is-full-for .ensures ∙ ap (λ (k : Kind). noPlaceFor (c .before .before .before .before .args .p) k) (sym (c .before .enum-told .given .1))
 
 returns-2 : tie.Need-returns-2
-returns-2 c = c .lacks-answer .ensures ∙ ap (λ (b : Bool). b && lacks (c .before .before .before .before .before .args .p .sent) 1) (c .before .promises .ensures) ∙ ap (λ (k : Kind). placeless (c .before .before .before .before .before .args .p) k) (sym (c .before .before .enum-told2 .given .1))
+returns-2 c = c .lacks-answer .ensures ∙ ap (λ (b : Bool). b && lacksNumbers (c .before .before .before .before .before .args .p .sent) 1) (c .before .promises .ensures) ∙ ap (λ (k : Kind). noPlaceFor (c .before .before .before .before .before .args .p) k) (sym (c .before .before .enum-told2 .given .1))
 
 returns-3 : tie.Need-returns-3
-returns-3 c = c .lacks-answer2 .ensures ∙ ap (λ (b : Bool). b && lacks (c .before .before .before .before .before .args .p .sent) 1) (c .before .accepts .ensures) ∙ ap (λ (k : Kind). placeless (c .before .before .before .before .before .args .p) k) (sym (c .before .before .enum-told3 .given .1))
+returns-3 c = c .lacks-answer2 .ensures ∙ ap (λ (b : Bool). b && lacksNumbers (c .before .before .before .before .before .args .p .sent) 1) (c .before .accepts .ensures) ∙ ap (λ (k : Kind). noPlaceFor (c .before .before .before .before .before .args .p) k) (sym (c .before .before .enum-told3 .given .1))
 
 returns-4 : tie.Need-returns-4
-returns-4 c = search needs
+returns-4 c = ap (λ (k : Kind). noPlaceFor (c .before .before .before .args .p) k) (sym (c .enum-told4 .given .1))
 
 returns-5 : tie.Need-returns-5
-returns-5 c = search needs
+returns-5 c = ap (λ (k : Kind). noPlaceFor (c .before .before .before .args .p) k) (sym (c .enum-told5 .given .1))
 
 returns-6 : tie.Need-returns-6
-returns-6 c = search needs
+returns-6 c = ap (λ (k : Kind). noPlaceFor (c .before .before .before .args .p) k) (sym (c .enum-told6 .given .1))
 
 returns-7 : tie.Need-returns-7
-returns-7 c = search needs
+returns-7 c = ap (λ (k : Kind). noPlaceFor (c .before .before .before .args .p) k) (sym (c .enum-told7 .given .1))
 
 pub placeless-spec : {M : Type 1} → statement M
 placeless-spec =

@@ -2,17 +2,18 @@ use mathlib.Core.Path.{ap, refl, _∙_, _≡_}
 use mathlib.Core.Bool.{false}
 use borrow.Author.Needs.{needs}
 use lib.Dec.{eqb}
+use Rattle.entry.specs.Refusal.{firstRefusal}
 use Rattle.steps.specs.declared.Step.the-variants.{Crash}
 use Rattle.protocol.specs.declared.Down.{Down}
-use Rattle.transition.specs.Plan.{changeOf, planOf}
-use Rattle.transition.specs.Refusal.{refusalIn}
-use Rattle.transition.specs.Change.{downNow, still}
+use Rattle.protocol.specs.Step.{changeOf, stepChecks}
+use Rattle.transition.specs.Plan.{planOf, refusalIn}
+use Rattle.protocol.specs.Change.{downNow, still}
 use Rattle.transition.proofs.PlanLaws.{done-is, refused-is, same-first}
 use Rattle.requests.proofs.crash.Statement.{statement}
 use Rattle.requests.proofs.crash.Tie as tie
 
 answer-is : (c : tie.After-first-of) → c .first-of .result ≡ refusalIn (c .before .before .before .args .p) (Crash (c .before .before .before .args .role) (c .before .before .before .args .id))
-unfolding refusalIn
+unfolding stepChecks firstRefusal
 answer-is c =
     let unmet = eqb (c .before .before .before .args .p .acceptors) 0 in
     c .first-of .ensures ∙ same-first false false _ _ unmet unmet false false false false refl (c .before .before .is-down .ensures) refl refl refl

@@ -2,18 +2,19 @@ use mathlib.Core.Path.{ap, refl, _∙_, _≡_}
 use mathlib.Core.Bool.{false}
 use borrow.Author.Needs.{needs}
 use lib.Dec.{eqb}
+use Rattle.entry.specs.Refusal.{firstRefusal}
 use Rattle.steps.specs.declared.Step.the-variants.{Request}
 use Rattle.protocol.specs.declared.Message.{Message}
-use Rattle.transition.specs.Plan.{changeOf, planOf}
-use Rattle.transition.specs.Refusal.{refusalIn}
-use Rattle.transition.specs.Change.{sending}
+use Rattle.protocol.specs.Step.{changeOf, stepChecks}
+use Rattle.transition.specs.Plan.{planOf, refusalIn}
+use Rattle.protocol.specs.Change.{sending}
 use Rattle.transition.proofs.PlanLaws.{done-is, refused-is, same-first}
 use Rattle.requests.proofs.TestLaws.{either-is, or-is}
 use Rattle.requests.proofs.request.Statement.{statement}
 use Rattle.requests.proofs.request.Tie as tie
 
 answer-is : (c : tie.After-first-of) → c .first-of .result ≡ refusalIn (c .before .before .before .before .before .before .before .before .before .args .p) (Request (c .before .before .before .before .before .before .before .before .before .args .e) (c .before .before .before .before .before .before .before .before .before .args .to))
-unfolding refusalIn
+unfolding stepChecks firstRefusal
 answer-is c =
     let down = either-is (c .before .before .before .before .before .before .either .ensures) (c .before .before .before .before .before .before .before .before .is-down .ensures) (c .before .before .before .before .before .before .before .is-down2 .ensures) in
     let unmet = or-is (eqb (c .before .before .before .before .before .before .before .before .before .args .p .acceptors) 0) (c .before .before .before .either2 .ensures) (c .before .before .before .before .unbelieved .ensures) in

@@ -1,14 +1,15 @@
 use mathlib.Core.Path.{_∙_, _≡_}
 use borrow.Author.Needs.{needs}
+use Rattle.entry.specs.Refusal.{firstRefusal}
 use Rattle.steps.specs.declared.Step.the-variants.{Setup}
-use Rattle.transition.specs.Plan.{changeOf, planOf}
-use Rattle.transition.specs.Refusal.{refusalIn}
+use Rattle.protocol.specs.Step.{changeOf, stepChecks}
+use Rattle.transition.specs.Plan.{planOf, refusalIn}
 use Rattle.transition.proofs.PlanLaws.{done-is, refused-is}
 use Rattle.requests.proofs.setup.Statement.{statement}
 use Rattle.requests.proofs.setup.Tie as tie
 
 answer-is : (c : tie.After-first-of) → c .first-of .result ≡ refusalIn (c .before .before .args .p) (Setup (c .before .before .args .n))
-unfolding refusalIn
+unfolding stepChecks firstRefusal
 answer-is c = c .first-of .ensures
 
 first-of-requires : tie.Need-first-of-requires

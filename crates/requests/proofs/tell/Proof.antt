@@ -1,28 +1,20 @@
-use mathlib.Core.Path.{ap, refl, _∙_, _≡_}
 use mathlib.Core.Bool.{false}
+use mathlib.Core.Path.{refl, _∙_, _≡_}
 use borrow.Author.Needs.{needs}
 use lib.Dec.{eqb}
-use Rattle.commit_log.specs.Outcome.{isOpen}
-use Rattle.commit_log.specs.declared.Outcome.{Outcome}
+use Rattle.entry.specs.Refusal.{firstRefusal}
 use Rattle.steps.specs.declared.Step.the-variants.{Tell}
-use Rattle.protocol.specs.Message.{tellTo}
-use Rattle.protocol.specs.declared.Message.{Message}
-use Rattle.transition.specs.Plan.{changeOf, planOf}
-use Rattle.transition.specs.Refusal.{refusalIn}
-use Rattle.transition.specs.Change.{sending}
+use Rattle.protocol.specs.Step.{changeOf, stepChecks}
+use Rattle.transition.specs.Plan.{planOf, refusalIn}
 use Rattle.transition.proofs.PlanLaws.{done-is, refused-is, same-first}
 use Rattle.requests.proofs.TestLaws.{or-is}
 use Rattle.requests.proofs.tell.Statement.{statement}
 use Rattle.requests.proofs.tell.Tie as tie
 
-answer-is : (c : tie.After-first-of) → c .first-of .result ≡ refusalIn (c .before .before .before .before .before .before .before .before .args .p) (Tell (c .before .before .before .before .before .before .before .before .args .coord) (c .before .before .before .before .before .before .before .before .args .process) (c .before .before .before .before .before .before .before .before .args .tx))
-unfolding refusalIn
+answer-is : (c : tie.After-first-of) → c .first-of .result ≡ refusalIn (c .before .before .before .before .before .before .before .args .p) (Tell (c .before .before .before .before .before .before .before .args .coord) (c .before .before .before .before .before .before .before .args .process) (c .before .before .before .before .before .before .before .args .tx))
+unfolding stepChecks firstRefusal
 answer-is c =
-    let unmet = or-is (eqb (c .before .before .before .before .before .before .before .before .args .p .acceptors) 0) (c .before .before .before .either .ensures) (c .before .before .before .before .before .is-open .ensures ∙ ap isOpen (c .before .before .before .before .before .before .outcome .ensures)) in
-    c .first-of .ensures ∙ same-first false false _ _ _ _ _ _ false false refl (c .before .before .deaf .ensures) unmet (c .before .lacks-numbers .ensures) refl
-
-outcome-requires : tie.Need-outcome-requires
-outcome-requires c κs = search needs
+    c .first-of .ensures ∙ same-first false false _ _ _ _ _ _ false false refl (c .before .before .deaf .ensures) (or-is (eqb (c .before .before .before .before .before .before .before .args .p .acceptors) 0) (c .before .before .before .either .ensures) (c .before .before .before .before .before .is-open .ensures)) (c .before .lacks-numbers .ensures) refl
 
 is-open-requires : tie.Need-is-open-requires
 is-open-requires c κs = search needs
@@ -44,26 +36,19 @@ still-requires c κs = search needs
 
 returns : tie.Need-returns
 unfolding planOf
-returns c = let a = c .before .before .before .before .before .before .before .before .before .before .args in c .still .ensures ∙ refused-is _ _ _ (changeOf (a .p) (Tell (a .coord) (a .process) (a .tx))) (answer-is (c .before .before)) (c .before .if1 .taken)
-
-tell-to-requires : tie.Need-tell-to-requires
-tell-to-requires c κs = search needs
+returns c = let a = c .before .before .before .before .before .before .before .before .before .args in c .still .ensures ∙ refused-is _ _ _ (changeOf (a .p) (Tell (a .coord) (a .process) (a .tx))) (answer-is (c .before .before)) (c .before .if1 .taken)
 
 sending-requires : tie.Need-sending-requires
 sending-requires c κs = search needs
 
 returns-2 : tie.Need-returns-2
 unfolding planOf changeOf
-returns-2 c =
-    let a = c .before .before .before .before .before .before .before .before .before .before .before .args in
-    let told = c .before .tell-to .ensures ∙ ap (λ (o : Outcome). tellTo (a .process) (a .tx) o) (c .before .before .before .before .before .before .before .before .before .outcome .ensures) in
-    c .sending .ensures ∙ ap (λ (m : Message). sending (a .p) 1 m) told ∙ done-is (a .p) _ _ _ (answer-is (c .before .before .before)) (c .before .before .if1 .left)
+returns-2 c = let a = c .before .before .before .before .before .before .before .before .before .args in c .sending .ensures ∙ done-is (a .p) _ _ _ (answer-is (c .before .before)) (c .before .if1 .left)
 
 pub tell-spec : {M : Type 1} → statement M
 tell-spec =
     tie.close
     (tie.spec
-    outcome-requires
     is-open-requires
     either-requires
     deaf-requires
@@ -71,6 +56,5 @@ tell-spec =
     first-of-requires
     still-requires
     returns
-    tell-to-requires
     sending-requires
     returns-2)

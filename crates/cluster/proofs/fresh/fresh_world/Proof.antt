@@ -9,6 +9,9 @@ empty-cell-requires c κs = search needs
 fresh-coordinator-requires : tie.Need-fresh-coordinator-requires
 fresh-coordinator-requires c κs = search needs
 
+empty-requires : tie.Need-empty-requires
+empty-requires c κs = search needs
+
 fresh-process-requires : tie.Need-fresh-process-requires
 fresh-process-requires c κs = search needs
 
@@ -31,6 +34,7 @@ fresh-world-spec =
     (tie.spec
     empty-cell-requires
     fresh-coordinator-requires
+    empty-requires
     fresh-process-requires
     no-entry-requires
     request-to-requires

@@ -3,9 +3,6 @@ use Rattle.protocol.specs.World.{freshCoordinator}
 use Rattle.coordinator.proofs.fresh.fresh_coordinator.Statement.{statement}
 use Rattle.coordinator.proofs.fresh.fresh_coordinator.Tie as tie
 
-empty-requires : tie.Need-empty-requires
-empty-requires c κs = search needs
-
 empty-queue-requires : tie.Need-empty-queue-requires
 empty-queue-requires c κs = search needs
 
@@ -18,4 +15,4 @@ returns c = cc
 
 pub fresh-coordinator-spec : {M : Type 1} → statement M
 fresh-coordinator-spec =
-    tie.close (tie.spec empty-requires empty-queue-requires new-round-requires returns)
+    tie.close (tie.spec empty-queue-requires new-round-requires returns)

@@ -6,9 +6,6 @@ use Rattle.coordinator.proofs.learn.learning.Tie as tie
 one-more-requires : tie.Need-one-more-requires
 one-more-requires c κs = search needs
 
-fed-requires : tie.Need-fed-requires
-fed-requires c κs = search needs
-
 left-by-requires : tie.Need-left-by-requires
 left-by-requires c κs = search needs
 
@@ -21,4 +18,4 @@ returns c = cc
 
 pub learning-spec : {M : Type 1} → statement M
 learning-spec =
-    tie.close (tie.spec one-more-requires fed-requires left-by-requires new-round-requires returns)
+    tie.close (tie.spec one-more-requires left-by-requires new-round-requires returns)

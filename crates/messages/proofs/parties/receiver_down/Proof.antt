@@ -3,7 +3,8 @@ use mathlib.Core.Path.{ap, sym, _∙_}
 use Prim.Native.Nat.{ℕ}
 use Rattle.steps.specs.declared.Role.the-variants.{Coord}
 use Rattle.protocol.specs.declared.Kind.{Kind}
-use Rattle.messages.specs.Parts.{downOf, receiverDownOf}
+use Rattle.protocol.specs.World.{isDown}
+use Rattle.protocol.specs.Deliver.{receiverDown}
 use Rattle.messages.proofs.parties.receiver_down.Statement.{statement}
 use Rattle.messages.proofs.parties.receiver_down.Tie as tie
 
@@ -56,25 +57,25 @@ is-down-requires-7 : tie.Need-is-down-requires-7
 is-down-requires-7 c κs = search needs
 
 returns : tie.Need-returns
-returns c = let a = c .before .before .before .args in c .is-down .ensures ∙ ap (λ (x : Kind). receiverDownOf (a .d) (a .m) x) (sym (c .before .enum-told .given .1))
+returns c = let a = c .before .before .before .args in c .is-down .ensures ∙ ap (λ (x : Kind). receiverDown (a .d) (a .m) x) (sym (c .before .enum-told .given .1))
 
 returns-2 : tie.Need-returns-2
-returns-2 c = let a = c .before .before .before .args in c .is-down2 .ensures ∙ ap (λ (x : Kind). receiverDownOf (a .d) (a .m) x) (sym (c .before .enum-told2 .given .1))
+returns-2 c = let a = c .before .before .before .args in c .is-down2 .ensures ∙ ap (λ (x : Kind). receiverDown (a .d) (a .m) x) (sym (c .before .enum-told2 .given .1))
 
 returns-3 : tie.Need-returns-3
-returns-3 c = let a = c .before .before .before .args in c .is-down3 .ensures ∙ ap (λ (x : Kind). receiverDownOf (a .d) (a .m) x) (sym (c .before .enum-told3 .given .1))
+returns-3 c = let a = c .before .before .before .args in c .is-down3 .ensures ∙ ap (λ (x : Kind). receiverDown (a .d) (a .m) x) (sym (c .before .enum-told3 .given .1))
 
 returns-4 : tie.Need-returns-4
-returns-4 c = let a = c .before .before .before .before .args in c .is-down4 .ensures ∙ ap (λ (x : ℕ). downOf (a .d) Coord x) (c .before .owner .ensures) ∙ ap (λ (x : Kind). receiverDownOf (a .d) (a .m) x) (sym (c .before .before .enum-told4 .given .1))
+returns-4 c = let a = c .before .before .before .before .args in c .is-down4 .ensures ∙ ap (λ (x : ℕ). isDown (a .d) Coord x) (c .before .owner .ensures) ∙ ap (λ (x : Kind). receiverDown (a .d) (a .m) x) (sym (c .before .before .enum-told4 .given .1))
 
 returns-5 : tie.Need-returns-5
-returns-5 c = let a = c .before .before .before .before .args in c .is-down5 .ensures ∙ ap (λ (x : ℕ). downOf (a .d) Coord x) (c .before .owner2 .ensures) ∙ ap (λ (x : Kind). receiverDownOf (a .d) (a .m) x) (sym (c .before .before .enum-told5 .given .1))
+returns-5 c = let a = c .before .before .before .before .args in c .is-down5 .ensures ∙ ap (λ (x : ℕ). isDown (a .d) Coord x) (c .before .owner2 .ensures) ∙ ap (λ (x : Kind). receiverDown (a .d) (a .m) x) (sym (c .before .before .enum-told5 .given .1))
 
 returns-6 : tie.Need-returns-6
-returns-6 c = let a = c .before .before .before .args in c .is-down6 .ensures ∙ ap (λ (x : Kind). receiverDownOf (a .d) (a .m) x) (sym (c .before .enum-told6 .given .1))
+returns-6 c = let a = c .before .before .before .args in c .is-down6 .ensures ∙ ap (λ (x : Kind). receiverDown (a .d) (a .m) x) (sym (c .before .enum-told6 .given .1))
 
 returns-7 : tie.Need-returns-7
-returns-7 c = let a = c .before .before .before .args in c .is-down7 .ensures ∙ ap (λ (x : Kind). receiverDownOf (a .d) (a .m) x) (sym (c .before .enum-told7 .given .1))
+returns-7 c = let a = c .before .before .before .args in c .is-down7 .ensures ∙ ap (λ (x : Kind). receiverDown (a .d) (a .m) x) (sym (c .before .enum-told7 .given .1))
 
 pub receiver-down-spec : {M : Type 1} → statement M
 receiver-down-spec =

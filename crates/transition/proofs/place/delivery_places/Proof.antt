@@ -2,7 +2,7 @@ use borrow.Author.Needs.{needs}
 use Prim.Native.Nat.{ℕ}
 use mathlib.Core.Path.{ap, sym, _∙_}
 use Rattle.protocol.specs.declared.Kind.{Kind}
-use Rattle.transition.specs.Places.{deliveryPlaces, onlyCoordinator}
+use Rattle.protocol.specs.Places.{deliveryPlaces, onlyCoordinator}
 use Rattle.transition.proofs.place.delivery_places.Statement.{statement}
 use Rattle.transition.proofs.place.delivery_places.Tie as tie
 

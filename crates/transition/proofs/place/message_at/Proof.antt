@@ -1,7 +1,7 @@
 use borrow.Author.Needs.{needs}
 use mathlib.Core.Path.{ap, sym, _∙_}
 use Rattle.steps.specs.declared.Step.{Step}
-use Rattle.transition.specs.Places.{messageAt}
+use Rattle.protocol.specs.Places.{messageAt}
 use Rattle.transition.proofs.place.message_at.Statement.{statement}
 use Rattle.transition.proofs.place.message_at.Tie as tie
 

@@ -1,7 +1,7 @@
 use borrow.Author.Needs.{needs}
 use mathlib.Core.Path.{ap, sym, _∙_}
 use Rattle.steps.specs.declared.Step.{Step}
-use Rattle.transition.specs.Places.{placesOf}
+use Rattle.protocol.specs.Places.{placesOf}
 use Rattle.transition.proofs.place.places.Statement.{statement}
 use Rattle.transition.proofs.place.places.Tie as tie
 
@@ -54,27 +54,35 @@ only-coordinator-requires-6 : tie.Need-only-coordinator-requires-6
 only-coordinator-requires-6 c κs = search needs
 
 returns : tie.Need-returns
+unfolding placesOf
 returns c = c .only-coordinator .ensures ∙ ap (λ (s : Step). placesOf s (c .before .before .before .args .m)) (sym (c .before .enum-told .given .1))
 
 returns-2 : tie.Need-returns-2
+unfolding placesOf
 returns-2 c = c .only-process .ensures ∙ ap (λ (s : Step). placesOf s (c .before .before .before .before .args .m)) (sym (c .before .before .s .given .1))
 
 returns-3 : tie.Need-returns-3
+unfolding placesOf
 returns-3 c = c .only-coordinator2 .ensures ∙ ap (λ (s : Step). placesOf s (c .before .before .before .before .args .m)) (sym (c .before .before .s2 .given .1))
 
 returns-4 : tie.Need-returns-4
+unfolding placesOf
 returns-4 c = c .only-coordinator3 .ensures ∙ ap (λ (s : Step). placesOf s (c .before .before .before .before .args .m)) (sym (c .before .before .s3 .given .1))
 
 returns-5 : tie.Need-returns-5
+unfolding placesOf
 returns-5 c = c .delivery-places .ensures ∙ ap (λ (s : Step). placesOf s (c .before .before .before .args .m)) (sym (c .before .enum-told2 .given .1))
 
 returns-6 : tie.Need-returns-6
+unfolding placesOf
 returns-6 c = c .only-coordinator4 .ensures ∙ ap (λ (s : Step). placesOf s (c .before .before .before .before .args .m)) (sym (c .before .before .s4 .given .1))
 
 returns-7 : tie.Need-returns-7
+unfolding placesOf
 returns-7 c = c .only-coordinator5 .ensures ∙ ap (λ (s : Step). placesOf s (c .before .before .before .before .args .m)) (sym (c .before .before .s5 .given .1))
 
 returns-8 : tie.Need-returns-8
+unfolding placesOf
 returns-8 c = c .only-coordinator6 .ensures ∙ ap (λ (s : Step). placesOf s (c .before .before .before .args .m)) (sym (c .before .enum-told3 .given .1))
 
 pub places-spec : {M : Type 1} → statement M

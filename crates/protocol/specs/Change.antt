@@ -1,14 +1,16 @@
 -- The parts of the world that a step touches, with one of them changed, and changes.
 use Prim.Native.Nat.{ℕ}
 use Rattle.entry.specs.Refusal.{accepted}
+use Rattle.protocol.specs.declared.Batch.{Batch}
 use Rattle.protocol.specs.declared.Cell.{Cell}
 use Rattle.protocol.specs.declared.Coordinator.{Coordinator}
 use Rattle.protocol.specs.declared.Down.{Down}
 use Rattle.protocol.specs.declared.Message.{Message}
 use Rattle.protocol.specs.declared.Process.{Process}
+use Rattle.protocol.specs.Batch.{noBatch}
 use Rattle.protocol.specs.Message.{noMessage}
-use Rattle.transition.specs.declared.Change.{Change}
-use Rattle.transition.specs.declared.Parts.{Parts}
+use Rattle.protocol.specs.declared.Change.{Change}
+use Rattle.protocol.specs.declared.Parts.{Parts}
 
 abbrev pub parts : ℕ → ℕ → Down → Coordinator → Cell → Process → Message → Parts
 parts acceptors sent down coordinator cell process message = record {
@@ -38,8 +40,16 @@ processNow p h = parts (p .acceptors) (p .sent) (p .down) (p .coordinator) (p .c
 
 -- the parts are these, and nothing is sent
 abbrev pub still : Parts → ℕ → Change
-still p answer = record { answer = answer; parts = p; count = 0; message = noMessage }
+still p answer = record { answer = answer; parts = p; count = 0; message = noMessage; learned = noBatch }
 
 -- the step is accepted, the parts are these, and so many messages are sent
 abbrev pub sending : Parts → ℕ → Message → Change
-sending p n m = record { answer = accepted; parts = p; count = n; message = m }
+sending p n m = record { answer = accepted; parts = p; count = n; message = m; learned = noBatch }
+
+-- the step is accepted, the parts are these, and the coordinator's log is to be fed the batch
+abbrev pub learns : Parts → Batch → Change
+learns p b = record { answer = accepted; parts = p; count = 0; message = noMessage; learned = b }
+
+-- the step is accepted, the parts are these, and nothing is sent
+abbrev pub done : Parts → Change
+done p = still p accepted

@@ -1,13 +1,15 @@
--- Where in the world the parts of a step stand.
+-- Where in the world the parts of a step stand. A number beyond the places wraps, so that every step of every world has its places: a step
+-- with such a number is refused 2, and no message has one (`InBounds` of agreement).
 use Prim.Native.Nat.{ℕ, _+_, _*_, _%_}
 use Rattle.steps.specs.declared.Step.{Step}
 use Rattle.steps.specs.declared.Step.the-variants.{Setup, Request, Open, Propose, Deliver, Tell, Restore, Crash}
-use Rattle.steps.specs.Limits.{instances, messages}
+use Rattle.steps.specs.Limits.{coordinators, instances, messages}
 use Rattle.protocol.specs.declared.Kind.{Kind}
 use Rattle.protocol.specs.declared.Kind.the-variants as kind
 use Rattle.protocol.specs.declared.Message.{Message}
 use Rattle.protocol.specs.Ballot.{owner}
-use Rattle.transition.specs.declared.Places.{Places}
+use Rattle.protocol.specs.Limits.{cellPlaces, processPlaces}
+use Rattle.protocol.specs.declared.Places.{Places}
 
 -- the message that the step delivers; message 0 if it delivers none
 abbrev pub messageAt : Step → ℕ
@@ -21,13 +23,13 @@ messageAt (Restore c p) = 0
 messageAt (Crash role id) = 0
 
 abbrev pub onlyCoordinator : ℕ → Places
-onlyCoordinator k = record { coordinator = k; cell = 0; process = 0 }
+onlyCoordinator k = record { coordinator = k % coordinators; cell = 0; process = 0 }
 
 abbrev pub onlyCell : ℕ → ℕ → Places
-onlyCell a i = record { coordinator = 0; cell = a * instances + i; process = 0 }
+onlyCell a i = record { coordinator = 0; cell = (a * instances + i) % cellPlaces; process = 0 }
 
 abbrev pub onlyProcess : ℕ → Places
-onlyProcess k = record { coordinator = 0; cell = 0; process = k }
+onlyProcess k = record { coordinator = 0; cell = 0; process = k % processPlaces }
 
 -- where the receiver of the message stands
 abbrev pub deliveryPlaces : Message → Kind → Places
@@ -40,7 +42,7 @@ deliveryPlaces m kind.Tell = onlyProcess (m .to)
 deliveryPlaces m kind.Restore = onlyProcess (m .to)
 
 -- the places of a step; m is the message that it delivers
-abbrev pub placesOf : Step → Message → Places
+unfoldable pub placesOf : Step → Message → Places
 placesOf (Setup n) m = onlyCoordinator 0
 placesOf (Request e to) m = onlyProcess (e .process)
 placesOf (Open c i b) m = onlyCoordinator c
