@@ -1,5 +1,5 @@
 // The fields of a line, each at its place.
-use entry::Entry;
+use log_entry::Entry;
 ghost use lib.ListN.{length};
 ghost use Prim.Native.Nat.{_+_, _<_, _≤_};
 

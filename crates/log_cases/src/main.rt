@@ -1,10 +1,10 @@
 // The cases of `stdin`, a line for each entry: what the log answers to each, and what it says at the end of each case.
 // The layout of a line is in tests/make_log_cases.py, and `stdout` is what tests/log_reference.py makes of it.
-use commit_log::Log;
-use commit_log::Outcome;
-use entry::Entry;
 use libc::STDIN_FILENO;
 use libc::STDOUT_FILENO;
+use log_core::Log;
+use log_core::Outcome;
+use log_entry::Entry;
 
 mod line;
 mod show;

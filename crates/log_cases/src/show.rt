@@ -1,7 +1,7 @@
 // What a log says, as lines.
-use commit_log::Log;
-use commit_log::Outcome;
 use libc::STDOUT_FILENO;
+use log_core::Log;
+use log_core::Outcome;
 
 fn number(key: &[u8], n: u64) {
     io::write_all(STDOUT_FILENO, key);

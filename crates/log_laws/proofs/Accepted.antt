@@ -6,16 +6,16 @@ use mathlib.Core.Logic.{_≢_}
 use lib.Dec.{eqb, leb, ltb}
 use lib.ListN.{getD}
 use borrow.Author.Tests.{eqb-false, leb-false, not-false}
-use Rattle.entry.specs.declared.Entry.{Entry}
-use Rattle.entry.specs.Bits.{has}
-use Rattle.entry.specs.Entry.{illFormed, noProcess, outside}
-use Rattle.entry.specs.Limits.{lists, processes, stores, transactions, updates}
-use Rattle.entry.specs.Refusal.{accepted, firstRefusal}
-use Rattle.commit_log.specs.declared.Log.{Log}
-use Rattle.commit_log.specs.declared.Row.{Row}
-use Rattle.commit_log.specs.Enter.{refusalOf}
-use Rattle.commit_log.specs.Log.{heldBefore, holderOf, noVote, rowOf}
-use Rattle.commit_log.specs.Refusal.{anyClash, holdsAny, takeChecks, voteChecks}
+use Rattle.log_entry.specs.declared.Entry.{Entry}
+use Rattle.log_entry.specs.Bits.{has}
+use Rattle.log_entry.specs.Entry.{illFormed, noProcess, outside}
+use Rattle.log_entry.specs.Limits.{lists, processes, stores, transactions, updates}
+use Rattle.log_entry.specs.Refusal.{accepted, firstRefusal}
+use Rattle.log_core.specs.declared.Log.{Log}
+use Rattle.log_core.specs.declared.Row.{Row}
+use Rattle.log_core.specs.Enter.{refusalOf}
+use Rattle.log_core.specs.Log.{heldBefore, holderOf, noVote, rowOf}
+use Rattle.log_core.specs.Refusal.{anyClash, holdsAny, takeChecks, voteChecks}
 use Rattle.log_laws.specs.Answers.{None}
 use Rattle.log_laws.proofs.Answers.{conditions, none-applies}
 use Rattle.log_laws.proofs.Tests.{and-false, neither-left, neither-right}

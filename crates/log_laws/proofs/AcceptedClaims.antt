@@ -6,17 +6,17 @@ use mathlib.Core.Path.{_≡_, ap, refl, sym, _∙_}
 use native.Mathlib.Omega.{arith}
 use lib.ListN.{getD, length, set}
 use lib.Seq.{getD-set-same}
-use Rattle.entry.proofs.InsideLaws.{inside-store, inside-vote}
-use Rattle.entry.specs.declared.Entry.{Entry}
-use Rattle.entry.specs.Refusal.{accepted}
-use Rattle.commit_log.proofs.EnterLaws.{take-entered}
-use Rattle.commit_log.proofs.RefusalLaws.{accepted-inside}
-use Rattle.commit_log.specs.declared.Entered.{Entered}
-use Rattle.commit_log.specs.declared.Log.{Log}
-use Rattle.commit_log.specs.declared.Row.{Row}
-use Rattle.commit_log.specs.declared.Vote.{Vote}
-use Rattle.commit_log.specs.Enter.{enter, refusalOf}
-use Rattle.commit_log.specs.Log.{holderOf, inGroup, keeping, noRow, noVote, rowOf, voteAt, voteOfEntry}
+use Rattle.log_entry.proofs.InsideLaws.{inside-store, inside-vote}
+use Rattle.log_entry.specs.declared.Entry.{Entry}
+use Rattle.log_entry.specs.Refusal.{accepted}
+use Rattle.log_core.proofs.EnterLaws.{take-entered}
+use Rattle.log_core.proofs.RefusalLaws.{accepted-inside}
+use Rattle.log_core.specs.declared.Entered.{Entered}
+use Rattle.log_core.specs.declared.Log.{Log}
+use Rattle.log_core.specs.declared.Row.{Row}
+use Rattle.log_core.specs.declared.Vote.{Vote}
+use Rattle.log_core.specs.Enter.{enter, refusalOf}
+use Rattle.log_core.specs.Log.{holderOf, inGroup, keeping, noRow, noVote, rowOf, voteAt, voteOfEntry}
 use Rattle.log_laws.specs.Holders.{AcceptedTakeHolds}
 use Rattle.log_laws.specs.Reached.{reached}
 use Rattle.log_laws.specs.Votes.{AcceptedVoteIsKept}

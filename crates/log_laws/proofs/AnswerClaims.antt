@@ -6,14 +6,14 @@ use mathlib.Core.List.{List, [], _∷_, _++_}
 use mathlib.Core.Logic.{_↔_, _≢_}
 use native.Mathlib.Omega.{arith}
 use lib.Dec.{eqb}
-use Rattle.entry.specs.declared.Entry.{Entry}
-use Rattle.entry.specs.Entry.{illFormed, outside}
-use Rattle.entry.specs.Refusal.{Check, accepted, check, firstRefusal, holdsOrHeld, illFormedVote, keptAlready, notHolder, otherList, outsideLimits}
-use Rattle.commit_log.specs.declared.Entered.{Entered}
-use Rattle.commit_log.specs.declared.Log.{Log}
-use Rattle.commit_log.specs.Enter.{enter, refusalOf}
-use Rattle.commit_log.specs.Log.{holderOf, rowOf}
-use Rattle.commit_log.specs.Refusal.{takeChecks, voteChecks}
+use Rattle.log_entry.specs.declared.Entry.{Entry}
+use Rattle.log_entry.specs.Entry.{illFormed, outside}
+use Rattle.log_entry.specs.Refusal.{Check, accepted, check, firstRefusal, holdsOrHeld, illFormedVote, keptAlready, notHolder, otherList, outsideLimits}
+use Rattle.log_core.specs.declared.Entered.{Entered}
+use Rattle.log_core.specs.declared.Log.{Log}
+use Rattle.log_core.specs.Enter.{enter, refusalOf}
+use Rattle.log_core.specs.Log.{holderOf, rowOf}
+use Rattle.log_core.specs.Refusal.{takeChecks, voteChecks}
 use Rattle.log_laws.specs.Answers.{First, None, RefusedEntryChangesNothing, TakeAnswerExactly, VoteAnswerExactly, clash, held, holdsNot, kept}
 use Rattle.log_laws.proofs.Accepted.{take-refusal, vote-refusal}
 use Rattle.log_laws.proofs.Answers.{conditions, fresh, given-exactly, no-refusal, none-applies}

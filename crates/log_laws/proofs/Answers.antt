@@ -6,7 +6,7 @@ use mathlib.Core.List.{List, [], _∷_, _++_, map}
 use mathlib.Core.Logic.{_↔_, _≢_}
 use lib.Dec.{eqb}
 use borrow.Author.Tests.{eq-eqb, not-true}
-use Rattle.entry.specs.Refusal.{Check, accepted, check, firstRefusal}
+use Rattle.log_entry.specs.Refusal.{Check, accepted, check, firstRefusal}
 use Rattle.log_laws.specs.Answers.{First, None}
 use Rattle.log_laws.proofs.Tests.{and-left, and-right, opposed}
 

@@ -1,13 +1,13 @@
 -- The table of cases, by computation.
 use mathlib.Core.Path.{refl}
-use Rattle.entry.specs.Entry.{illFormed, outside}
-use Rattle.entry.specs.Refusal.{firstRefusal}
-use Rattle.commit_log.specs.Enter.{afterEntry, enter, feed, refusalOf, voted}
-use Rattle.commit_log.specs.Group.{committing, remembered, runningSet}
-use Rattle.commit_log.specs.Involvement.{involvementOfVotes}
-use Rattle.commit_log.specs.Log.{emptyLog}
-use Rattle.commit_log.specs.Outcome.{outcomeOfVotes, running}
-use Rattle.commit_log.specs.Scan.{allFrom, anyFrom}
+use Rattle.log_entry.specs.Entry.{illFormed, outside}
+use Rattle.log_entry.specs.Refusal.{firstRefusal}
+use Rattle.log_core.specs.Enter.{afterEntry, enter, feed, refusalOf, voted}
+use Rattle.log_core.specs.Group.{committing, remembered, runningSet}
+use Rattle.log_core.specs.Involvement.{involvementOfVotes}
+use Rattle.log_core.specs.Log.{emptyLog}
+use Rattle.log_core.specs.Outcome.{outcomeOfVotes, running}
+use Rattle.log_core.specs.Scan.{allFrom, anyFrom}
 use Rattle.log_laws.specs.Cases.{CasesHold, answersTo, cases}
 
 pub table-holds : CasesHold

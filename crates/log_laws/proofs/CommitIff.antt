@@ -3,9 +3,9 @@ use Prim.Native.Nat.{ℕ}
 use mathlib.Core.Path.{_≡_, ap}
 use mathlib.Core.Bool.{true, not}
 use borrow.Author.Tests.{not-true}
-use Rattle.commit_log.specs.declared.Log.{Log}
-use Rattle.commit_log.specs.Log.{noVote, rowOf, voteAt}
-use Rattle.commit_log.specs.Outcome.{isAbort, isCommitted, outcomeOf}
+use Rattle.log_core.specs.declared.Log.{Log}
+use Rattle.log_core.specs.Log.{noVote, rowOf, voteAt}
+use Rattle.log_core.specs.Outcome.{isAbort, isCommitted, outcomeOf}
 use Rattle.log_laws.specs.Reached.{reached}
 use Rattle.log_laws.specs.Votes.{AllCommit, OutcomeCommitIff}
 use Rattle.log_laws.proofs.Feed.{wf-reached}

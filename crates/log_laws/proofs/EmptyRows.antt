@@ -4,11 +4,11 @@ use mathlib.Core.Path.{_≡_, refl, sym, subst}
 use mathlib.Core.Bool.{false}
 use mathlib.Core.Logic.{⊎-elim}
 use lib.ListN.{getD, getD-replicate, length-replicate, List·getD-eq-default, replicate}
-use Rattle.entry.specs.Limits.{stores, transactions}
-use Rattle.commit_log.specs.declared.Row.{Row}
-use Rattle.commit_log.specs.declared.Vote.{Vote}
-use Rattle.commit_log.specs.Log.{emptyLog, noRow, noVote, rowOf}
-use Rattle.commit_log.specs.Replay.{voteOfStore}
+use Rattle.log_entry.specs.Limits.{stores, transactions}
+use Rattle.log_core.specs.declared.Row.{Row}
+use Rattle.log_core.specs.declared.Vote.{Vote}
+use Rattle.log_core.specs.Log.{emptyLog, noRow, noVote, rowOf}
+use Rattle.log_core.specs.Replay.{voteOfStore}
 use Rattle.log_laws.proofs.Tests.{below-or-not}
 
 abbrev pub blank : Row

@@ -1,10 +1,10 @@
 -- Feeding a log: in parts, and that what each entry keeps stays in every later log.
 use mathlib.Core.Path.{_≡_, refl, sym, subst}
 use mathlib.Core.List.{List, [], _∷_, _++_}
-use Rattle.entry.specs.declared.Entry.{Entry}
-use Rattle.commit_log.specs.declared.Log.{Log}
-use Rattle.commit_log.specs.Enter.{enter, feed}
-use Rattle.commit_log.specs.Log.{emptyLog}
+use Rattle.log_entry.specs.declared.Entry.{Entry}
+use Rattle.log_core.specs.declared.Log.{Log}
+use Rattle.log_core.specs.Enter.{enter, feed}
+use Rattle.log_core.specs.Log.{emptyLog}
 use Rattle.log_laws.specs.Reached.{reached}
 use Rattle.log_laws.proofs.Wf.{Wf, feed-keeps, wf-empty, wf-feed}
 

@@ -6,15 +6,15 @@ use mathlib.Core.List.{List, [], _∷_, _++_}
 use mathlib.Core.Logic.{⊎-elim}
 use native.Mathlib.Omega.{arith}
 use lib.Seq.{append-snoc}
-use Rattle.entry.specs.declared.Entry.{Entry}
-use Rattle.entry.specs.Bits.{has}
-use Rattle.entry.specs.Refusal.{accepted}
-use Rattle.commit_log.specs.declared.Log.{Log}
-use Rattle.commit_log.specs.declared.Row.{Row}
-use Rattle.commit_log.specs.Enter.{enter, feed, refusalOf}
-use Rattle.commit_log.specs.Group.{nextGroup, remembered}
-use Rattle.commit_log.specs.Log.{emptyLog, holderOf, inGroup, keeping, rowOf}
-use Rattle.commit_log.specs.Outcome.{isCommitted, outcomeOf, outcomeOfVotes, running}
+use Rattle.log_entry.specs.declared.Entry.{Entry}
+use Rattle.log_entry.specs.Bits.{has}
+use Rattle.log_entry.specs.Refusal.{accepted}
+use Rattle.log_core.specs.declared.Log.{Log}
+use Rattle.log_core.specs.declared.Row.{Row}
+use Rattle.log_core.specs.Enter.{enter, feed, refusalOf}
+use Rattle.log_core.specs.Group.{nextGroup, remembered}
+use Rattle.log_core.specs.Log.{emptyLog, holderOf, inGroup, keeping, rowOf}
+use Rattle.log_core.specs.Outcome.{isCommitted, outcomeOf, outcomeOfVotes, running}
 use Rattle.log_laws.specs.Groups.{Begins, BegunByCommit, FirstCommitBegins, GroupAtCommit, GroupIffCommitted, GroupNeverChanges, Grouped, GroupsWithoutGaps, JoinsIfRunningWhenBegun}
 use Rattle.log_laws.specs.Reached.{reached}
 use Rattle.log_laws.proofs.Accepted.{VoteOk, vote-ok}

@@ -9,13 +9,13 @@ use lib.Dec.{eqb}
 use lib.ListN.{getD, length}
 use lib.Seq.{getD-set-other, getD-set-same}
 use borrow.Author.Tests.{eqb-false, ne-eqb}
-use Rattle.entry.specs.declared.Entry.{Entry}
-use Rattle.entry.specs.Limits.{transactions}
-use Rattle.commit_log.specs.declared.Log.{Log}
-use Rattle.commit_log.specs.declared.Row.{Row}
-use Rattle.commit_log.specs.Enter.{enter, voted}
-use Rattle.commit_log.specs.Group.{committing, nextGroup, remembered, runningSet}
-use Rattle.commit_log.specs.Log.{emptyLog, groupOf, holderOf, inGroup, keeping, noRow, rowOf}
+use Rattle.log_entry.specs.declared.Entry.{Entry}
+use Rattle.log_entry.specs.Limits.{transactions}
+use Rattle.log_core.specs.declared.Log.{Log}
+use Rattle.log_core.specs.declared.Row.{Row}
+use Rattle.log_core.specs.Enter.{enter, voted}
+use Rattle.log_core.specs.Group.{committing, nextGroup, remembered, runningSet}
+use Rattle.log_core.specs.Log.{emptyLog, groupOf, holderOf, inGroup, keeping, noRow, rowOf}
 use Rattle.log_laws.proofs.Accepted.{VoteOk, tx-in}
 use Rattle.log_laws.proofs.EmptyRows.{empty-rows}
 use Rattle.log_laws.proofs.Grouping.{Grouping, group-room, grouping-set}

@@ -7,13 +7,13 @@ use mathlib.Core.Logic.{_≢_, ⊎-elim}
 use lib.Dec.{eqb}
 use lib.ListN.{getD, length, List·getD-eq-default, replicate, set}
 use borrow.Author.Tests.{eq-eqb}
-use Rattle.entry.specs.declared.Entry.{Entry}
-use Rattle.entry.specs.Bits.{has, with}
-use Rattle.entry.specs.Limits.{stores}
-use Rattle.commit_log.specs.declared.Log.{Log}
-use Rattle.commit_log.specs.Enter.{enter}
-use Rattle.commit_log.specs.Log.{emptyLog, heldBefore, holderOf, keeping, rowOf}
-use Rattle.commit_log.specs.Refusal.{holdsAny}
+use Rattle.log_entry.specs.declared.Entry.{Entry}
+use Rattle.log_entry.specs.Bits.{has, with}
+use Rattle.log_entry.specs.Limits.{stores}
+use Rattle.log_core.specs.declared.Log.{Log}
+use Rattle.log_core.specs.Enter.{enter}
+use Rattle.log_core.specs.Log.{emptyLog, heldBefore, holderOf, keeping, rowOf}
+use Rattle.log_core.specs.Refusal.{holdsAny}
 use Rattle.log_laws.proofs.Accepted.{TakeOk, process-from-1, store-in}
 use Rattle.log_laws.proofs.EmptyRows.{replicate-cases}
 use Rattle.log_laws.proofs.Places.{set-cases}

@@ -2,10 +2,10 @@
 use mathlib.Core.Path.{_≡_, refl, ap, _∙_}
 use mathlib.Core.List.{List, [], _∷_, _++_}
 use mathlib.Core.Logic.{_⊎_, inl, inr, ⊎-elim}
-use Rattle.entry.specs.declared.Entry.{Entry}
-use Rattle.commit_log.specs.declared.Log.{Log}
-use Rattle.commit_log.specs.Enter.{enter, feed}
-use Rattle.commit_log.specs.Log.{emptyLog}
+use Rattle.log_entry.specs.declared.Entry.{Entry}
+use Rattle.log_core.specs.declared.Log.{Log}
+use Rattle.log_core.specs.Enter.{enter, feed}
+use Rattle.log_core.specs.Log.{emptyLog}
 use Rattle.log_laws.specs.Groups.{Begins, LastGroupWasBegun}
 use Rattle.log_laws.specs.Reached.{reached}
 use Rattle.log_laws.proofs.GroupSteps.{one-group}

@@ -5,8 +5,8 @@ use mathlib.Core.Bool.{true}
 use mathlib.Core.List.{_++_}
 use mathlib.Core.Logic.{_≢_}
 use native.Mathlib.Omega.{arith}
-use Rattle.commit_log.specs.declared.Log.{Log}
-use Rattle.commit_log.specs.Log.{heldBefore}
+use Rattle.log_core.specs.declared.Log.{Log}
+use Rattle.log_core.specs.Log.{heldBefore}
 use Rattle.log_laws.specs.Holders.{HoldsAtMostOneStore, LostStoreNeverAgain}
 use Rattle.log_laws.specs.Reached.{reached}
 use Rattle.log_laws.proofs.Feed.{later, wf-reached}

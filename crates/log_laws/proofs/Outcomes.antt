@@ -6,12 +6,12 @@ use mathlib.Core.List.{List}
 use mathlib.Core.Logic.{⊎-elim}
 use lib.ListN.{getD, length, List·getD-eq-default}
 use borrow.Author.Tests.{not-false}
-use Rattle.entry.specs.Bits.{has}
-use Rattle.commit_log.specs.declared.Outcome.{Outcome}
-use Rattle.commit_log.specs.declared.Outcome.the-variants.{Open, Commit, Abort}
-use Rattle.commit_log.specs.declared.Vote.{Vote}
-use Rattle.commit_log.specs.Log.{noVote}
-use Rattle.commit_log.specs.Outcome.{anyAbort, anyCovered, covered, isAbort, isCommit, isCommitted, outcomeOfVotes}
+use Rattle.log_entry.specs.Bits.{has}
+use Rattle.log_core.specs.declared.Outcome.{Outcome}
+use Rattle.log_core.specs.declared.Outcome.the-variants.{Open, Commit, Abort}
+use Rattle.log_core.specs.declared.Vote.{Vote}
+use Rattle.log_core.specs.Log.{noVote}
+use Rattle.log_core.specs.Outcome.{anyAbort, anyCovered, covered, isAbort, isCommit, isCommitted, outcomeOfVotes}
 use Rattle.log_laws.proofs.Scans.{all-here, any-here, each-here, found, none-here}
 use Rattle.log_laws.proofs.Tests.{and-false, and-left, and-right, below-or-not, both}
 

@@ -3,11 +3,11 @@ use Prim.Native.Nat.{ℕ, _+_, _≤_}
 use mathlib.Core.Path.{_≡_, refl, ap, _∙_}
 use native.Mathlib.Omega.{arith}
 use native.Mathlib.Nat.{le-trans}
-use Rattle.entry.specs.declared.Entry.{Entry}
-use Rattle.entry.specs.Bits.{has}
-use Rattle.commit_log.specs.declared.Log.{Log}
-use Rattle.commit_log.specs.Enter.{enter}
-use Rattle.commit_log.specs.Group.{remembered, runningSet}
+use Rattle.log_entry.specs.declared.Entry.{Entry}
+use Rattle.log_entry.specs.Bits.{has}
+use Rattle.log_core.specs.declared.Log.{Log}
+use Rattle.log_core.specs.Enter.{enter}
+use Rattle.log_core.specs.Group.{remembered, runningSet}
 use Rattle.log_laws.specs.Groups.{Begins, RememberedNeverChanges, GroupRemembersRunning}
 use Rattle.log_laws.specs.Reached.{reached}
 use Rattle.log_laws.proofs.Feed.{later, wf-reached}

@@ -7,12 +7,12 @@ use native.Mathlib.Omega.{arith}
 use lib.Dec.{eqb}
 use lib.ListN.{length, List·getD-eq-default}
 use borrow.Author.Tests.{eq-eqb, eqb-true}
-use Rattle.commit_log.specs.declared.Log.{Log}
-use Rattle.commit_log.specs.declared.Replayed.{Replayed}
-use Rattle.commit_log.specs.declared.Row.{Row}
-use Rattle.commit_log.specs.Log.{groupOf, noRow, rowOf, voteAt}
-use Rattle.commit_log.specs.Outcome.{isCommit, isCommitted, outcomeOf}
-use Rattle.commit_log.specs.Replay.{groupReplay, noReplayed, replayRows, replays}
+use Rattle.log_core.specs.declared.Log.{Log}
+use Rattle.log_core.specs.declared.Replayed.{Replayed}
+use Rattle.log_core.specs.declared.Row.{Row}
+use Rattle.log_core.specs.Log.{groupOf, noRow, rowOf, voteAt}
+use Rattle.log_core.specs.Outcome.{isCommit, isCommitted, outcomeOf}
+use Rattle.log_core.specs.Replay.{groupReplay, noReplayed, replayRows, replays}
 use Rattle.log_laws.specs.Reached.{reached}
 use Rattle.log_laws.specs.Replays.{Before, ReplayListsExactly, ReplayListsOnce, ReplayOrdered, Replays, replayed}
 use Rattle.log_laws.proofs.Feed.{wf-reached}

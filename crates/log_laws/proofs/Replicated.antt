@@ -4,13 +4,13 @@ use mathlib.Core.Path.{_≡_}
 use mathlib.Core.List.{List, _++_}
 use mathlib.Core.Logic.{_≢_}
 use lib.ListN.{length}
-use Rattle.entry.specs.declared.Entry.{Entry}
-use Rattle.entry.specs.Limits.{stores, transactions}
-use Rattle.commit_log.specs.declared.Log.{Log}
-use Rattle.commit_log.specs.declared.Outcome.the-variants.{Open}
-use Rattle.commit_log.specs.Enter.{feed}
-use Rattle.commit_log.specs.Log.{rowOf}
-use Rattle.commit_log.specs.Outcome.{outcomeOf}
+use Rattle.log_entry.specs.declared.Entry.{Entry}
+use Rattle.log_entry.specs.Limits.{stores, transactions}
+use Rattle.log_core.specs.declared.Log.{Log}
+use Rattle.log_core.specs.declared.Outcome.the-variants.{Open}
+use Rattle.log_core.specs.Enter.{feed}
+use Rattle.log_core.specs.Log.{rowOf}
+use Rattle.log_core.specs.Outcome.{outcomeOf}
 use Rattle.log_laws.specs.Reached.{reached}
 use Rattle.log_laws.proofs.Feed
 use Rattle.log_laws.proofs.Stays

@@ -5,15 +5,15 @@ use mathlib.Core.Bool.{Bool, true, false, _&&_}
 use mathlib.Core.Logic.{_≢_}
 use lib.ListN.{length, length-set}
 use borrow.Author.Tests.{eqb-true, not-false}
-use Rattle.entry.specs.declared.Entry.{Entry}
-use Rattle.entry.specs.Bits.{has}
-use Rattle.entry.specs.Limits.{stores}
-use Rattle.commit_log.specs.declared.Row.{Row}
-use Rattle.commit_log.specs.declared.Vote.{Vote}
-use Rattle.commit_log.specs.Log.{inGroup, keeping, noVote, voteOfEntry}
-use Rattle.commit_log.specs.Outcome.{isCommit, isCommitted, outcomeOfVotes}
-use Rattle.commit_log.specs.Refusal.{clashes}
-use Rattle.commit_log.specs.Replay.{voteOfStore}
+use Rattle.log_entry.specs.declared.Entry.{Entry}
+use Rattle.log_entry.specs.Bits.{has}
+use Rattle.log_entry.specs.Limits.{stores}
+use Rattle.log_core.specs.declared.Row.{Row}
+use Rattle.log_core.specs.declared.Vote.{Vote}
+use Rattle.log_core.specs.Log.{inGroup, keeping, noVote, voteOfEntry}
+use Rattle.log_core.specs.Outcome.{isCommit, isCommitted, outcomeOfVotes}
+use Rattle.log_core.specs.Refusal.{clashes}
+use Rattle.log_core.specs.Replay.{voteOfStore}
 use Rattle.log_laws.proofs.Accepted.{VoteOk, list-in, lists-store}
 use Rattle.log_laws.proofs.Outcomes.{commit-kept, committed-covered, committed-no-abort, covered-at, covering, kept-commit, kept-in}
 use Rattle.log_laws.proofs.Places.{set-either}

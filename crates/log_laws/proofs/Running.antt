@@ -8,12 +8,12 @@ use lib.Dec.{eqb}
 use lib.ListN.{getD}
 use lib.Pow.{shr-shr}
 use borrow.Author.Tests.{eq-eqb, ne-eqb}
-use Rattle.entry.specs.Bits.{has}
-use Rattle.commit_log.specs.declared.Row.{Row}
-use Rattle.commit_log.specs.Group.{runningSet}
-use Rattle.commit_log.specs.Log.{noRow}
-use Rattle.commit_log.specs.Outcome.{running}
-use Rattle.commit_log.specs.Scan.{anyFrom}
+use Rattle.log_entry.specs.Bits.{has}
+use Rattle.log_core.specs.declared.Row.{Row}
+use Rattle.log_core.specs.Group.{runningSet}
+use Rattle.log_core.specs.Log.{noRow}
+use Rattle.log_core.specs.Outcome.{running}
+use Rattle.log_core.specs.Scan.{anyFrom}
 use Rattle.log_laws.proofs.Sets.{empty-has}
 
 -- a set by its lowest bit and the rest

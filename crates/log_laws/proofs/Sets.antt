@@ -8,7 +8,7 @@ use native.Mathlib.Nat.{div-eq-of-lt, div-self, zero-div, lt-of-lt-of-le}
 use lib.Bits.{bitAnd, bitOr, and-shr, and-step, or-shr, or-step}
 use lib.Pow.{pow-mono, pow-pos}
 use borrow.Author.Tests.{eq-eqb, eqb-true, ne-eqb}
-use Rattle.entry.specs.Bits.{has, with, within}
+use Rattle.log_entry.specs.Bits.{has, with, within}
 use Rattle.log_laws.proofs.Tests.{below-or-not}
 
 abbrev pub bit : ℕ → ℕ → ℕ

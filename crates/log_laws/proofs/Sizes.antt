@@ -3,12 +3,12 @@ use Prim.Native.Nat.{ℕ, _<_}
 use mathlib.Core.Path.{_≡_, refl, ap, _∙_}
 use mathlib.Core.List.{List}
 use lib.ListN.{getD-replicate, length, length-set, replicate}
-use Rattle.entry.specs.declared.Entry.{Entry}
-use Rattle.entry.specs.Limits.{stores, transactions}
-use Rattle.commit_log.specs.declared.Log.{Log}
-use Rattle.commit_log.specs.declared.Row.{Row}
-use Rattle.commit_log.specs.Enter.{enter}
-use Rattle.commit_log.specs.Log.{emptyLog, keeping, noRow, noVote, rowOf, voteOfEntry}
+use Rattle.log_entry.specs.declared.Entry.{Entry}
+use Rattle.log_entry.specs.Limits.{stores, transactions}
+use Rattle.log_core.specs.declared.Log.{Log}
+use Rattle.log_core.specs.declared.Row.{Row}
+use Rattle.log_core.specs.Enter.{enter}
+use Rattle.log_core.specs.Log.{emptyLog, keeping, noRow, noVote, rowOf, voteOfEntry}
 use Rattle.log_laws.proofs.Rows.{committed}
 use Rattle.log_laws.proofs.Steps.{enter-cases, joins, row-cases, voted-holders, voted-past, voted-remembered, voted-rows}
 use Rattle.log_laws.proofs.Tests.{by-test}

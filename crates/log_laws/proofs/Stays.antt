@@ -4,16 +4,16 @@ use mathlib.Core.Path.{_≡_, refl, sym, ap, _∙_}
 use mathlib.Core.Bool.{true, not}
 use mathlib.Core.List.{List}
 use mathlib.Core.Logic.{_≢_}
-use Rattle.entry.specs.declared.Entry.{Entry}
-use Rattle.commit_log.specs.declared.Log.{Log}
-use Rattle.commit_log.specs.declared.Outcome.{Outcome}
-use Rattle.commit_log.specs.declared.Outcome.the-variants.{Open, Commit, Abort}
-use Rattle.commit_log.specs.declared.Row.{Row}
-use Rattle.commit_log.specs.declared.Vote.{Vote}
-use Rattle.commit_log.specs.Enter.{enter, feed}
-use Rattle.commit_log.specs.Log.{emptyLog, holderOf, rowOf, voteAt}
-use Rattle.commit_log.specs.Outcome.{isAbort, isCommitted, outcomeOf, outcomeOfVotes}
-use Rattle.commit_log.specs.Replay.{voteOfStore}
+use Rattle.log_entry.specs.declared.Entry.{Entry}
+use Rattle.log_core.specs.declared.Log.{Log}
+use Rattle.log_core.specs.declared.Outcome.{Outcome}
+use Rattle.log_core.specs.declared.Outcome.the-variants.{Open, Commit, Abort}
+use Rattle.log_core.specs.declared.Row.{Row}
+use Rattle.log_core.specs.declared.Vote.{Vote}
+use Rattle.log_core.specs.Enter.{enter, feed}
+use Rattle.log_core.specs.Log.{emptyLog, holderOf, rowOf, voteAt}
+use Rattle.log_core.specs.Outcome.{isAbort, isCommitted, outcomeOf, outcomeOfVotes}
+use Rattle.log_core.specs.Replay.{voteOfStore}
 use Rattle.log_laws.specs.Reached.{reached}
 use Rattle.log_laws.specs.Votes.{CommitVotesNameOneList, CommittedKeepsNoVote, CommittedRowStays, KeptVoteStays, OutcomeNeverChanges}
 use Rattle.log_laws.proofs.Accepted.{vote-ok}

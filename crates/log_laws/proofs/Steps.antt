@@ -6,15 +6,15 @@ use mathlib.Core.List.{List}
 use lib.Dec.{eqb}
 use lib.ListN.{getD, set}
 use borrow.Author.Tests.{eq-eqb, eqb-true}
-use Rattle.entry.specs.declared.Entry.{Entry}
-use Rattle.entry.specs.Bits.{has}
-use Rattle.entry.specs.Refusal.{accepted}
-use Rattle.commit_log.specs.declared.Entered.{Entered}
-use Rattle.commit_log.specs.declared.Log.{Log}
-use Rattle.commit_log.specs.declared.Row.{Row}
-use Rattle.commit_log.specs.Enter.{afterEntry, enter, refusalOf, voted}
-use Rattle.commit_log.specs.Group.{committing, nextGroup, remembered, runningSet}
-use Rattle.commit_log.specs.Log.{holderOf, inGroup, keeping, noRow, rowOf, withHolder}
+use Rattle.log_entry.specs.declared.Entry.{Entry}
+use Rattle.log_entry.specs.Bits.{has}
+use Rattle.log_entry.specs.Refusal.{accepted}
+use Rattle.log_core.specs.declared.Entered.{Entered}
+use Rattle.log_core.specs.declared.Log.{Log}
+use Rattle.log_core.specs.declared.Row.{Row}
+use Rattle.log_core.specs.Enter.{afterEntry, enter, refusalOf, voted}
+use Rattle.log_core.specs.Group.{committing, nextGroup, remembered, runningSet}
+use Rattle.log_core.specs.Log.{holderOf, inGroup, keeping, noRow, rowOf, withHolder}
 use Rattle.log_laws.proofs.Accepted.{TakeOk, VoteOk, take-ok, vote-ok}
 use Rattle.log_laws.proofs.Places.{set-either}
 use Rattle.log_laws.proofs.Rows.{committed}

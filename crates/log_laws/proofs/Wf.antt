@@ -1,10 +1,10 @@
 -- What holds of every log that entries lead to.
 use Prim.Native.Nat.{ℕ}
 use mathlib.Core.List.{List, [], _∷_}
-use Rattle.entry.specs.declared.Entry.{Entry}
-use Rattle.commit_log.specs.declared.Log.{Log}
-use Rattle.commit_log.specs.Enter.{enter, feed}
-use Rattle.commit_log.specs.Log.{emptyLog, rowOf}
+use Rattle.log_entry.specs.declared.Entry.{Entry}
+use Rattle.log_core.specs.declared.Log.{Log}
+use Rattle.log_core.specs.Enter.{enter, feed}
+use Rattle.log_core.specs.Log.{emptyLog, rowOf}
 use Rattle.log_laws.proofs.Grouping.{Grouping}
 use Rattle.log_laws.proofs.GroupSteps.{grouping-empty, grouping-enter}
 use Rattle.log_laws.proofs.Holding.{Holding, holding-empty, holding-enter}

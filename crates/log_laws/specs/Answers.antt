@@ -4,13 +4,13 @@ use mathlib.Core.Bool.{Bool, true, false, _||_, not}
 use mathlib.Core.List.{List, [], _∷_}
 use mathlib.Core.Logic.{_↔_, _≢_}
 use lib.Dec.{eqb}
-use Rattle.entry.specs.declared.Entry.{Entry}
-use Rattle.entry.specs.Entry.{illFormed, outside}
-use Rattle.entry.specs.Refusal.{accepted, holdsOrHeld, illFormedVote, keptAlready, notHolder, otherList, outsideLimits}
-use Rattle.commit_log.specs.declared.Log.{Log}
-use Rattle.commit_log.specs.Enter.{enter}
-use Rattle.commit_log.specs.Log.{heldBefore, holderOf, rowOf, voteAt}
-use Rattle.commit_log.specs.Refusal.{anyClash, holdsAny}
+use Rattle.log_entry.specs.declared.Entry.{Entry}
+use Rattle.log_entry.specs.Entry.{illFormed, outside}
+use Rattle.log_entry.specs.Refusal.{accepted, holdsOrHeld, illFormedVote, keptAlready, notHolder, otherList, outsideLimits}
+use Rattle.log_core.specs.declared.Log.{Log}
+use Rattle.log_core.specs.Enter.{enter}
+use Rattle.log_core.specs.Log.{heldBefore, holderOf, rowOf, voteAt}
+use Rattle.log_core.specs.Refusal.{anyClash, holdsAny}
 
 -- no condition holds
 abbrev pub None : List Bool → Type 0

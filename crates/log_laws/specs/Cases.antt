@@ -3,17 +3,17 @@ use Prim.Native.Nat.{ℕ, suc}
 use mathlib.Core.Path.{_≡_}
 use mathlib.Core.Bool.{true, false}
 use mathlib.Core.List.{List, [], _∷_, map}
-use Rattle.entry.specs.declared.Entry.{Entry}
-use Rattle.entry.specs.Entry.{takeEntry, voteEntry}
-use Rattle.commit_log.specs.declared.Involvement.{Involvement}
-use Rattle.commit_log.specs.declared.Involvement.the-variants.{No, Yes, Unknown}
-use Rattle.commit_log.specs.declared.Log.{Log}
-use Rattle.commit_log.specs.declared.Outcome.{Outcome}
-use Rattle.commit_log.specs.declared.Outcome.the-variants.{Open, Commit, Abort}
-use Rattle.commit_log.specs.Enter.{enter, feed}
-use Rattle.commit_log.specs.Involvement.{involvementOf}
-use Rattle.commit_log.specs.Log.{groupOf}
-use Rattle.commit_log.specs.Outcome.{outcomeOf}
+use Rattle.log_entry.specs.declared.Entry.{Entry}
+use Rattle.log_entry.specs.Entry.{takeEntry, voteEntry}
+use Rattle.log_core.specs.declared.Involvement.{Involvement}
+use Rattle.log_core.specs.declared.Involvement.the-variants.{No, Yes, Unknown}
+use Rattle.log_core.specs.declared.Log.{Log}
+use Rattle.log_core.specs.declared.Outcome.{Outcome}
+use Rattle.log_core.specs.declared.Outcome.the-variants.{Open, Commit, Abort}
+use Rattle.log_core.specs.Enter.{enter, feed}
+use Rattle.log_core.specs.Involvement.{involvementOf}
+use Rattle.log_core.specs.Log.{groupOf}
+use Rattle.log_core.specs.Outcome.{outcomeOf}
 use Rattle.log_laws.specs.Reached.{reached}
 
 -- a result: the outcome of a tx, its group, or the involvement of a store in it

@@ -5,16 +5,16 @@ use mathlib.Core.Path.{_≡_}
 use mathlib.Core.Bool.{Bool, false, cond}
 use mathlib.Core.List.{List, [], _∷_, _++_}
 use mathlib.Core.Logic.{_↔_, _≢_, _⊎_}
-use Rattle.entry.specs.declared.Entry.{Entry}
-use Rattle.entry.specs.Bits.{has}
-use Rattle.entry.specs.Limits.{transactions}
-use Rattle.entry.specs.Refusal.{accepted}
-use Rattle.commit_log.specs.declared.Log.{Log}
-use Rattle.commit_log.specs.declared.Outcome.the-variants.{Commit}
-use Rattle.commit_log.specs.Enter.{enter}
-use Rattle.commit_log.specs.Group.{remembered}
-use Rattle.commit_log.specs.Log.{groupOf, rowOf}
-use Rattle.commit_log.specs.Outcome.{outcomeOf, running}
+use Rattle.log_entry.specs.declared.Entry.{Entry}
+use Rattle.log_entry.specs.Bits.{has}
+use Rattle.log_entry.specs.Limits.{transactions}
+use Rattle.log_entry.specs.Refusal.{accepted}
+use Rattle.log_core.specs.declared.Log.{Log}
+use Rattle.log_core.specs.declared.Outcome.the-variants.{Commit}
+use Rattle.log_core.specs.Enter.{enter}
+use Rattle.log_core.specs.Group.{remembered}
+use Rattle.log_core.specs.Log.{groupOf, rowOf}
+use Rattle.log_core.specs.Outcome.{outcomeOf, running}
 use Rattle.log_laws.specs.Reached.{reached}
 
 -- a transaction has a group exactly if it is committed

@@ -4,10 +4,10 @@ use mathlib.Core.Path.{_≡_}
 use mathlib.Core.Bool.{true}
 use mathlib.Core.List.{List, _++_}
 use mathlib.Core.Logic.{_≢_}
-use Rattle.entry.specs.declared.Entry.{Entry}
-use Rattle.entry.specs.Refusal.{accepted}
-use Rattle.commit_log.specs.Enter.{enter}
-use Rattle.commit_log.specs.Log.{holderOf}
+use Rattle.log_entry.specs.declared.Entry.{Entry}
+use Rattle.log_entry.specs.Refusal.{accepted}
+use Rattle.log_core.specs.Enter.{enter}
+use Rattle.log_core.specs.Log.{holderOf}
 use Rattle.log_laws.specs.Reached.{reached}
 
 -- "An accepted take makes the process the store's holder."

@@ -4,13 +4,13 @@ use mathlib.Core.Path.{_≡_}
 use mathlib.Core.List.{List}
 use mathlib.Core.Logic.{_↔_, _⊎_}
 use lib.ListN.{getD, length}
-use Rattle.entry.specs.declared.Entry.{Entry}
-use Rattle.commit_log.specs.declared.Log.{Log}
-use Rattle.commit_log.specs.declared.Outcome.the-variants.{Commit}
-use Rattle.commit_log.specs.declared.Replayed.{Replayed}
-use Rattle.commit_log.specs.Log.{groupOf, voteAt}
-use Rattle.commit_log.specs.Outcome.{outcomeOf}
-use Rattle.commit_log.specs.Replay.{noReplayed, replayRows}
+use Rattle.log_entry.specs.declared.Entry.{Entry}
+use Rattle.log_core.specs.declared.Log.{Log}
+use Rattle.log_core.specs.declared.Outcome.the-variants.{Commit}
+use Rattle.log_core.specs.declared.Replayed.{Replayed}
+use Rattle.log_core.specs.Log.{groupOf, voteAt}
+use Rattle.log_core.specs.Outcome.{outcomeOf}
+use Rattle.log_core.specs.Replay.{noReplayed, replayRows}
 use Rattle.log_laws.specs.Reached.{reached}
 use Rattle.log_laws.specs.Votes.{KeptCommit}
 

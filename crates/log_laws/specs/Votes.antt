@@ -4,14 +4,14 @@ use mathlib.Core.Path.{_≡_}
 use mathlib.Core.Bool.{true, false}
 use mathlib.Core.List.{List, _++_}
 use mathlib.Core.Logic.{_↔_, _≢_}
-use Rattle.entry.specs.declared.Entry.{Entry}
-use Rattle.entry.specs.Bits.{has}
-use Rattle.entry.specs.Refusal.{accepted}
-use Rattle.commit_log.specs.declared.Log.{Log}
-use Rattle.commit_log.specs.declared.Outcome.the-variants.{Open, Commit}
-use Rattle.commit_log.specs.Enter.{enter}
-use Rattle.commit_log.specs.Log.{rowOf, voteAt, voteOfEntry}
-use Rattle.commit_log.specs.Outcome.{outcomeOf}
+use Rattle.log_entry.specs.declared.Entry.{Entry}
+use Rattle.log_entry.specs.Bits.{has}
+use Rattle.log_entry.specs.Refusal.{accepted}
+use Rattle.log_core.specs.declared.Log.{Log}
+use Rattle.log_core.specs.declared.Outcome.the-variants.{Open, Commit}
+use Rattle.log_core.specs.Enter.{enter}
+use Rattle.log_core.specs.Log.{rowOf, voteAt, voteOfEntry}
+use Rattle.log_core.specs.Outcome.{outcomeOf}
 use Rattle.log_laws.specs.Reached.{reached}
 
 -- a vote of store s on tx is kept

@@ -8,16 +8,16 @@ use mathlib.Core.Path.{_≡_, refl, sym, _∙_, ap}
 use lib.Dec.{eqb, ltb}
 use lib.ListN.{getD, length}
 use borrow.Author.Tests.{eqb-true, le-ltb, lt-ltb}
-use Rattle.entry.specs.declared.Entry.{Entry}
-use Rattle.entry.specs.Entry.{illFormed, outside}
-use Rattle.entry.specs.Refusal.{accepted, firstRefusal, holdsOrHeld, illFormedVote, keptAlready, notHolder, otherList, outsideLimits, unreadable}
-use Rattle.commit_log.specs.declared.Log.{Log}
-use Rattle.commit_log.specs.Enter.{afterEntry, answered, enter, refusalOf}
-use Rattle.commit_log.specs.Log.{heldBefore, holderOf, noVote, rowOf}
-use Rattle.commit_log.specs.Refusal.{anyClash, holdsAny, takeChecks, voteChecks}
-use Rattle.step_text.specs.Entry.{HasText, readEntry, text}
-use Rattle.step_text.proofs.Agreement.{IsText, read-is-text, text-reads-back}
-use Rattle.lines.specs.Lines.{longest}
+use Rattle.log_entry.specs.declared.Entry.{Entry}
+use Rattle.log_entry.specs.Entry.{illFormed, outside}
+use Rattle.log_entry.specs.Refusal.{accepted, firstRefusal, holdsOrHeld, illFormedVote, keptAlready, notHolder, otherList, outsideLimits, unreadable}
+use Rattle.log_core.specs.declared.Log.{Log}
+use Rattle.log_core.specs.Enter.{afterEntry, answered, enter, refusalOf}
+use Rattle.log_core.specs.Log.{heldBefore, holderOf, noVote, rowOf}
+use Rattle.log_core.specs.Refusal.{anyClash, holdsAny, takeChecks, voteChecks}
+use Rattle.text_entry.specs.Entry.{HasText, readEntry, text}
+use Rattle.text_entry.proofs.Agreement.{IsText, read-is-text, text-reads-back}
+use Rattle.text_lines.specs.Lines.{longest}
 use Rattle.plain_run.specs.Plain.{enterLine, entering}
 use Rattle.plain_run.proofs.Entering.{enter-outside}
 

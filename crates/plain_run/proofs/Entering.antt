@@ -9,22 +9,22 @@ use mathlib.Core.Path.{_≡_, refl, sym, _∙_, ap}
 use borrow.Author.Tests.{lt-ltb, le-ltb}
 use denote.Enum.Declared.{tagOf}
 use types.Run.{OneOf}
-use Rattle.entry.specs.declared.Entry.{Entry}
-use Rattle.entry.specs.Entry.{outside}
-use Rattle.entry.specs.Refusal.{firstRefusal, outsideLimits, unreadable}
-use Rattle.commit_log.specs.declared.Log.{Log}
-use Rattle.commit_log.specs.Enter.{answered, enter, refusalOf}
-use Rattle.commit_log.specs.Log.{holderOf, rowOf}
-use Rattle.commit_log.specs.Refusal.{takeChecks, voteChecks}
-use Rattle.step_text.specs.declared.Reading.{Reading}
-use Rattle.step_text.specs.declared.Reading.the-variants.{Read, Outside, Unreadable}
-use Rattle.step_text.specs.Entry.{beyond, readEntry, reading, readingOf}
-use Rattle.step_text.proofs.Agreement.{read-is-text}
-use Rattle.step_text.proofs.Beyond.{beyond-is-outside}
-use Rattle.step_text.proofs.Reading.{the-type as reading-type}
-use Rattle.lines.specs.declared.Line.{Line}
-use Rattle.lines.specs.Line.{bytesOf}
-use Rattle.lines.specs.Lines.{longest}
+use Rattle.log_entry.specs.declared.Entry.{Entry}
+use Rattle.log_entry.specs.Entry.{outside}
+use Rattle.log_entry.specs.Refusal.{firstRefusal, outsideLimits, unreadable}
+use Rattle.log_core.specs.declared.Log.{Log}
+use Rattle.log_core.specs.Enter.{answered, enter, refusalOf}
+use Rattle.log_core.specs.Log.{holderOf, rowOf}
+use Rattle.log_core.specs.Refusal.{takeChecks, voteChecks}
+use Rattle.text_entry.specs.declared.Reading.{Reading}
+use Rattle.text_entry.specs.declared.Reading.the-variants.{Read, Outside, Unreadable}
+use Rattle.text_entry.specs.Entry.{beyond, readEntry, reading, readingOf}
+use Rattle.text_entry.proofs.Agreement.{read-is-text}
+use Rattle.text_entry.proofs.Beyond.{beyond-is-outside}
+use Rattle.text_entry.proofs.Reading.{the-type as reading-type}
+use Rattle.text_lines.specs.declared.Line.{Line}
+use Rattle.text_lines.specs.Line.{bytesOf}
+use Rattle.text_lines.specs.Lines.{longest}
 use Rattle.plain_run.specs.Plain.{entering}
 use Rattle.plain_run.specs.Session.{enterHeld}
 

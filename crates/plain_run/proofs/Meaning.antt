@@ -1,5 +1,5 @@
 -- However the input is cut into pieces, what the functions under `main` print is what `plain` says.
-use Rattle.entry.specs.Refusal.{noPlace, unreadable}
+use Rattle.log_entry.specs.Refusal.{noPlace, unreadable}
 use Prim.Native.Nat.{ℕ, _≤_}
 use native.Mathlib.Omega.{arith}
 use mathlib.Core.Bool.{Bool, true, false, cond}
@@ -7,20 +7,20 @@ use mathlib.Core.List.{List, [], _∷_, _++_}
 use mathlib.Core.Path.{_≡_, refl, sym, _∙_, ap}
 use lib.Dec.{leb, ltb}
 use borrow.Author.Tests.{ltb-false}
-use Rattle.commit_log.specs.declared.Entered.{Entered}
-use Rattle.commit_log.specs.declared.Log.{Log}
-use Rattle.commit_log.specs.Enter.{answered}
-use Rattle.lines.specs.declared.Line.{Line}
-use Rattle.lines.specs.Answers.{answersOf}
-use Rattle.lines.specs.Feed.{Fed, fed, fedLines, finished, fresh}
-use Rattle.lines.specs.Lines.{lines, most}
-use Rattle.lines.proofs.Feeding.{all-is-joined, fedAll, held-is-line, joined}
-use Rattle.lines.proofs.Noting.{Sound, counts, noted-answers, noted-sound}
-use Rattle.lines.proofs.Stream.{Holds, stream-is-lines}
+use Rattle.log_core.specs.declared.Entered.{Entered}
+use Rattle.log_core.specs.declared.Log.{Log}
+use Rattle.log_core.specs.Enter.{answered}
+use Rattle.text_lines.specs.declared.Line.{Line}
+use Rattle.text_lines.specs.Answers.{answersOf}
+use Rattle.text_lines.specs.Feed.{Fed, fed, fedLines, finished, fresh}
+use Rattle.text_lines.specs.Lines.{lines, most}
+use Rattle.text_lines.proofs.Feeding.{all-is-joined, fedAll, held-is-line, joined}
+use Rattle.text_lines.proofs.Noting.{Sound, counts, noted-answers, noted-sound}
+use Rattle.text_lines.proofs.Stream.{Holds, stream-is-lines}
 use Rattle.plain_run.specs.declared.Session.{Session}
 use Rattle.plain_run.specs.Plain.{Run, afterLine, enterLine, entering, noted as Plain·noted, over, plain, printed}
 use Rattle.plain_run.specs.Session.{answerLine, enterHeld, freshSession, isOver, noted, output, runOf}
-use Rattle.step_text.specs.Entry.{readEntry}
+use Rattle.text_entry.specs.Entry.{readEntry}
 
 -- ---- a line by its bytes
 

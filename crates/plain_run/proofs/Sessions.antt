@@ -1,11 +1,11 @@
 -- What a line does to a session.
-use Rattle.entry.specs.Refusal.{noPlace}
+use Rattle.log_entry.specs.Refusal.{noPlace}
 use Prim.Native.Nat.{_≤_, _<_}
 use mathlib.Core.Path.{_≡_}
 use borrow.Author.Tests.{le-leb, lt-leb}
-use Rattle.lines.specs.declared.Line.{Line}
-use Rattle.lines.specs.Answers.{noted}
-use Rattle.lines.specs.Lines.{most}
+use Rattle.text_lines.specs.declared.Line.{Line}
+use Rattle.text_lines.specs.Answers.{noted}
+use Rattle.text_lines.specs.Lines.{most}
 use Rattle.plain_run.specs.declared.Session.{Session}
 use Rattle.plain_run.specs.Session.{answerLine, enterHeld}
 

@@ -1,20 +1,20 @@
 -- The meaning of the program `plain`: from the bytes read to the bytes written.
-use Rattle.entry.specs.Refusal.{noPlace, unreadable}
+use Rattle.log_entry.specs.Refusal.{noPlace, unreadable}
 use Prim.Native.Nat.{ℕ}
 use mathlib.Core.Bool.{Bool, cond}
 use mathlib.Core.List.{List, [], _∷_, _++_}
 use mathlib.Core.Option.{Option, none, some}
 use lib.Dec.{leb, ltb}
 use lib.ListN.{length}
-use Rattle.entry.specs.declared.Entry.{Entry}
-use Rattle.commit_log.specs.declared.Entered.{Entered}
-use Rattle.commit_log.specs.declared.Log.{Log}
-use Rattle.commit_log.specs.Enter.{answered, enter}
-use Rattle.commit_log.specs.Log.{emptyLog}
-use Rattle.step_text.specs.Entry.{readEntry}
-use Rattle.lines.specs.Feed.{fedLines}
-use Rattle.lines.specs.Lines.{lines, longest, most}
-use Rattle.report.specs.Report.{answersText, logText}
+use Rattle.log_entry.specs.declared.Entry.{Entry}
+use Rattle.log_core.specs.declared.Entered.{Entered}
+use Rattle.log_core.specs.declared.Log.{Log}
+use Rattle.log_core.specs.Enter.{answered, enter}
+use Rattle.log_core.specs.Log.{emptyLog}
+use Rattle.text_entry.specs.Entry.{readEntry}
+use Rattle.text_lines.specs.Feed.{fedLines}
+use Rattle.text_lines.specs.Lines.{lines, longest, most}
+use Rattle.text_report.specs.Report.{answersText, logText}
 
 abbrev pub entering : Log → Option Entry → Entered
 entering l none = answered l unreadable

@@ -1,19 +1,19 @@
 -- What the functions under `main` do: the session that they keep, and how it stands for a run.
-use Rattle.entry.specs.Refusal.{noPlace, unreadable}
+use Rattle.log_entry.specs.Refusal.{noPlace, unreadable}
 use Prim.Native.Nat.{ℕ}
 use mathlib.Core.Bool.{Bool, cond}
 use mathlib.Core.List.{List}
 use lib.Dec.{leb, ltb}
-use Rattle.commit_log.specs.declared.Entered.{Entered}
-use Rattle.commit_log.specs.declared.Log.{Log}
-use Rattle.commit_log.specs.Enter.{answered}
-use Rattle.commit_log.specs.Log.{emptyLog}
-use Rattle.step_text.specs.Entry.{readEntry}
-use Rattle.lines.specs.declared.Line.{Line}
-use Rattle.lines.specs.Answers.{answersOf, noAnswers, noted as Answers·noted}
-use Rattle.lines.specs.Feed.{Fed}
-use Rattle.lines.specs.Line.{bytesOf, tooLong}
-use Rattle.lines.specs.Lines.{most}
+use Rattle.log_core.specs.declared.Entered.{Entered}
+use Rattle.log_core.specs.declared.Log.{Log}
+use Rattle.log_core.specs.Enter.{answered}
+use Rattle.log_core.specs.Log.{emptyLog}
+use Rattle.text_entry.specs.Entry.{readEntry}
+use Rattle.text_lines.specs.declared.Line.{Line}
+use Rattle.text_lines.specs.Answers.{answersOf, noAnswers, noted as Answers·noted}
+use Rattle.text_lines.specs.Feed.{Fed}
+use Rattle.text_lines.specs.Line.{bytesOf, tooLong}
+use Rattle.text_lines.specs.Lines.{most}
 use Rattle.plain_run.specs.declared.Input.{Input}
 use Rattle.plain_run.specs.declared.Session.{Session}
 use Rattle.plain_run.specs.Plain.{Run, entering, printed}

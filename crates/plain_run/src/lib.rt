@@ -1,19 +1,19 @@
 // The program `plain` from the bytes that it reads to the bytes that it prints.
 ghost use mathlib.Core.Path.{_≡_};
-ghost use Rattle.lines.specs.Feed.{fed, finished, fresh};
+ghost use Rattle.text_lines.specs.Feed.{fed, finished, fresh};
 ghost use Rattle.plain_run.specs.Session.{answerLine, enterHeld, freshSession, isOver, output, stateOf};
 ghost use Rattle.plain_run.specs.Printed.{room};
-ghost use Rattle.report.specs.Printed.{Printed};
-use commit_log::Entered;
-use commit_log::Log;
-use entry::refusal::NO_PLACE;
-use entry::refusal::OUTSIDE_LIMITS;
-use entry::refusal::UNREADABLE;
-use lines::Answers;
-use lines::LONGEST;
-use lines::Line;
-use lines::MOST;
-use step_text::Reading;
+ghost use Rattle.text_report.specs.Printed.{Printed};
+use log_core::Entered;
+use log_core::Log;
+use log_entry::refusal::NO_PLACE;
+use log_entry::refusal::OUTSIDE_LIMITS;
+use log_entry::refusal::UNREADABLE;
+use text_entry::Reading;
+use text_lines::Answers;
+use text_lines::LONGEST;
+use text_lines::Line;
+use text_lines::MOST;
 
 // The log, and the answers to the lines so far.
 pub struct Session {
@@ -39,7 +39,7 @@ fn enter_line(log: Log, line: Line) -> Entered
     }
     let n = line.length as usize;
     let bytes = line.bytes;
-    let reading = step_text::read_entry(&bytes[..n]);
+    let reading = text_entry::read_entry(&bytes[..n]);
     if let Reading::Outside = reading {
         return Entered {
             log: log,
@@ -164,6 +164,6 @@ pub fn put_output(out: &mut [u8], session: Session) -> usize
 {
     let answers = session.answers;
     let log = session.log;
-    let at = report::put_answers(out, 0, answers);
-    report::put_log(out, at, log)
+    let at = text_report::put_answers(out, 0, answers);
+    text_report::put_log(out, at, log)
 }

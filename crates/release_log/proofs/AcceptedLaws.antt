@@ -6,13 +6,13 @@ use mathlib.Core.Path.{_≡_, ap, refl, sym, _∙_}
 use native.Mathlib.Omega.{arith}
 use borrow.Author.Tests.{eqb-false, eqb-true}
 use lib.Dec.{eqb}
-use Rattle.entry.specs.Refusal.{accepted, check, firstRefusal, noPlace}
-use Rattle.commit_log.specs.declared.Log.{Log}
-use Rattle.records.proofs.ReadingLaws.{entry-read, refusal-read}
-use Rattle.records.specs.declared.Numbers.{Numbers}
-use Rattle.records.specs.declared.Reading.{Reading}
-use Rattle.records.specs.declared.Reading.the-variants.{Of, Refused}
-use Rattle.records.specs.Numbers.{entryOf, readNumbers}
+use Rattle.log_entry.specs.Refusal.{accepted, check, firstRefusal, noPlace}
+use Rattle.log_core.specs.declared.Log.{Log}
+use Rattle.host_records.proofs.ReadingLaws.{entry-read, refusal-read}
+use Rattle.host_records.specs.declared.Numbers.{Numbers}
+use Rattle.host_records.specs.declared.Reading.{Reading}
+use Rattle.host_records.specs.declared.Reading.the-variants.{Of, Refused}
+use Rattle.host_records.specs.Numbers.{entryOf, readNumbers}
 use Rattle.release_log.specs.Add.{passing}
 use Rattle.release_log.specs.Behind.{enterReading}
 

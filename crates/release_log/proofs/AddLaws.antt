@@ -8,17 +8,17 @@ use borrow.Author.Tests.{le-ltb, lt-ltb, ltb-false, ne-eqb}
 use lib.Dec.{ltb}
 use lib.ListN.{length}
 use lib.Seq.{sets}
-use Rattle.entry.specs.declared.Entry.{Entry}
-use Rattle.entry.specs.Refusal.{accepted, firstRefusal, outsideLimits, noPlace}
-use Rattle.commit_log.specs.declared.Entered.{Entered}
-use Rattle.commit_log.specs.declared.Log.{Log}
-use Rattle.commit_log.specs.Enter.{enter}
-use Rattle.records.proofs.ReadingLaws.{entry-read, refusal-read}
-use Rattle.records.specs.declared.Numbers.{Numbers}
-use Rattle.records.specs.declared.Reading.{Reading}
-use Rattle.records.specs.declared.Reading.the-variants.{Of, Refused}
-use Rattle.records.specs.Numbers.{readNumbers}
-use Rattle.records.specs.Record.{recordOf, recordSize}
+use Rattle.log_entry.specs.declared.Entry.{Entry}
+use Rattle.log_entry.specs.Refusal.{accepted, firstRefusal, outsideLimits, noPlace}
+use Rattle.log_core.specs.declared.Entered.{Entered}
+use Rattle.log_core.specs.declared.Log.{Log}
+use Rattle.log_core.specs.Enter.{enter}
+use Rattle.host_records.proofs.ReadingLaws.{entry-read, refusal-read}
+use Rattle.host_records.specs.declared.Numbers.{Numbers}
+use Rattle.host_records.specs.declared.Reading.{Reading}
+use Rattle.host_records.specs.declared.Reading.the-variants.{Of, Refused}
+use Rattle.host_records.specs.Numbers.{readNumbers}
+use Rattle.host_records.specs.Record.{recordOf, recordSize}
 use Rattle.release_log.specs.Add.{addAnswer, addBytes}
 use Rattle.release_log.specs.Behind.{enterReading, logAfterLent, logBehind}
 use Rattle.release_log.specs.Parts.{entryAnswer, entryBytes}

@@ -7,14 +7,14 @@ use native.Mathlib.Omega.{arith}
 use borrow.Author.Tests.{eq-eqb, le-ltb, lt-ltb, ne-eqb}
 use lib.ListN.{drop, length, take}
 use lib.Seq.{drop-drop}
-use Rattle.entry.specs.declared.Entry.{Entry}
-use Rattle.entry.specs.Refusal.{accepted, outsideLimits}
-use Rattle.commit_log.specs.declared.Entered.{Entered}
-use Rattle.commit_log.specs.declared.Log.{Log}
-use Rattle.commit_log.specs.Enter.{answered, enter}
-use Rattle.records.specs.declared.Reading.{Reading}
-use Rattle.records.specs.declared.Reading.the-variants.{Of, Refused}
-use Rattle.records.specs.Record.{readRecord, recordSize}
+use Rattle.log_entry.specs.declared.Entry.{Entry}
+use Rattle.log_entry.specs.Refusal.{accepted, outsideLimits}
+use Rattle.log_core.specs.declared.Entered.{Entered}
+use Rattle.log_core.specs.declared.Log.{Log}
+use Rattle.log_core.specs.Enter.{answered, enter}
+use Rattle.host_records.specs.declared.Reading.{Reading}
+use Rattle.host_records.specs.declared.Reading.the-variants.{Of, Refused}
+use Rattle.host_records.specs.Record.{readRecord, recordSize}
 use Rattle.release_log.specs.Behind.{enterReading, logAfter, logAfterLent, recordsIn}
 
 module _ (l : Log) {r : Reading} where

@@ -5,14 +5,14 @@ use mathlib.Core.List.{List, [], map, _∷_, _++_}
 use mathlib.Core.Path.{_≡_, ap, refl, sym, _∙_}
 use borrow.Author.Tests.{eq-eqb, eqb-true}
 use lib.Dec.{eqb}
-use Rattle.entry.specs.Refusal.{accepted}
-use Rattle.commit_log.specs.declared.Entered.{Entered}
-use Rattle.commit_log.specs.declared.Log.{Log}
-use Rattle.commit_log.specs.Enter.{enter, feed}
-use Rattle.records.proofs.RecordReadings.{record-entry, record-refusal}
-use Rattle.records.specs.declared.Reading.{Reading}
-use Rattle.records.specs.declared.Reading.the-variants.{Of, Refused}
-use Rattle.records.specs.Record.{entryIn, readRecord}
+use Rattle.log_entry.specs.Refusal.{accepted}
+use Rattle.log_core.specs.declared.Entered.{Entered}
+use Rattle.log_core.specs.declared.Log.{Log}
+use Rattle.log_core.specs.Enter.{enter, feed}
+use Rattle.host_records.proofs.RecordReadings.{record-entry, record-refusal}
+use Rattle.host_records.specs.declared.Reading.{Reading}
+use Rattle.host_records.specs.declared.Reading.the-variants.{Of, Refused}
+use Rattle.host_records.specs.Record.{entryIn, readRecord}
 use Rattle.release_log.specs.Behind.{enterReading, logAfter}
 
 -- an accepted record is its entry entered

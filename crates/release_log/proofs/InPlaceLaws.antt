@@ -6,22 +6,22 @@ use native.Mathlib.Omega.{arith}
 use lib.Bits.{bitOr}
 use lib.Dec.{eqb}
 use lib.ListN.{getD, set}
-use Rattle.entry.proofs.InsideLaws.{inside-process}
-use Rattle.entry.specs.declared.Entry.{Entry}
-use Rattle.entry.specs.Bits.{has}
-use Rattle.entry.specs.Entry.{outside}
-use Rattle.entry.specs.Refusal.{accepted, holdsOrHeld}
-use Rattle.commit_log.proofs.EnterLaws.{refused-with, take-stored, vote-entered, voted-commits, voted-only}
-use Rattle.commit_log.proofs.GroupLaws.{begun-with, commit-joins}
-use Rattle.commit_log.proofs.RefusalLaws.{take-accepted, take-holds-or-held, vote-checked}
-use Rattle.commit_log.specs.declared.Log.{Log}
-use Rattle.commit_log.specs.declared.Row.{Row}
-use Rattle.commit_log.specs.declared.Vote.{Vote}
-use Rattle.commit_log.specs.Enter.{answered, enter, voted}
-use Rattle.commit_log.specs.Group.{nextGroup, remembered, runningSet}
-use Rattle.commit_log.specs.Log.{heldBefore, holderOf, inGroup, rowOf, voteOfEntry, withGroup, withRow}
-use Rattle.commit_log.specs.Outcome.{isCommitted, outcomeOfVotes}
-use Rattle.commit_log.specs.Refusal.{holdsAny, voteRefusal}
+use Rattle.log_entry.proofs.InsideLaws.{inside-process}
+use Rattle.log_entry.specs.declared.Entry.{Entry}
+use Rattle.log_entry.specs.Bits.{has}
+use Rattle.log_entry.specs.Entry.{outside}
+use Rattle.log_entry.specs.Refusal.{accepted, holdsOrHeld}
+use Rattle.log_core.proofs.EnterLaws.{refused-with, take-stored, vote-entered, voted-commits, voted-only}
+use Rattle.log_core.proofs.GroupLaws.{begun-with, commit-joins}
+use Rattle.log_core.proofs.RefusalLaws.{take-accepted, take-holds-or-held, vote-checked}
+use Rattle.log_core.specs.declared.Log.{Log}
+use Rattle.log_core.specs.declared.Row.{Row}
+use Rattle.log_core.specs.declared.Vote.{Vote}
+use Rattle.log_core.specs.Enter.{answered, enter, voted}
+use Rattle.log_core.specs.Group.{nextGroup, remembered, runningSet}
+use Rattle.log_core.specs.Log.{heldBefore, holderOf, inGroup, rowOf, voteOfEntry, withGroup, withRow}
+use Rattle.log_core.specs.Outcome.{isCommitted, outcomeOfVotes}
+use Rattle.log_core.specs.Refusal.{holdsAny, voteRefusal}
 
 module _ (l : Log) (e : Entry) (inside : outside e ≡ false) (take : e .take ≡ true) where
   pub take-refused : (holdsAny (l .holders) (e .process) || heldBefore l (e .process) (e .store)) ≡ true → answered l holdsOrHeld ≡ enter l e

@@ -7,8 +7,8 @@ use borrow.Author.Tests.{le-ltb, lt-ltb, ne-eqb}
 use lib.Dec.{ltb}
 use lib.ListN.{length}
 use lib.Seq.{sets}
-use Rattle.entry.specs.Refusal.{accepted, firstRefusal, outsideLimits, noPlace}
-use Rattle.commit_log.specs.declared.Entered.{Entered}
+use Rattle.log_entry.specs.Refusal.{accepted, firstRefusal, outsideLimits, noPlace}
+use Rattle.log_core.specs.declared.Entered.{Entered}
 use Rattle.release_log.specs.Parts.{placeAnswer, placeBytes}
 use Rattle.release_log.specs.Query.{Query, answerTo, bytesAfter}
 

@@ -6,7 +6,7 @@ use native.Mathlib.Nat.{add-comm, add-suc, suc-mul}
 use native.Mathlib.Omega.{arith}
 use lib.ListN.{drop, length, length-drop, set, take}
 use lib.Seq.{drop-set-add, sets, sets-eq, take-at, take-set-le}
-use Rattle.records.specs.Record.{recordSize}
+use Rattle.host_records.specs.Record.{recordSize}
 use Rattle.release_log.specs.Behind.{recordsIn}
 
 take-sets : (n : ℕ) (vs l : List ℕ) (i : ℕ) → n ≤ i → take n (sets l i vs) ≡ take n l

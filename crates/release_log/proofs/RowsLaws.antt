@@ -7,11 +7,11 @@ use native.Mathlib.Numerals.{add-one}
 use native.Mathlib.Omega.{arith}
 use lib.ListN.{drop, drop-of-length-le, getD, length, length-take, set, take}
 use lib.Seq.{drop-cons, getD-take, sets}
-use Rattle.entry.specs.Limits.{transactions}
-use Rattle.commit_log.specs.declared.Replay.{Replay}
-use Rattle.commit_log.specs.declared.Replayed.{Replayed}
-use Rattle.commit_log.specs.Replay.{noReplayed}
-use Rattle.records.specs.Record.{lowFirst, updateSize}
+use Rattle.log_entry.specs.Limits.{transactions}
+use Rattle.log_core.specs.declared.Replay.{Replay}
+use Rattle.log_core.specs.declared.Replayed.{Replayed}
+use Rattle.log_core.specs.Replay.{noReplayed}
+use Rattle.host_records.specs.Record.{lowFirst, updateSize}
 use Rattle.release_log.specs.Query.{replayValue, rowBytes, rowSize, rowsBytes}
 
 pub row-of : (r : Replayed) {update : List ℕ} → update ≡ lowFirst updateSize (r .update)

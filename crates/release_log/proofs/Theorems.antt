@@ -7,16 +7,16 @@ use borrow.Author.Tests.{eq-eqb, le-ltb, ltb-false}
 use lib.Dec.{ltb}
 use lib.ListN.{length}
 use lib.Seq.{length-sets, sets}
-use Rattle.entry.specs.Refusal.{accepted}
-use Rattle.commit_log.specs.declared.Entered.{Entered}
-use Rattle.commit_log.specs.declared.Log.{Log}
-use Rattle.commit_log.specs.Enter.{answered, enter, feed}
-use Rattle.commit_log.specs.Log.{emptyLog}
-use Rattle.records.proofs.Theorems.{read-is-proper, record-reads-back}
-use Rattle.records.specs.declared.Numbers.{Numbers}
-use Rattle.records.specs.declared.Reading.the-variants.{Of}
-use Rattle.records.specs.Numbers.{entryOf, readNumbers}
-use Rattle.records.specs.Record.{readRecord, recordOf, recordSize}
+use Rattle.log_entry.specs.Refusal.{accepted}
+use Rattle.log_core.specs.declared.Entered.{Entered}
+use Rattle.log_core.specs.declared.Log.{Log}
+use Rattle.log_core.specs.Enter.{answered, enter, feed}
+use Rattle.log_core.specs.Log.{emptyLog}
+use Rattle.host_records.proofs.Theorems.{read-is-proper, record-reads-back}
+use Rattle.host_records.specs.declared.Numbers.{Numbers}
+use Rattle.host_records.specs.declared.Reading.the-variants.{Of}
+use Rattle.host_records.specs.Numbers.{entryOf, readNumbers}
+use Rattle.host_records.specs.Record.{readRecord, recordOf, recordSize}
 use Rattle.release_log.proofs.AcceptedLaws.{Passed, numbers-accepted, passed}
 use Rattle.release_log.proofs.AddLaws.{count-fits}
 use Rattle.release_log.proofs.FedLaws.{logAfter-more, records-fed}

@@ -5,10 +5,10 @@ use mathlib.Core.List.{List, [], _∷_}
 use lib.Dec.{eqb, ltb}
 use lib.ListN.{length}
 use lib.Seq.{sets}
-use Rattle.entry.specs.Refusal.{Check, accepted, check, firstRefusal, noPlace}
-use Rattle.records.specs.declared.Numbers.{Numbers}
-use Rattle.records.specs.Numbers.{entryOf, readNumbers}
-use Rattle.records.specs.Record.{recordOf, recordSize}
+use Rattle.log_entry.specs.Refusal.{Check, accepted, check, firstRefusal, noPlace}
+use Rattle.host_records.specs.declared.Numbers.{Numbers}
+use Rattle.host_records.specs.Numbers.{entryOf, readNumbers}
+use Rattle.host_records.specs.Record.{recordOf, recordSize}
 use Rattle.release_log.specs.Behind.{enterReading, logBehind}
 
 -- an answer that refuses is passed on

@@ -4,14 +4,14 @@ use mathlib.Core.Bool.{cond}
 use mathlib.Core.List.{List, [], _∷_}
 use lib.Dec.{eqb, ltb}
 use lib.ListN.{drop, length, take}
-use Rattle.entry.specs.Refusal.{accepted, outsideLimits}
-use Rattle.commit_log.specs.declared.Entered.{Entered}
-use Rattle.commit_log.specs.declared.Log.{Log}
-use Rattle.commit_log.specs.Enter.{answered, enter}
-use Rattle.commit_log.specs.Log.{emptyLog}
-use Rattle.records.specs.declared.Reading.{Reading}
-use Rattle.records.specs.declared.Reading.the-variants.{Of, Refused}
-use Rattle.records.specs.Record.{readRecord, recordSize}
+use Rattle.log_entry.specs.Refusal.{accepted, outsideLimits}
+use Rattle.log_core.specs.declared.Entered.{Entered}
+use Rattle.log_core.specs.declared.Log.{Log}
+use Rattle.log_core.specs.Enter.{answered, enter}
+use Rattle.log_core.specs.Log.{emptyLog}
+use Rattle.host_records.specs.declared.Reading.{Reading}
+use Rattle.host_records.specs.declared.Reading.the-variants.{Of, Refused}
+use Rattle.host_records.specs.Record.{readRecord, recordSize}
 
 -- "A host lends the accepted entries so far, oldest first, and their count."
 unfoldable pub recordsIn : List ℕ → ℕ → List (List ℕ)

@@ -2,10 +2,10 @@
 use Prim.Native.Nat.{ℕ, suc}
 use mathlib.Core.List.{List, map}
 use mathlib.Core.Path.{_≡_}
-use Rattle.entry.specs.declared.Entry.{Entry}
-use Rattle.entry.specs.Refusal.{accepted}
-use Rattle.records.specs.declared.Numbers.{Numbers}
-use Rattle.records.specs.Record.{entryIn}
+use Rattle.log_entry.specs.declared.Entry.{Entry}
+use Rattle.log_entry.specs.Refusal.{accepted}
+use Rattle.host_records.specs.declared.Numbers.{Numbers}
+use Rattle.host_records.specs.Record.{entryIn}
 use Rattle.release_log.specs.Add.{addAnswer, addBytes}
 use Rattle.release_log.specs.Behind.{recordsIn}
 

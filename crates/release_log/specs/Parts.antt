@@ -5,11 +5,11 @@ use mathlib.Core.List.{List, [], _∷_}
 use lib.Dec.{eqb, ltb}
 use lib.ListN.{length}
 use lib.Seq.{sets}
-use Rattle.entry.specs.declared.Entry.{Entry}
-use Rattle.entry.specs.Refusal.{accepted, check, firstRefusal, noPlace}
-use Rattle.commit_log.specs.declared.Log.{Log}
-use Rattle.commit_log.specs.Enter.{enter}
-use Rattle.records.specs.Record.{recordOf, recordSize}
+use Rattle.log_entry.specs.declared.Entry.{Entry}
+use Rattle.log_entry.specs.Refusal.{accepted, check, firstRefusal, noPlace}
+use Rattle.log_core.specs.declared.Log.{Log}
+use Rattle.log_core.specs.Enter.{enter}
+use Rattle.host_records.specs.Record.{recordOf, recordSize}
 use Rattle.release_log.specs.Add.{passing}
 
 -- the answer to an entry for the log l behind `count` records: what the log says, then its place

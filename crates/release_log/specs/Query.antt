@@ -5,14 +5,14 @@ use mathlib.Core.List.{List, [], _∷_, _++_}
 use lib.Dec.{eqb, leb, ltb}
 use lib.ListN.{length}
 use lib.Seq.{sets}
-use Rattle.entry.specs.Limits.{stores, transactions}
-use Rattle.entry.specs.Refusal.{accepted, check, firstRefusal, outsideLimits, noPlace}
-use Rattle.commit_log.specs.declared.Entered.{Entered}
-use Rattle.commit_log.specs.declared.Replayed.{Replayed}
-use Rattle.commit_log.specs.Involvement.{involvementNumber, involvementOf}
-use Rattle.commit_log.specs.Outcome.{outcomeNumber, outcomeOf}
-use Rattle.commit_log.specs.Replay.{replayRows}
-use Rattle.records.specs.Record.{lowFirst, updateSize}
+use Rattle.log_entry.specs.Limits.{stores, transactions}
+use Rattle.log_entry.specs.Refusal.{accepted, check, firstRefusal, outsideLimits, noPlace}
+use Rattle.log_core.specs.declared.Entered.{Entered}
+use Rattle.log_core.specs.declared.Replayed.{Replayed}
+use Rattle.log_core.specs.Involvement.{involvementNumber, involvementOf}
+use Rattle.log_core.specs.Outcome.{outcomeNumber, outcomeOf}
+use Rattle.log_core.specs.Replay.{replayRows}
+use Rattle.host_records.specs.Record.{lowFirst, updateSize}
 use Rattle.release_log.specs.Add.{passing}
 use Rattle.release_log.specs.Behind.{logBehind}
 

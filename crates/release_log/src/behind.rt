@@ -2,23 +2,23 @@
 ghost use mathlib.Core.Path.{_≡_};
 ghost use Prim.Native.Nat.{ℕ};
 ghost use lib.ListN.{replicate};
-ghost use Rattle.entry.specs.Limits.{stores};
-ghost use Rattle.commit_log.specs.Log.{noVote};
-ghost use Rattle.records.specs.declared.Reading.the-variants.{Refused};
+ghost use Rattle.log_entry.specs.Limits.{stores};
+ghost use Rattle.log_core.specs.Log.{noVote};
+ghost use Rattle.host_records.specs.declared.Reading.the-variants.{Refused};
 ghost use Rattle.release_log.specs.Behind.{logBehind};
-use commit_log::Log;
-use commit_log::Row;
-use commit_log::Vote;
-use commit_log::group::remembered_in;
-use commit_log::refusal::holds_or_held;
-use entry::limits::STORE_PLACES;
-use entry::limits::TRANSACTION_PLACES;
-use entry::refusal::ACCEPTED;
-use entry::refusal::HOLDS_OR_HELD;
-use entry::refusal::OUTSIDE_LIMITS;
-use entry::sets;
-use records::RECORD_SIZE;
-use records::Reading;
+use host_records::RECORD_SIZE;
+use host_records::Reading;
+use log_core::Log;
+use log_core::Row;
+use log_core::Vote;
+use log_core::group::remembered_in;
+use log_core::refusal::holds_or_held;
+use log_entry::limits::STORE_PLACES;
+use log_entry::limits::TRANSACTION_PLACES;
+use log_entry::refusal::ACCEPTED;
+use log_entry::refusal::HOLDS_OR_HELD;
+use log_entry::refusal::OUTSIDE_LIMITS;
+use log_entry::sets;
 
 // The number of a refusal that was read.
 fn refusal_in(reading: Reading) -> u8
@@ -52,7 +52,7 @@ pub(crate) fn log_behind(none: Row, lent: &[u8], count: usize, answer: &mut u8) 
     let mut left = count;
     while 0 < left {
         let end = at + RECORD_SIZE;
-        let reading = records::read(&lent[at..end]);
+        let reading = host_records::read(&lent[at..end]);
         let Reading::Of(e) = reading else {
             *answer = refusal_in(reading);
             return log;

@@ -5,7 +5,7 @@ ghost use lib.ListN.{length};
 ghost use lib.Seq.{sets};
 
 // 6: no place for an accepted entry or a query's value.
-pub(crate) const NO_PLACE: u32 = entry::refusal::NO_PLACE as u32;
+pub(crate) const NO_PLACE: u32 = log_entry::refusal::NO_PLACE as u32;
 
 // The buffer has place for the value.
 pub(crate) fn store(buffer: &mut [u8], at: usize, value: &[u8])

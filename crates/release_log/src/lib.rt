@@ -2,23 +2,23 @@
 ghost use mathlib.Core.Path.{_≡_};
 ghost use Prim.Native.Nat.{_*_, _≤_};
 ghost use lib.ListN.{length};
-ghost use Rattle.records.specs.Numbers.{numbers};
-ghost use Rattle.records.specs.Record.{recordSize};
+ghost use Rattle.host_records.specs.Numbers.{numbers};
+ghost use Rattle.host_records.specs.Record.{recordSize};
 ghost use Rattle.release_log.specs.Add.{addAnswer, addBytes};
 ghost use Rattle.release_log.specs.Parts.{entryAnswer, entryBytes};
 ghost use Rattle.release_log.specs.Query.{answerTo, bytesAfter, involvementQuery, outcomeQuery, replayQuery};
 use behind::log_behind;
 use bytes::NO_PLACE;
-use commit_log::Log;
-use commit_log::Row;
-use entry::Entry;
-use entry::limits::STORES;
-use entry::limits::TRANSACTIONS;
-use entry::refusal::ACCEPTED;
-use entry::refusal::OUTSIDE_LIMITS;
-use records::Numbers;
-use records::RECORD_SIZE;
-use records::Reading;
+use host_records::Numbers;
+use host_records::RECORD_SIZE;
+use host_records::Reading;
+use log_core::Log;
+use log_core::Row;
+use log_entry::Entry;
+use log_entry::limits::STORES;
+use log_entry::limits::TRANSACTIONS;
+use log_entry::refusal::ACCEPTED;
+use log_entry::refusal::OUTSIDE_LIMITS;
 
 mod behind;
 mod bytes;
@@ -38,7 +38,7 @@ fn add_entry(records: &mut [u8], count: usize, log: Log, e: Entry) -> u32
     if records.len() - at < RECORD_SIZE {
         return NO_PLACE;
     }
-    let record = records::record_of(e);
+    let record = host_records::record_of(e);
     bytes::store(records, at, &record);
     ACCEPTED as u32
 }

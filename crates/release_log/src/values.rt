@@ -3,14 +3,14 @@ ghost use mathlib.Core.List.{[], _∷_};
 ghost use mathlib.Core.Path.{_≡_};
 ghost use Prim.Native.Nat.{_≤_};
 ghost use lib.ListN.{take};
-ghost use Rattle.entry.specs.Limits.{transactions};
+ghost use Rattle.log_entry.specs.Limits.{transactions};
 ghost use Rattle.release_log.specs.Parts.{placeAnswer, placeBytes};
 ghost use Rattle.release_log.specs.Query.{replayValue, rowBytes};
 use crate::bytes::NO_PLACE;
 use crate::bytes::store;
-use commit_log::Replay;
-use commit_log::Replayed;
-use entry::refusal::ACCEPTED;
+use log_core::Replay;
+use log_core::Replayed;
+use log_entry::refusal::ACCEPTED;
 
 // The bytes of a row. `specs/Query.antt` has the same number for the contracts.
 const ROW_SIZE: usize = 6;
@@ -30,7 +30,7 @@ pub(crate) fn answer_byte(out: &mut [u8], value: u8) -> u32
 fn row_bytes(r: Replayed) -> [u8; ROW_SIZE]
     ensures { λ b. ⌜ b ≡ rowBytes r ⌝ }
 {
-    let update = records::low_first(r.update);
+    let update = host_records::low_first(r.update);
     [r.group, r.tx, update[0], update[1], update[2], update[3]]
 }
 

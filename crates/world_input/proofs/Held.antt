@@ -7,14 +7,14 @@ use mathlib.Core.Path.{_≡_, refl, sym, ap}
 use borrow.Author.Tests.{le-ltb, lt-ltb}
 use denote.Enum.Declared.{tagOf}
 use types.Run.{OneOf}
-use Rattle.entry.specs.Refusal.{unreadable}
-use Rattle.lines.specs.declared.Line.{Line}
-use Rattle.lines.specs.Line.{bytesOf}
-use Rattle.lines.specs.Lines.{longest}
-use Rattle.world_text.specs.declared.Reading.{Reading}
-use Rattle.world_text.specs.declared.Reading.the-variants.{Read, Outside, Unreadable}
-use Rattle.world_text.specs.Step.{reading}
-use Rattle.world_text.proofs.Reading.{the-type as reading-type}
+use Rattle.log_entry.specs.Refusal.{unreadable}
+use Rattle.text_lines.specs.declared.Line.{Line}
+use Rattle.text_lines.specs.Line.{bytesOf}
+use Rattle.text_lines.specs.Lines.{longest}
+use Rattle.text_step.specs.declared.Reading.{Reading}
+use Rattle.text_step.specs.declared.Reading.the-variants.{Read, Outside, Unreadable}
+use Rattle.text_step.specs.Step.{reading}
+use Rattle.text_step.proofs.Reading.{the-type as reading-type}
 use Rattle.world_input.specs.Orders.{orderTo, refusing}
 use Rattle.world_input.specs.State.{heldOrder}
 

@@ -7,14 +7,14 @@ use mathlib.Core.Path.{_≡_, refl, sym, _∙_, ap}
 use lib.Dec.{leb}
 use lib.ListN.{length, length-append}
 use borrow.Author.Tests.{le-ltb, lt-ltb, leb-true, leb-false}
-use Rattle.entry.specs.Refusal.{noPlace, unreadable}
-use Rattle.lines.specs.declared.Line.{Line}
-use Rattle.lines.specs.Feed.{fed, fedLines, finished, fresh}
-use Rattle.lines.specs.Lines.{lines, most}
-use Rattle.lines.proofs.Feeding.{all-is-joined, fedAll, held-is-line, joined}
-use Rattle.lines.proofs.Stream.{Holds, stream-is-lines}
-use Rattle.world_text.specs.Step.{reading}
-use Rattle.cluster.specs.declared.Order.{Order}
+use Rattle.log_entry.specs.Refusal.{noPlace, unreadable}
+use Rattle.text_lines.specs.declared.Line.{Line}
+use Rattle.text_lines.specs.Feed.{fed, fedLines, finished, fresh}
+use Rattle.text_lines.specs.Lines.{lines, most}
+use Rattle.text_lines.proofs.Feeding.{all-is-joined, fedAll, held-is-line, joined}
+use Rattle.text_lines.proofs.Stream.{Holds, stream-is-lines}
+use Rattle.text_step.specs.Step.{reading}
+use Rattle.world_engine.specs.declared.Order.{Order}
 use Rattle.world_input.specs.Orders.{orderOf, orderTo, ordersFrom, ordersOf, refusing}
 use Rattle.world_input.specs.State.{heldOrder, over, withLine}
 

@@ -8,9 +8,9 @@ use mathlib.Core.Path.{_≡_, sym, _∙_, ap}
 use lib.ListN.{length, length-take, set, take}
 use lib.Seq.{length-take-le, take-suc-set}
 use borrow.Author.Tests.{le-leb, le-ltb, lt-leb, lt-ltb}
-use Rattle.entry.specs.Refusal.{noPlace}
-use Rattle.lines.specs.declared.Line.{Line}
-use Rattle.lines.specs.Lines.{most}
+use Rattle.log_entry.specs.Refusal.{noPlace}
+use Rattle.text_lines.specs.declared.Line.{Line}
+use Rattle.text_lines.specs.Lines.{most}
 use Rattle.world_input.specs.declared.Orders.{Orders}
 use Rattle.world_input.specs.Orders.{refusing}
 use Rattle.world_input.specs.State.{heldOrder, orderAt, ordersIn, over, withLine}

@@ -4,13 +4,13 @@ use mathlib.Core.Bool.{cond}
 use mathlib.Core.List.{List, [], _∷_}
 use lib.Dec.{leb, ltb}
 use lib.ListN.{length}
-use Rattle.entry.specs.Refusal.{accepted, noPlace, outsideLimits, unreadable}
-use Rattle.steps.specs.declared.Step.the-variants.{Setup}
-use Rattle.lines.specs.Lines.{lines, longest, most}
-use Rattle.world_text.specs.declared.Reading.{Reading}
-use Rattle.world_text.specs.declared.Reading.the-variants.{Read, Outside, Unreadable}
-use Rattle.world_text.specs.Step.{reading}
-use Rattle.cluster.specs.declared.Order.{Order}
+use Rattle.log_entry.specs.Refusal.{accepted, noPlace, outsideLimits, unreadable}
+use Rattle.model_steps.specs.declared.Step.the-variants.{Setup}
+use Rattle.text_lines.specs.Lines.{lines, longest, most}
+use Rattle.text_step.specs.declared.Reading.{Reading}
+use Rattle.text_step.specs.declared.Reading.the-variants.{Read, Outside, Unreadable}
+use Rattle.text_step.specs.Step.{reading}
+use Rattle.world_engine.specs.declared.Order.{Order}
 
 -- it is answered n, and the world stays as it was
 abbrev pub refusing : ℕ → Order

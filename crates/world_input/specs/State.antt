@@ -4,13 +4,13 @@ use mathlib.Core.Bool.{Bool, cond}
 use mathlib.Core.List.{List, [], _∷_, _++_}
 use lib.Dec.{leb, ltb}
 use lib.ListN.{length, take}
-use Rattle.entry.specs.Refusal.{noPlace, unreadable}
-use Rattle.lines.specs.declared.Line.{Line}
-use Rattle.lines.specs.Feed.{Fed}
-use Rattle.lines.specs.Line.{bytesOf, tooLong}
-use Rattle.lines.specs.Lines.{most}
-use Rattle.world_text.specs.Step.{reading}
-use Rattle.cluster.specs.declared.Order.{Order}
+use Rattle.log_entry.specs.Refusal.{noPlace, unreadable}
+use Rattle.text_lines.specs.declared.Line.{Line}
+use Rattle.text_lines.specs.Feed.{Fed}
+use Rattle.text_lines.specs.Line.{bytesOf, tooLong}
+use Rattle.text_lines.specs.Lines.{most}
+use Rattle.text_step.specs.Step.{reading}
+use Rattle.world_engine.specs.declared.Order.{Order}
 use Rattle.world_input.specs.declared.Input.{Input}
 use Rattle.world_input.specs.declared.Orders.{Orders}
 use Rattle.world_input.specs.Orders.{orderTo, refusing}

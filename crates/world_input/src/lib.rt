@@ -1,19 +1,19 @@
 // The lines that the program `world` reads, as what they ask of the world.
 ghost use mathlib.Core.List.{[]};
 ghost use mathlib.Core.Path.{_≡_};
-ghost use Rattle.lines.specs.Feed.{fed, finished, fresh};
+ghost use Rattle.text_lines.specs.Feed.{fed, finished, fresh};
 ghost use Rattle.world_input.specs.Orders.{refusing};
 ghost use Rattle.world_input.specs.State.{heldOrder, orderAt, ordersIn, over, stateOf, withLine};
-use cluster::Order;
-use entry::refusal::ACCEPTED;
-use entry::refusal::NO_PLACE;
-use entry::refusal::OUTSIDE_LIMITS;
-use entry::refusal::UNREADABLE;
-use lines::LONGEST;
-use lines::Line;
-use lines::MOST;
-use steps::Step;
-use world_text::Reading;
+use log_entry::refusal::ACCEPTED;
+use log_entry::refusal::NO_PLACE;
+use log_entry::refusal::OUTSIDE_LIMITS;
+use log_entry::refusal::UNREADABLE;
+use model_steps::Step;
+use text_lines::LONGEST;
+use text_lines::Line;
+use text_lines::MOST;
+use text_step::Reading;
+use world_engine::Order;
 
 // What the lines so far ask for.
 pub struct Orders {
@@ -44,7 +44,7 @@ fn order_of(line: Line) -> Order
     }
     let n = line.length as usize;
     let bytes = line.bytes;
-    let reading = world_text::read_step(&bytes[..n]);
+    let reading = text_step::read_step(&bytes[..n]);
     if let Reading::Outside = reading {
         return refuse(OUTSIDE_LIMITS);
     }

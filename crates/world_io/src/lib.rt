@@ -1,5 +1,5 @@
 // Runs `world` on what a file descriptor gives, and prints to standard output.
-use lines::MOST;
+use text_lines::MOST;
 use world_input::Input;
 
 // The loop over the input ends after so many pieces, which no input has.

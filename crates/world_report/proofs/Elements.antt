@@ -4,9 +4,9 @@ use native.Mathlib.Numerals.{add-one}
 use mathlib.Core.List.{List, _++_}
 use mathlib.Core.Path.{_≡_, _∙_, ap}
 use lib.ListN.{getD, length}
-use Rattle.commit_log.proofs.InList.{in-list}
-use Rattle.report.specs.Report.{each}
-use Rattle.report.proofs.Lengths.{each-more}
+use Rattle.log_core.proofs.InList.{in-list}
+use Rattle.text_report.specs.Report.{each}
+use Rattle.text_report.proofs.Lengths.{each-more}
 
 module _ {A : Type 0} (text : ℕ → A → List ℕ) (xs : List A) (i : ℕ) (d e : A) where
   pub next-element : i < length xs → each (λ j. text j (getD xs j e)) i ++ text i (getD xs i d) ≡ each (λ j. text j (getD xs j e)) (i + 1)

@@ -7,11 +7,11 @@ use mathlib.Core.Path.{_≡_, refl, sym, ap}
 use borrow.Author.Tests.{eq-eqb, ne-eqb}
 use denote.Enum.Declared.{tagOf}
 use types.Run.{OneOf}
-use Rattle.commit_log.specs.declared.Outcome.{Outcome}
-use Rattle.commit_log.specs.declared.Outcome.the-variants.{Open, Commit, Abort}
-use Rattle.commit_log.proofs.Outcome.{the-type as outcome-type}
-use Rattle.protocol.specs.declared.Process.{Process}
-use Rattle.report.specs.Report.{replayText, rowsOf}
+use Rattle.log_core.specs.declared.Outcome.{Outcome}
+use Rattle.log_core.specs.declared.Outcome.the-variants.{Open, Commit, Abort}
+use Rattle.log_core.proofs.Outcome.{the-type as outcome-type}
+use Rattle.model_protocol.specs.declared.Process.{Process}
+use Rattle.text_report.specs.Report.{replayText, rowsOf}
 use Rattle.world_report.specs.Processes.{heardLine, outcomeText, restoreLine, restoreText}
 
 module _ (proc tx : ℕ) where

@@ -2,13 +2,13 @@
 use Prim.Native.Nat.{ℕ}
 use mathlib.Core.List.{List, _++_}
 use lib.ListN.{getD}
-use Rattle.ascii.specs.Bytes.{ascii}
-use Rattle.commit_log.specs.declared.Log.{Log}
-use Rattle.commit_log.specs.Log.{emptyLog}
-use Rattle.steps.specs.Limits.{coordinators}
-use Rattle.protocol.specs.declared.Coordinator.{Coordinator}
-use Rattle.protocol.specs.World.{freshCoordinator}
-use Rattle.report.specs.Report.{each, end, field, logText}
+use Rattle.text_ascii.specs.Bytes.{ascii}
+use Rattle.log_core.specs.declared.Log.{Log}
+use Rattle.log_core.specs.Log.{emptyLog}
+use Rattle.model_steps.specs.Limits.{coordinators}
+use Rattle.model_protocol.specs.declared.Coordinator.{Coordinator}
+use Rattle.model_protocol.specs.World.{freshCoordinator}
+use Rattle.text_report.specs.Report.{each, end, field, logText}
 
 abbrev pub coordinatorLine : ℕ → ℕ → List ℕ
 coordinatorLine coord applied = field (ascii "coord=") coord ++ field (ascii " applied=") applied ++ end

@@ -1,8 +1,8 @@
 -- How much room the parts of a world take at most.
 use Prim.Native.Nat.{ℕ, _+_, _*_}
-use Rattle.entry.specs.Limits.{processes, transactions}
-use Rattle.steps.specs.Limits.{coordinators}
-use Rattle.report.specs.Within.{longestLine, longestLog, longestReplay}
+use Rattle.log_entry.specs.Limits.{processes, transactions}
+use Rattle.model_steps.specs.Limits.{coordinators}
+use Rattle.text_report.specs.Within.{longestLine, longestLog, longestReplay}
 
 -- its line and its log
 abbrev pub longestCoordinator : ℕ

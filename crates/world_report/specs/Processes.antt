@@ -4,14 +4,14 @@ use mathlib.Core.Bool.{cond}
 use mathlib.Core.List.{List, [], _++_}
 use lib.Dec.{eqb}
 use lib.ListN.{getD}
-use Rattle.ascii.specs.Bytes.{ascii}
-use Rattle.entry.specs.Limits.{processes, transactions}
-use Rattle.commit_log.specs.declared.Outcome.{Outcome}
-use Rattle.commit_log.specs.declared.Outcome.the-variants.{Open}
-use Rattle.commit_log.specs.Outcome.{isOpen}
-use Rattle.protocol.specs.declared.Process.{Process}
-use Rattle.protocol.specs.World.{freshProcess}
-use Rattle.report.specs.Report.{each, end, field, outcomeWord, replayText, rowsOf}
+use Rattle.text_ascii.specs.Bytes.{ascii}
+use Rattle.log_entry.specs.Limits.{processes, transactions}
+use Rattle.log_core.specs.declared.Outcome.{Outcome}
+use Rattle.log_core.specs.declared.Outcome.the-variants.{Open}
+use Rattle.log_core.specs.Outcome.{isOpen}
+use Rattle.model_protocol.specs.declared.Process.{Process}
+use Rattle.model_protocol.specs.World.{freshProcess}
+use Rattle.text_report.specs.Report.{each, end, field, outcomeWord, replayText, rowsOf}
 
 -- the texts of the processes, by number: they are numbered from 1
 abbrev pub byProcess : (ℕ → Process → List ℕ) → List Process → List ℕ

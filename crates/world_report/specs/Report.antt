@@ -3,7 +3,7 @@
 -- lines."
 use Prim.Native.Nat.{ℕ}
 use mathlib.Core.List.{List, _++_}
-use Rattle.protocol.specs.declared.World.{World}
+use Rattle.model_protocol.specs.declared.World.{World}
 use Rattle.world_report.specs.Coordinators.{coordinatorsText}
 use Rattle.world_report.specs.Processes.{byProcess, heardText, restoreText}
 

@@ -1,19 +1,19 @@
 // Coordinators as they are printed.
 ghost use Prim.Native.Nat.{_*_};
-ghost use Rattle.steps.specs.Limits.{coordinators};
-ghost use Rattle.report.specs.Within.{Within, longestLine};
+ghost use Rattle.model_steps.specs.Limits.{coordinators};
+ghost use Rattle.text_report.specs.Within.{Within, longestLine};
 ghost use Rattle.world_report.specs.Coordinators.{coordinatorLine, coordinatorText, coordinatorsText};
 ghost use Rattle.world_report.specs.Longest.{longestCoordinator};
-use commit_log::Log;
-use protocol::Coordinator;
-use steps::limits::COORDINATORS;
+use log_core::Log;
+use model_protocol::Coordinator;
+use model_steps::limits::COORDINATORS;
 
 pub fn coordinator_line(out: &mut [u8], at: usize, coord: u8, applied: u8) -> usize
     ensures { λ r. ⌜ Within longestLine (now (out .entry)) at (coordinatorLine coord applied) (now (out .exit)) r ⌝ }
 {
-    let at = report::field(out, at, b"coord=", coord as u32);
-    let at = report::field(out, at, b" applied=", applied as u32);
-    ascii::word(out, at, b"\n")
+    let at = text_report::field(out, at, b"coord=", coord as u32);
+    let at = text_report::field(out, at, b" applied=", applied as u32);
+    text_ascii::word(out, at, b"\n")
 }
 
 // Its line and its log.
@@ -21,7 +21,7 @@ pub fn put_coordinator(out: &mut [u8], at: usize, coord: u8, c: Coordinator, log
     ensures { λ r. ⌜ Within longestCoordinator (now (out .entry)) at (coordinatorText coord c log) (now (out .exit)) r ⌝ }
 {
     let at = coordinator_line(out, at, coord, c.applied);
-    report::put_log(out, at, log)
+    text_report::put_log(out, at, log)
 }
 
 pub fn put_coordinators(out: &mut [u8], at: usize, cs: [Coordinator; 3], logs: [Log; 3]) -> usize

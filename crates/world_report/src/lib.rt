@@ -1,8 +1,8 @@
 // What is printed of a world, line by line into a buffer. Each function answers the next place in the buffer.
-ghost use Rattle.report.specs.Within.{Within};
+ghost use Rattle.text_report.specs.Within.{Within};
 ghost use Rattle.world_report.specs.Longest.{longestWorld};
 ghost use Rattle.world_report.specs.Report.{worldText};
-use protocol::World;
+use model_protocol::World;
 
 pub mod coordinators;
 pub mod processes;

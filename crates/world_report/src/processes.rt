@@ -1,22 +1,22 @@
 // Processes as they are printed: what each heard, and the restore that it took.
 ghost use Prim.Native.Nat.{_*_};
-ghost use Rattle.entry.specs.Limits.{processes};
-ghost use Rattle.report.specs.Within.{Within, longestLine};
+ghost use Rattle.log_entry.specs.Limits.{processes};
+ghost use Rattle.text_report.specs.Within.{Within, longestLine};
 ghost use Rattle.world_report.specs.Longest.{longestHeard, longestRestore};
 ghost use Rattle.world_report.specs.Processes.{byProcess, heardLine, heardText, outcomeText, restoreLine, restoreText};
-use commit_log::Outcome;
-use entry::limits::PROCESSES;
-use entry::limits::TRANSACTIONS;
-use protocol::Process;
+use log_core::Outcome;
+use log_entry::limits::PROCESSES;
+use log_entry::limits::TRANSACTIONS;
+use model_protocol::Process;
 
 pub fn heard_line(out: &mut [u8], at: usize, proc: u8, tx: u8, outcome: Outcome) -> usize
     ensures { λ r. ⌜ Within longestLine (now (out .entry)) at (heardLine proc tx outcome) (now (out .exit)) r ⌝ }
 {
-    let at = report::field(out, at, b"proc=", proc as u32);
-    let at = report::field(out, at, b" tx=", tx as u32);
-    let at = ascii::word(out, at, b" heard=");
-    let at = report::outcome_word(out, at, outcome);
-    ascii::word(out, at, b"\n")
+    let at = text_report::field(out, at, b"proc=", proc as u32);
+    let at = text_report::field(out, at, b" tx=", tx as u32);
+    let at = text_ascii::word(out, at, b" heard=");
+    let at = text_report::outcome_word(out, at, outcome);
+    text_ascii::word(out, at, b"\n")
 }
 
 // The transaction's line, if its outcome was heard.
@@ -61,10 +61,10 @@ pub fn put_all_heard(out: &mut [u8], at: usize, ps: [Process; 16]) -> usize
 pub fn restore_line(out: &mut [u8], at: usize, proc: u8, store: u8, position: u8) -> usize
     ensures { λ r. ⌜ Within longestLine (now (out .entry)) at (restoreLine proc store position) (now (out .exit)) r ⌝ }
 {
-    let at = report::field(out, at, b"proc=", proc as u32);
-    let at = report::field(out, at, b" store=", store as u32);
-    let at = report::field(out, at, b" position=", position as u32);
-    ascii::word(out, at, b"\n")
+    let at = text_report::field(out, at, b"proc=", proc as u32);
+    let at = text_report::field(out, at, b" store=", store as u32);
+    let at = text_report::field(out, at, b" position=", position as u32);
+    text_ascii::word(out, at, b"\n")
 }
 
 // The restore that the process took, if it took one.
@@ -76,7 +76,7 @@ pub fn put_restore(out: &mut [u8], at: usize, proc: u8, p: Process) -> usize
     }
     let replay = p.replay;
     let at = restore_line(out, at, proc, p.store, p.position);
-    report::put_replay(out, at, p.store, replay)
+    text_report::put_replay(out, at, p.store, replay)
 }
 
 // The restores of all processes.

@@ -8,25 +8,25 @@ use mathlib.Core.Path.{_≡_, refl, sym, _∙_, ap}
 use lib.Dec.{eqb, ltb}
 use lib.ListN.{length}
 use borrow.Author.Tests.{eqb-true, le-ltb, lt-ltb}
-use Rattle.entry.specs.Refusal.{accepted, firstRefusal, outsideLimits, unreadable}
-use Rattle.agreement.proofs.Limits.{in-bounds}
-use Rattle.cluster.specs.Orders.{ordered}
-use Rattle.lines.specs.Lines.{longest}
+use Rattle.log_entry.specs.Refusal.{accepted, firstRefusal, outsideLimits, unreadable}
+use Rattle.model_agreement.proofs.Limits.{in-bounds}
+use Rattle.world_engine.specs.Orders.{ordered}
+use Rattle.text_lines.specs.Lines.{longest}
 use Rattle.log_laws.proofs.Answers.{fresh, not-given}
-use Rattle.protocol.specs.declared.Parts.{Parts}
-use Rattle.protocol.specs.declared.Stepped.{Stepped}
-use Rattle.protocol.specs.declared.World.{World}
-use Rattle.protocol.specs.Step.{acceptorsCounted, answered, changed, changeOf, partsOf, placesIn, run, stepChecks, stepOf, stepRefusal}
-use Rattle.protocol.specs.World.{freshWorld}
-use Rattle.steps.specs.declared.Step.{Step}
-use Rattle.steps.specs.declared.Step.the-variants.{Setup, Request, Open, Propose, Deliver, Tell, Restore, Crash}
-use Rattle.steps.specs.Limits.{mostAcceptors, outsideStep}
-use Rattle.step_text.specs.Seen.{most}
-use Rattle.world_text.specs.declared.Reading.{Reading}
-use Rattle.world_text.specs.declared.Reading.the-variants.{Read, Outside, Unreadable}
-use Rattle.world_text.specs.Step.{HasText, beyond, reading, readingOf, text}
-use Rattle.world_text.proofs.Agreement.{IsText, outside-line-is-text, read-line-is-text, text-reads-back}
-use Rattle.world_text.proofs.Beyond.{beyond-is-outside}
+use Rattle.model_protocol.specs.declared.Parts.{Parts}
+use Rattle.model_protocol.specs.declared.Stepped.{Stepped}
+use Rattle.model_protocol.specs.declared.World.{World}
+use Rattle.model_protocol.specs.Step.{acceptorsCounted, answered, changed, changeOf, partsOf, placesIn, run, stepChecks, stepOf, stepRefusal}
+use Rattle.model_protocol.specs.World.{freshWorld}
+use Rattle.model_steps.specs.declared.Step.{Step}
+use Rattle.model_steps.specs.declared.Step.the-variants.{Setup, Request, Open, Propose, Deliver, Tell, Restore, Crash}
+use Rattle.model_steps.specs.Limits.{mostAcceptors, outsideStep}
+use Rattle.text_entry.specs.Seen.{most}
+use Rattle.text_step.specs.declared.Reading.{Reading}
+use Rattle.text_step.specs.declared.Reading.the-variants.{Read, Outside, Unreadable}
+use Rattle.text_step.specs.Step.{HasText, beyond, reading, readingOf, text}
+use Rattle.text_step.proofs.Agreement.{IsText, outside-line-is-text, read-line-is-text, text-reads-back}
+use Rattle.text_step.proofs.Beyond.{beyond-is-outside}
 use Rattle.world_input.specs.Orders.{orderOf, orderTo, refusing}
 
 -- what a line is answered, and the world after it

@@ -6,16 +6,16 @@ use mathlib.Core.List.{List, [], _∷_, _++_, append-assoc, append-nil}
 use mathlib.Core.Path.{_≡_, refl, sym, _∙_, ap, subst}
 use lib.ListN.{drop, drop-of-length-le, getD, length, length-append, length-set, length-take, replicate, set, take, take-append-drop}
 use lib.Seq.{drop-cons, drop-drop, length-take-le, take-append-seam, take-suc-set, sets, sets-eq}
-use Rattle.cluster.specs.declared.Advanced.{Advanced}
-use Rattle.cluster.specs.declared.Block.{Block}
-use Rattle.cluster.specs.declared.Order.{Order}
-use Rattle.cluster.specs.Orders.{advanced, answersTo, blockOrders, ordered, ordersOf as Block·ordersOf, worldAfter}
-use Rattle.lines.specs.declared.Answers.{Answers}
-use Rattle.lines.specs.Answers.{answersOf, noAnswers, noted}
-use Rattle.lines.specs.Lines.{most}
-use Rattle.lines.proofs.Noting.{Sound, noted-answers, noted-count, noted-sound}
-use Rattle.protocol.specs.declared.World.{World}
-use Rattle.protocol.specs.World.{freshWorld}
+use Rattle.world_engine.specs.declared.Advanced.{Advanced}
+use Rattle.world_engine.specs.declared.Block.{Block}
+use Rattle.world_engine.specs.declared.Order.{Order}
+use Rattle.world_engine.specs.Orders.{advanced, answersTo, blockOrders, ordered, ordersOf as Block·ordersOf, worldAfter}
+use Rattle.text_lines.specs.declared.Answers.{Answers}
+use Rattle.text_lines.specs.Answers.{answersOf, noAnswers, noted}
+use Rattle.text_lines.specs.Lines.{most}
+use Rattle.text_lines.proofs.Noting.{Sound, noted-answers, noted-count, noted-sound}
+use Rattle.model_protocol.specs.declared.World.{World}
+use Rattle.model_protocol.specs.World.{freshWorld}
 use Rattle.world_input.specs.declared.Orders.{Orders}
 use Rattle.world_input.specs.State.{ordersIn}
 use Rattle.world_run.specs.Ran.{BlockAt, Ran, notedAll}

@@ -7,20 +7,20 @@ use mathlib.Core.Path.{_≡_, refl, sym, _∙_, ap, subst}
 use lib.Dec.{leb, ltb}
 use lib.ListN.{length, take}
 use borrow.Author.Tests.{leb-false, leb-true}
-use Rattle.agreement.specs.Claim.{Claim}
-use Rattle.agreement.specs.History.{history}
-use Rattle.agreement.proofs.Theorem.{demand-3}
-use Rattle.cluster.specs.declared.Order.{Order}
-use Rattle.cluster.specs.Orders.{answersTo, worldAfter}
-use Rattle.entry.specs.Refusal.{noPlace, unreadable}
-use Rattle.lines.specs.Lines.{lines, longest, most}
-use Rattle.protocol.specs.declared.World.{World}
-use Rattle.protocol.specs.Step.{run, stepOf}
-use Rattle.protocol.specs.World.{freshWorld}
-use Rattle.steps.specs.declared.Step.{Step}
-use Rattle.world_text.specs.declared.Reading.{Reading}
-use Rattle.world_text.specs.declared.Reading.the-variants.{Read, Outside, Unreadable}
-use Rattle.world_text.specs.Step.{reading}
+use Rattle.model_agreement.specs.Claim.{Claim}
+use Rattle.model_agreement.specs.History.{history}
+use Rattle.model_agreement.proofs.Theorem.{demand-3}
+use Rattle.world_engine.specs.declared.Order.{Order}
+use Rattle.world_engine.specs.Orders.{answersTo, worldAfter}
+use Rattle.log_entry.specs.Refusal.{noPlace, unreadable}
+use Rattle.text_lines.specs.Lines.{lines, longest, most}
+use Rattle.model_protocol.specs.declared.World.{World}
+use Rattle.model_protocol.specs.Step.{run, stepOf}
+use Rattle.model_protocol.specs.World.{freshWorld}
+use Rattle.model_steps.specs.declared.Step.{Step}
+use Rattle.text_step.specs.declared.Reading.{Reading}
+use Rattle.text_step.specs.declared.Reading.the-variants.{Read, Outside, Unreadable}
+use Rattle.text_step.specs.Step.{reading}
 use Rattle.world_input.specs.Orders.{orderOf, orderTo, ordersFrom, ordersOf, refusing}
 use Rattle.world_run.specs.declared.Session.{Session}
 use Rattle.world_run.specs.Program.{printed, world, worldFor}

@@ -1,11 +1,11 @@
 -- The meaning of the program `world`: from the bytes read to the bytes written.
 use Prim.Native.Nat.{ℕ}
 use mathlib.Core.List.{List, _++_}
-use Rattle.protocol.specs.declared.World.{World}
-use Rattle.protocol.specs.World.{freshWorld}
-use Rattle.report.specs.Report.{answersText}
+use Rattle.model_protocol.specs.declared.World.{World}
+use Rattle.model_protocol.specs.World.{freshWorld}
+use Rattle.text_report.specs.Report.{answersText}
 use Rattle.world_report.specs.Report.{worldText}
-use Rattle.cluster.specs.Orders.{answersTo, worldAfter}
+use Rattle.world_engine.specs.Orders.{answersTo, worldAfter}
 use Rattle.world_input.specs.Orders.{ordersOf}
 
 -- "The first step gets the fresh world [..]. Each later one gets the world that the last one handed back"

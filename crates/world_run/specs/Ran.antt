@@ -3,16 +3,16 @@ use Prim.Native.Nat.{ℕ, _+_}
 use mathlib.Core.List.{List, [], _∷_}
 use mathlib.Core.Path.{_≡_}
 use lib.ListN.{drop, length, take}
-use Rattle.agreement.specs.Claim.{Claim}
-use Rattle.agreement.specs.History.{history}
-use Rattle.cluster.specs.declared.Block.{Block}
-use Rattle.cluster.specs.declared.Order.{Order}
-use Rattle.cluster.specs.Orders.{answersTo, blockOrders, ordersOf as Block·ordersOf, worldAfter}
-use Rattle.lines.specs.declared.Answers.{Answers}
-use Rattle.lines.specs.Answers.{answersOf, noted}
-use Rattle.lines.specs.Feed.{fed, fresh}
-use Rattle.protocol.specs.World.{freshWorld}
-use Rattle.report.specs.Within.{longestAnswers}
+use Rattle.model_agreement.specs.Claim.{Claim}
+use Rattle.model_agreement.specs.History.{history}
+use Rattle.world_engine.specs.declared.Block.{Block}
+use Rattle.world_engine.specs.declared.Order.{Order}
+use Rattle.world_engine.specs.Orders.{answersTo, blockOrders, ordersOf as Block·ordersOf, worldAfter}
+use Rattle.text_lines.specs.declared.Answers.{Answers}
+use Rattle.text_lines.specs.Answers.{answersOf, noted}
+use Rattle.text_lines.specs.Feed.{fed, fresh}
+use Rattle.model_protocol.specs.World.{freshWorld}
+use Rattle.text_report.specs.Within.{longestAnswers}
 use Rattle.world_report.specs.Longest.{longestWorld}
 use Rattle.world_input.specs.declared.Input.{Input}
 use Rattle.world_input.specs.State.{over, stateOf, withLine}

@@ -4,11 +4,11 @@ use mathlib.Core.Bool.{cond}
 use mathlib.Core.List.{List, [], _∷_, _++_}
 use lib.Dec.{ltb}
 use lib.ListN.{length, take}
-use Rattle.steps.specs.declared.Step.{Step}
-use Rattle.lines.specs.Lines.{lines, longest, most}
-use Rattle.world_text.specs.declared.Reading.{Reading}
-use Rattle.world_text.specs.declared.Reading.the-variants.{Read, Outside, Unreadable}
-use Rattle.world_text.specs.Step.{reading}
+use Rattle.model_steps.specs.declared.Step.{Step}
+use Rattle.text_lines.specs.Lines.{lines, longest, most}
+use Rattle.text_step.specs.declared.Reading.{Reading}
+use Rattle.text_step.specs.declared.Reading.the-variants.{Read, Outside, Unreadable}
+use Rattle.text_step.specs.Step.{reading}
 
 -- a line that does not read as a step, or reads as one with a number that no byte holds, is none
 abbrev pub stepIn : Reading → List Step

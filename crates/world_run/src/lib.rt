@@ -2,14 +2,14 @@
 ghost use Prim.Native.Nat.{min};
 ghost use mathlib.Core.Path.{_≡_};
 ghost use lib.ListN.{take};
-ghost use Rattle.report.specs.Printed.{Printed};
+ghost use Rattle.text_report.specs.Printed.{Printed};
 ghost use Rattle.world_input.specs.State.{ordersIn};
 ghost use Rattle.world_run.specs.Ran.{Agreed, AgreedOnFed, BlockAt, Ran, notedAll, output, room};
-use cluster::Block;
-use cluster::advance::advance;
-use cluster::fresh::fresh_world;
-use lines::Answers;
-use protocol::World;
+use model_protocol::World;
+use text_lines::Answers;
+use world_engine::Block;
+use world_engine::advance::advance;
+use world_engine::fresh::fresh_world;
 use world_input::Input;
 use world_input::Orders;
 
@@ -113,6 +113,6 @@ pub fn put_output(out: &mut [u8], session: Session) -> usize
 {
     let answers = session.answers;
     let world = session.world;
-    let at = report::put_answers(out, 0, answers);
+    let at = text_report::put_answers(out, 0, answers);
     world_report::put_world(out, at, world)
 }

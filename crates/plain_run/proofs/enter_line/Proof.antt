@@ -2,7 +2,7 @@ use native.Mathlib.Omega.{arith}
 use mathlib.Core.Path.{sym, _∙_}
 use lib.ListN.{length}
 use lib.Seq.{length-take-le}
-use Rattle.lines.proofs.Good.{bytes-length}
+use Rattle.text_lines.proofs.Good.{bytes-length}
 use Rattle.plain_run.proofs.Entering.{held-long, held-unread, held-outside, held-read, neither}
 use borrow.Author.Needs.{needs}
 use Rattle.plain_run.proofs.enter_line.Statement.{statement}

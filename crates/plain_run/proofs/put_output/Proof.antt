@@ -1,5 +1,5 @@
-use Rattle.report.proofs.Lengths.{within-more}
-use Rattle.report.proofs.PrintedLaws.{printed-whole}
+use Rattle.text_report.proofs.Lengths.{within-more}
+use Rattle.text_report.proofs.PrintedLaws.{printed-whole}
 use borrow.Author.Needs.{needs}
 use Rattle.plain_run.proofs.put_output.Statement.{statement}
 use Rattle.plain_run.proofs.put_output.Tie as tie

@@ -5,16 +5,16 @@ use mathlib.Core.List.{List}
 use mathlib.Core.Path.{ap, _∙_}
 use native.Mathlib.Omega.{arith}
 use lib.ListN.{length}
-use Rattle.entry.specs.Limits.{stores, transactions}
-use Rattle.commit_log.proofs.Good.{rows-length}
-use Rattle.commit_log.proofs.ReplayLength.{replay-length}
-use Rattle.commit_log.specs.declared.Log.{Log}
-use Rattle.commit_log.specs.declared.Replayed.{Replayed}
-use Rattle.commit_log.specs.Replay.{replayRows}
+use Rattle.log_entry.specs.Limits.{stores, transactions}
+use Rattle.log_core.proofs.Good.{rows-length}
+use Rattle.log_core.proofs.ReplayLength.{replay-length}
+use Rattle.log_core.specs.declared.Log.{Log}
+use Rattle.log_core.specs.declared.Replayed.{Replayed}
+use Rattle.log_core.specs.Replay.{replayRows}
 use Rattle.release_log.specs.Query.{replayValue}
 use Rattle.release_log.proofs.BehindLaws.{whole-of}
 use Rattle.release_log.proofs.QueryLaws.{numbers-outside, records-refused, value-placed}
-use Rattle.commit_log.proofs.ReplayedRows.{replay-count, replay-taken}
+use Rattle.log_core.proofs.ReplayedRows.{replay-count, replay-taken}
 use Rattle.release_log.proofs.release_log_replay.Statement.{statement}
 use Rattle.release_log.proofs.release_log_replay.Tie as tie
 

@@ -1,8 +1,8 @@
 use native.Mathlib.Omega.{arith}
 use mathlib.Core.Path.{sym, _∙_}
 use lib.Seq.{length-take-le}
-use Rattle.lines.proofs.Good.{bytes-length}
-use Rattle.world_text.specs.declared.Reading.the-variants.{Outside, Unreadable}
+use Rattle.text_lines.proofs.Good.{bytes-length}
+use Rattle.text_step.specs.declared.Reading.the-variants.{Outside, Unreadable}
 use Rattle.world_input.proofs.Held.{held-long, held-short, neither}
 use borrow.Author.Needs.{needs}
 use Rattle.world_input.proofs.order_of.Statement.{statement}

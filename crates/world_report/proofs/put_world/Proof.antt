@@ -1,5 +1,5 @@
 use borrow.Author.Needs.{needs}
-use Rattle.report.proofs.Lengths.{within-more}
+use Rattle.text_report.proofs.Lengths.{within-more}
 use Rattle.world_report.specs.Report.{worldText}
 use Rattle.world_report.proofs.put_world.Statement.{statement}
 use Rattle.world_report.proofs.put_world.Tie as tie

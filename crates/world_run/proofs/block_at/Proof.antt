@@ -4,8 +4,8 @@ use Prim.Native.Nat.{_-_, _+_}
 use mathlib.Core.Path.{_≡_, refl, subst}
 use lib.ListN.{length, set}
 use lib.Seq.{getD-take}
-use Rattle.cluster.specs.declared.Order.{Order}
-use Rattle.cluster.specs.Orders.{blockOrders}
+use Rattle.world_engine.specs.declared.Order.{Order}
+use Rattle.world_engine.specs.Orders.{blockOrders}
 use Rattle.world_input.specs.State.{ordersIn}
 use Rattle.world_input.proofs.Good.{orders-length}
 use Rattle.world_run.proofs.Blocks.{Filling, filled-end, filled-more, filled-whole, orders-count}

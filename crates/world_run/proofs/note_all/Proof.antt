@@ -4,8 +4,8 @@ use Prim.Native.Nat.{_-_, _+_}
 use mathlib.Core.Path.{_≡_, refl, sym, _∙_, ap}
 use lib.ListN.{drop, length, length-take, take}
 use lib.Seq.{getD-take}
-use Rattle.lines.specs.declared.Answers.{Answers}
-use Rattle.lines.specs.Answers.{noted}
+use Rattle.text_lines.specs.declared.Answers.{Answers}
+use Rattle.text_lines.specs.Answers.{noted}
 use Rattle.world_run.specs.Ran.{notedAll}
 use Rattle.world_run.proofs.Blocks.{noted-end, noted-next}
 use Rattle.world_run.proofs.note_all.Statement.{statement}

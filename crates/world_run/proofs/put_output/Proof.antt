@@ -1,6 +1,6 @@
-use Rattle.report.proofs.Lengths.{within-more}
+use Rattle.text_report.proofs.Lengths.{within-more}
 use borrow.Author.Needs.{needs}
-use Rattle.report.proofs.PrintedLaws.{printed-whole}
+use Rattle.text_report.proofs.PrintedLaws.{printed-whole}
 use Rattle.world_run.proofs.put_output.Statement.{statement}
 use Rattle.world_run.proofs.put_output.Tie as tie
 

@@ -3,8 +3,8 @@ use borrow.Author.Needs.{needs}
 use Prim.Native.Nat.{_-_, min}
 use mathlib.Core.Path.{_≡_, sym, subst}
 use lib.ListN.{length}
-use Rattle.lines.specs.declared.Answers.{Answers}
-use Rattle.protocol.specs.declared.World.{World}
+use Rattle.text_lines.specs.declared.Answers.{Answers}
+use Rattle.model_protocol.specs.declared.World.{World}
 use Rattle.world_input.specs.State.{ordersIn}
 use Rattle.world_input.proofs.Good.{orders-length}
 use Rattle.world_run.proofs.Blocks.{Going, going-end, going-next, going-start, orders-count}

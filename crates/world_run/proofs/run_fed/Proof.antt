@@ -1,6 +1,6 @@
 use borrow.Author.Needs.{needs}
 use mathlib.Core.Path.{_∙_, ap}
-use Rattle.lines.specs.Feed.{finished}
+use Rattle.text_lines.specs.Feed.{finished}
 use Rattle.world_input.specs.State.{ordersIn, over, withLine}
 use Rattle.world_input.proofs.Meaning.{fed-is-orders}
 use Rattle.world_run.proofs.Meaning.{ran-agrees}

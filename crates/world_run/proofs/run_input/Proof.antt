@@ -1,8 +1,8 @@
 use borrow.Author.Needs.{needs}
 use mathlib.Core.List.{List}
 use mathlib.Core.Path.{_∙_, ap}
-use Rattle.cluster.specs.declared.Order.{Order}
-use Rattle.lines.specs.Feed.{Fed, fed}
+use Rattle.world_engine.specs.declared.Order.{Order}
+use Rattle.text_lines.specs.Feed.{Fed, fed}
 use Rattle.world_input.specs.State.{over, withLine}
 use Rattle.world_run.proofs.run_input.Statement.{statement}
 use Rattle.world_run.proofs.run_input.Tie as tie

@@ -5,10 +5,10 @@ use mathlib.Core.Bool.{true}
 use mathlib.Core.Path.{_≡_, refl, sym, _∙_, ap, subst}
 use lib.ListN.{length, drop, length-drop}
 use borrow.Author.Tests.{not-true, not-false}
-use Rattle.lines.specs.Feed.{fed}
-use Rattle.lines.specs.Line.{Part, gathered, seen}
-use Rattle.lines.proofs.Feeding.{fed-at-end, fed-begun, fed-line, gathered-shorter}
-use Rattle.lines.proofs.Stream.{fed-over}
+use Rattle.text_lines.specs.Feed.{fed}
+use Rattle.text_lines.specs.Line.{Part, gathered, seen}
+use Rattle.text_lines.proofs.Feeding.{fed-at-end, fed-begun, fed-line, gathered-shorter}
+use Rattle.text_lines.proofs.Stream.{fed-over}
 use Rattle.plain_run.specs.Session.{answerLine, isOver}
 use Rattle.plain_run.proofs.Input.feed.Statement.{statement}
 use Rattle.plain_run.proofs.Input.feed.Tie as tie

@@ -1,5 +1,5 @@
 use mathlib.Core.Path.{sym, _∙_}
-use Rattle.lines.proofs.Feeding.{finished-over, finished-empty, finished-line}
+use Rattle.text_lines.proofs.Feeding.{finished-over, finished-empty, finished-line}
 use Rattle.plain_run.specs.Session.{answerLine, isOver, stateOf}
 use borrow.Author.Needs.{needs}
 use Rattle.plain_run.proofs.Input.finish.Statement.{statement}

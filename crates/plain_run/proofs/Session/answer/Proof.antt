@@ -1,6 +1,6 @@
 use mathlib.Core.Path.{_≡_, _∙_, ap}
-use Rattle.commit_log.specs.declared.Entered.{Entered}
-use Rattle.lines.specs.Answers.{noted}
+use Rattle.log_core.specs.declared.Entered.{Entered}
+use Rattle.text_lines.specs.Answers.{noted}
 use Rattle.plain_run.specs.declared.Session.{Session}
 use Rattle.plain_run.proofs.Sessions.{last-line, usual-line}
 use borrow.Author.Needs.{needs}

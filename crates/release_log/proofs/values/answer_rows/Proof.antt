@@ -4,7 +4,7 @@ use mathlib.Core.Path.{_∙_, _≡_, ap, refl, sym}
 use native.Mathlib.Omega.{arith}
 use lib.ListN.{drop, length, length-set, set, take}
 use lib.Seq.{length-sets, sets}
-use Rattle.commit_log.proofs.ReplayedRows.{replay-places}
+use Rattle.log_core.proofs.ReplayedRows.{replay-places}
 use Rattle.release_log.proofs.RowsLaws.{row-stored, rows-end, taken-length, value-length}
 use Rattle.release_log.specs.Query.{replayValue, rowsBytes, rowSize}
 use Rattle.release_log.proofs.QueryLaws.{no-place, place}

@@ -5,11 +5,11 @@ use mathlib.Core.Bool.{true}
 use mathlib.Core.Path.{_≡_, refl, sym, _∙_, ap, subst}
 use lib.ListN.{length, length-drop, length-set, drop, set, take}
 use borrow.Author.Tests.{not-true, not-false}
-use Rattle.cluster.specs.declared.Order.{Order}
-use Rattle.lines.specs.Feed.{fed}
-use Rattle.lines.specs.Line.{Part, gathered, seen}
-use Rattle.lines.proofs.Feeding.{fed-at-end, fed-begun, fed-line, gathered-shorter}
-use Rattle.lines.proofs.Stream.{fed-over}
+use Rattle.world_engine.specs.declared.Order.{Order}
+use Rattle.text_lines.specs.Feed.{fed}
+use Rattle.text_lines.specs.Line.{Part, gathered, seen}
+use Rattle.text_lines.proofs.Feeding.{fed-at-end, fed-begun, fed-line, gathered-shorter}
+use Rattle.text_lines.proofs.Stream.{fed-over}
 use Rattle.world_input.specs.State.{ordersIn, over, withLine}
 use Rattle.world_input.proofs.Good.{input-length}
 use Rattle.world_input.proofs.Ordering.{over-last, over-not, with-line}

@@ -1,8 +1,8 @@
 use Prim.Native.Nat.{_+_}
 use mathlib.Core.Path.{_≡_, sym, _∙_, ap}
 use lib.ListN.{length, set, take}
-use Rattle.cluster.specs.declared.Order.{Order}
-use Rattle.lines.proofs.Feeding.{finished-empty, finished-line, finished-over}
+use Rattle.world_engine.specs.declared.Order.{Order}
+use Rattle.text_lines.proofs.Feeding.{finished-empty, finished-line, finished-over}
 use Rattle.world_input.specs.State.{over, stateOf, withLine}
 use Rattle.world_input.proofs.Good.{input-length}
 use Rattle.world_input.proofs.Ordering.{over-last, over-not, with-line}

@@ -1,5 +1,5 @@
 use borrow.Author.Needs.{needs}
-use Rattle.report.proofs.Lengths.{within-more}
+use Rattle.text_report.proofs.Lengths.{within-more}
 use Rattle.world_report.proofs.coordinators.put_coordinator.Statement.{statement}
 use Rattle.world_report.proofs.coordinators.put_coordinator.Tie as tie
 

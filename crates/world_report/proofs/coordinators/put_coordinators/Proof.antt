@@ -3,13 +3,13 @@ use borrow.Author.Needs.{needs}
 use Prim.Native.Nat.{_≤_, _-_, _*_}
 use mathlib.Core.Path.{_≡_, ap}
 use lib.ListN.{getD}
-use Rattle.ascii.proofs.Writing.{wrote-length}
-use Rattle.report.specs.Report.{each}
-use Rattle.report.specs.Within.{Within}
-use Rattle.report.proofs.Lengths.{each-none, within-as, within-more, within-nothing, within-room}
-use Rattle.commit_log.specs.Log.{emptyLog}
-use Rattle.steps.specs.Limits.{coordinators}
-use Rattle.protocol.specs.World.{freshCoordinator}
+use Rattle.text_ascii.proofs.Writing.{wrote-length}
+use Rattle.text_report.specs.Report.{each}
+use Rattle.text_report.specs.Within.{Within}
+use Rattle.text_report.proofs.Lengths.{each-none, within-as, within-more, within-nothing, within-room}
+use Rattle.log_core.specs.Log.{emptyLog}
+use Rattle.model_steps.specs.Limits.{coordinators}
+use Rattle.model_protocol.specs.World.{freshCoordinator}
 use Rattle.world_report.specs.Coordinators.{coordinatorText}
 use Rattle.world_report.proofs.Elements.{next-of-both}
 use Rattle.world_report.specs.Longest.{longestCoordinator}

@@ -1,8 +1,8 @@
 use native.Mathlib.Omega.{arith}
 use borrow.Author.Needs.{needs}
 use lib.ListN.{length-append}
-use Rattle.ascii.proofs.Writing.{wrote-more}
-use Rattle.report.proofs.Lengths.{byte-length}
+use Rattle.text_ascii.proofs.Writing.{wrote-more}
+use Rattle.text_report.proofs.Lengths.{byte-length}
 use Rattle.world_report.proofs.processes.heard_line.Statement.{statement}
 use Rattle.world_report.proofs.processes.heard_line.Tie as tie
 

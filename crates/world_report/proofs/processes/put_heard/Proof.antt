@@ -3,12 +3,12 @@ use borrow.Author.Needs.{needs}
 use Prim.Native.Nat.{_≤_, _-_, _*_}
 use mathlib.Core.Path.{_≡_, ap}
 use lib.ListN.{getD}
-use Rattle.ascii.proofs.Writing.{wrote-length}
-use Rattle.report.specs.Report.{each}
-use Rattle.report.specs.Within.{Within, longestLine}
-use Rattle.report.proofs.Lengths.{each-more, each-none, within-as, within-more, within-nothing, within-room}
-use Rattle.entry.specs.Limits.{transactions}
-use Rattle.commit_log.specs.declared.Outcome.the-variants.{Open}
+use Rattle.text_ascii.proofs.Writing.{wrote-length}
+use Rattle.text_report.specs.Report.{each}
+use Rattle.text_report.specs.Within.{Within, longestLine}
+use Rattle.text_report.proofs.Lengths.{each-more, each-none, within-as, within-more, within-nothing, within-room}
+use Rattle.log_entry.specs.Limits.{transactions}
+use Rattle.log_core.specs.declared.Outcome.the-variants.{Open}
 use Rattle.world_report.specs.Processes.{outcomeText}
 use Rattle.world_report.proofs.processes.put_heard.Statement.{statement}
 use Rattle.world_report.proofs.processes.put_heard.Tie as tie

@@ -1,5 +1,5 @@
 use borrow.Author.Needs.{needs}
-use Rattle.report.proofs.Lengths.{within-as, within-nothing}
+use Rattle.text_report.proofs.Lengths.{within-as, within-nothing}
 use Rattle.world_report.proofs.ProcessTexts.{nothing-heard, outcome-heard}
 use Rattle.world_report.proofs.processes.put_outcome.Statement.{statement}
 use Rattle.world_report.proofs.processes.put_outcome.Tie as tie

@@ -1,5 +1,5 @@
 use borrow.Author.Needs.{needs}
-use Rattle.report.proofs.Lengths.{within-as, within-more, within-nothing}
+use Rattle.text_report.proofs.Lengths.{within-as, within-more, within-nothing}
 use Rattle.world_report.proofs.ProcessTexts.{none-taken, one-taken}
 use Rattle.world_report.proofs.processes.put_restore.Statement.{statement}
 use Rattle.world_report.proofs.processes.put_restore.Tie as tie

@@ -3,12 +3,12 @@ use borrow.Author.Needs.{needs}
 use Prim.Native.Nat.{suc, _≤_, _-_, _*_}
 use mathlib.Core.Path.{_≡_, ap}
 use lib.ListN.{getD}
-use Rattle.ascii.proofs.Writing.{wrote-length}
-use Rattle.report.specs.Report.{each}
-use Rattle.report.specs.Within.{Within}
-use Rattle.report.proofs.Lengths.{each-none, within-as, within-more, within-nothing, within-room}
-use Rattle.entry.specs.Limits.{processes}
-use Rattle.protocol.specs.World.{freshProcess}
+use Rattle.text_ascii.proofs.Writing.{wrote-length}
+use Rattle.text_report.specs.Report.{each}
+use Rattle.text_report.specs.Within.{Within}
+use Rattle.text_report.proofs.Lengths.{each-none, within-as, within-more, within-nothing, within-room}
+use Rattle.log_entry.specs.Limits.{processes}
+use Rattle.model_protocol.specs.World.{freshProcess}
 use Rattle.world_report.proofs.Elements.{next-from-1}
 use Rattle.world_report.specs.Longest.{longestRestore}
 use Rattle.world_report.specs.Processes.{restoreText}

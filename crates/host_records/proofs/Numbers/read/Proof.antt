@@ -1,0 +1,68 @@
+use borrow.Author.Needs.{needs}
+use Rattle.host_records.proofs.ReadLaws.{Bytes, bytes-of, read-beyond, read-entry, read-outside, read-unreadable}
+use Rattle.host_records.proofs.Numbers.read.Statement.{statement}
+use Rattle.host_records.proofs.Numbers.read.Tie as tie
+
+bytes : (c : tie.Else2) → Bytes (c .before .before .before .before .args .self)
+bytes c = bytes-of (c .before .before .before .before .args .self) (cc)
+
+unreadable-requires : tie.Need-unreadable-requires
+unreadable-requires c κs = search needs
+
+returns : tie.Need-returns
+returns c = read-unreadable (c .before .before .args .self) (cc)
+
+beyond-byte-requires : tie.Need-beyond-byte-requires
+beyond-byte-requires c κs = search needs
+
+returns-2 : tie.Need-returns-2
+returns-2 c = read-beyond (c .before .before .before .before .args .self) (cc) (cc)
+
+cast-t5 : tie.Need-cast-t5
+cast-t5 c = search needs
+
+cast-t7 : tie.Need-cast-t7
+cast-t7 c = record { fits = bytes (c .before .before) .process }
+
+cast-t8 : tie.Need-cast-t8
+cast-t8 c = record { fits = bytes (c .before .before .before) .by }
+
+cast-t9 : tie.Need-cast-t9
+cast-t9 c = record { fits = bytes (c .before .before .before .before) .store }
+
+cast-t10 : tie.Need-cast-t10
+cast-t10 c = record { fits = bytes (c .before .before .before .before .before) .tx }
+
+cast-t11 : tie.Need-cast-t11
+cast-t11 c = record { fits = bytes (c .before .before .before .before .before .before) .list }
+
+cast-t12 : tie.Need-cast-t12
+cast-t12 c = search needs
+
+outside-requires : tie.Need-outside-requires
+outside-requires c κs = search needs
+
+returns-3 : tie.Need-returns-3
+returns-3 c = read-outside (c .before .before .before .before .before .before .before .before .before .before .before .before .before .args .self) (cc) (cc)
+
+returns-4 : tie.Need-returns-4
+returns-4 c = read-entry (c .before .before .before .before .before .before .before .before .before .before .before .before .before .args .self) (cc) (cc)
+
+pub read-spec : {M : Type 1} → statement M
+read-spec =
+    tie.close
+    (tie.spec
+    unreadable-requires
+    returns
+    beyond-byte-requires
+    returns-2
+    cast-t5
+    cast-t7
+    cast-t8
+    cast-t9
+    cast-t10
+    cast-t11
+    cast-t12
+    outside-requires
+    returns-3
+    returns-4)

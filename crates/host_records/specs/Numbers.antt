@@ -1,0 +1,75 @@
+-- Document 01, "Hosts in C": an entry as numbers. A call has them, and a record has them as its bytes.
+use Prim.Native.Nat.{ℕ}
+use mathlib.Core.Bool.{Bool, _||_, not, cond}
+use lib.Dec.{eqb, leb, ltb}
+use Rattle.log_entry.specs.declared.Entry.{Entry}
+use Rattle.log_entry.specs.Entry.{outside}
+use Rattle.log_entry.specs.Refusal.{outsideLimits, unreadable as unreadableNumber}
+use Rattle.host_records.specs.declared.Numbers.{Numbers}
+use Rattle.host_records.specs.declared.Reading.{Reading}
+use Rattle.host_records.specs.declared.Reading.the-variants.{Of, Refused}
+
+-- kind: 0 take, 1 vote
+abbrev pub takeKind : ℕ
+takeKind = 0
+
+abbrev pub voteKind : ℕ
+voteKind = 1
+
+-- say: 0 abort, 1 commit
+abbrev pub abortSay : ℕ
+abortSay = 0
+
+abbrev pub commitSay : ℕ
+commitSay = 1
+
+-- a byte's values
+abbrev pub byteValues : ℕ
+byteValues = 256
+
+-- the numbers, in the order of a record
+abbrev pub numbers : ℕ → ℕ → ℕ → ℕ → ℕ → ℕ → ℕ → ℕ → Numbers
+numbers kind process by store tx list say update =
+    record { kind = kind; process = process; by = by; store = store; tx = tx; list = list; say = say; update = update }
+
+-- the numbers of an entry
+abbrev pub numbersOf : Entry → Numbers
+numbersOf e =
+    numbers (cond (e .take) takeKind voteKind) (e .process) (e .by) (e .store) (e .tx) (e .participants) (cond (e .commit) commitSay abortSay) (e .update)
+
+-- the entry that numbers stand for
+abbrev pub entryOf : Numbers → Entry
+entryOf n = record {
+  take = eqb (n .kind) takeKind;
+  process = n .process;
+  by = n .by;
+  store = n .store;
+  tx = n .tx;
+  participants = n .list;
+  commit = eqb (n .say) commitSay;
+  update = n .update;
+}
+
+-- "bytes a take does not use are 0": all but kind, process and store
+abbrev pub unusedIsSet : Numbers → Bool
+unusedIsSet n = not (eqb (n .by) 0) || not (eqb (n .tx) 0) || not (eqb (n .list) 0) || not (eqb (n .say) 0) || not (eqb (n .update) 0)
+
+unfoldable pub unreadable : Numbers → Bool
+unreadable n =
+    cond (eqb (n .kind) voteKind)
+    (ltb commitSay (n .say))
+    (not (eqb (n .kind) takeKind) || unusedIsSet n)
+
+-- 1, then 2, or the entry
+unfoldable pub readNumbers : Numbers → Reading
+readNumbers n =
+    cond (unreadable n) (Refused unreadableNumber) (cond (outside (entryOf n)) (Refused outsideLimits) (Of (entryOf n)))
+
+-- a number other than the update is more than a byte holds; every limit is below that
+unfoldable pub beyondByte : Numbers → Bool
+beyondByte n =
+    leb byteValues (n .process)
+    || leb byteValues (n .by)
+    || leb byteValues (n .store)
+    || leb byteValues (n .tx)
+    || leb byteValues (n .list)

@@ -1,0 +1,199 @@
+// An entry as numbers, as a host's call has them, and as a record's bytes. Document 01, "Hosts in C".
+ghost use mathlib.Core.Path.{_≡_};
+ghost use Rattle.host_records.specs.Numbers.{beyondByte, readNumbers, unreadable};
+ghost use Rattle.host_records.specs.Record.{fromLowFirst, lowFirst, readRecord, recordOf, updateSize};
+ghost use mathlib.Core.Bool.{cond};
+ghost use mathlib.Core.List.{[], _∷_};
+use log_entry::Entry;
+use log_entry::refusal::OUTSIDE_LIMITS;
+use log_entry::refusal::UNREADABLE;
+
+// The bytes of a record. `specs/Record.antt` has the same number for the contracts.
+pub const RECORD_SIZE: usize = 12;
+// The bytes of an update.
+pub const UPDATE_SIZE: usize = 4;
+
+// The place of a record's zero.
+const ZERO_AT: usize = 7;
+// A kind.
+const TAKE: u8 = 0;
+
+const VOTE: u8 = 1;
+// A say.
+const ABORT: u8 = 0;
+
+const COMMIT: u8 = 1;
+// A byte's values.
+const BYTE_VALUES: u32 = 256;
+
+// The numbers that a call or a record says, within any limits or not.
+pub struct Numbers {
+    // 0 take, 1 vote.
+    pub kind: u32,
+    pub process: u32,
+    pub by: u32,
+    pub store: u32,
+    pub tx: u32,
+    pub list: u32,
+    // 0 abort, 1 commit.
+    pub say: u32,
+    pub update: u32,
+}
+
+// What numbers or a record read as: an entry, or the refusal.
+pub enum Reading {
+    Of(Entry),
+    Refused(u8),
+}
+
+impl Numbers {
+    // Refusal 1.
+    fn unreadable(self) -> bool
+        ensures { λ r. ⌜ r ≡ unreadable self ⌝ }
+    {
+        if self.kind == VOTE as u32 {
+            return (COMMIT as u32) < self.say;
+        }
+        if self.kind != TAKE as u32 {
+            return true;
+        }
+        if self.by != 0 {
+            return true;
+        }
+        if self.tx != 0 {
+            return true;
+        }
+        if self.list != 0 {
+            return true;
+        }
+        if self.say != 0 {
+            return true;
+        }
+        self.update != 0
+    }
+
+    // Whether a number other than the update is more than a byte holds.
+    fn beyond_byte(self) -> bool
+        ensures { λ r. ⌜ r ≡ beyondByte self ⌝ }
+    {
+        if BYTE_VALUES <= self.process {
+            return true;
+        }
+        if BYTE_VALUES <= self.by {
+            return true;
+        }
+        if BYTE_VALUES <= self.store {
+            return true;
+        }
+        if BYTE_VALUES <= self.tx {
+            return true;
+        }
+        BYTE_VALUES <= self.list
+    }
+
+    pub fn read(self) -> Reading
+        ensures { λ r. ⌜ r ≡ readNumbers self ⌝ }
+    {
+        if self.unreadable() {
+            return Reading::Refused(UNREADABLE);
+        }
+        if self.beyond_byte() {
+            return Reading::Refused(OUTSIDE_LIMITS);
+        }
+        let e = Entry {
+            take: self.kind == TAKE as u32,
+            process: self.process as u8,
+            by: self.by as u8,
+            store: self.store as u8,
+            tx: self.tx as u8,
+            participants: self.list as u8,
+            commit: self.say == COMMIT as u32,
+            update: self.update,
+        };
+        if e.outside() {
+            return Reading::Refused(OUTSIDE_LIMITS);
+        }
+        Reading::Of(e)
+    }
+}
+
+fn wide(b: u8) -> u32
+    ensures { λ r. ⌜ r ≡ b ⌝ }
+{
+    b as u32
+}
+
+// The number of four bytes, low byte first.
+fn from_low_first(a: u8, b: u8, c: u8, d: u8) -> u32
+    ensures { λ r. ⌜ r ≡ fromLowFirst (a ∷ b ∷ c ∷ d ∷ []) ⌝ }
+{
+    wide(a) + BYTE_VALUES * (wide(b) + BYTE_VALUES * (wide(c) + BYTE_VALUES * wide(d)))
+}
+
+// What the bytes of a record read as.
+pub fn read(bytes: &[u8]) -> Reading
+    ensures { λ r. ⌜ r ≡ readRecord (now (bytes .entry)) ⌝ }
+{
+    if bytes.len() != RECORD_SIZE {
+        return Reading::Refused(UNREADABLE);
+    }
+    if bytes[ZERO_AT] != 0 {
+        return Reading::Refused(UNREADABLE);
+    }
+    let n = Numbers {
+        kind: wide(bytes[0]),
+        process: wide(bytes[1]),
+        by: wide(bytes[2]),
+        store: wide(bytes[3]),
+        tx: wide(bytes[4]),
+        list: wide(bytes[5]),
+        say: wide(bytes[6]),
+        update: from_low_first(bytes[8], bytes[9], bytes[10], bytes[11]),
+    };
+    n.read()
+}
+
+fn either(test: bool, yes: u8, no: u8) -> u8
+    ensures { λ r. ⌜ r ≡ cond test yes no ⌝ }
+{
+    if test {
+        return yes;
+    }
+    no
+}
+
+// An update's bytes, low byte first.
+pub fn low_first(u: u32) -> [u8; UPDATE_SIZE]
+    ensures { λ r. ⌜ r ≡ lowFirst updateSize u ⌝ }
+{
+    let second = u / BYTE_VALUES;
+    let third = second / BYTE_VALUES;
+    let fourth = third / BYTE_VALUES;
+    [
+        (u % BYTE_VALUES) as u8,
+        (second % BYTE_VALUES) as u8,
+        (third % BYTE_VALUES) as u8,
+        (fourth % BYTE_VALUES) as u8,
+    ]
+}
+
+// The bytes of an entry's record.
+pub fn record_of(e: Entry) -> [u8; RECORD_SIZE]
+    ensures { λ r. ⌜ r ≡ recordOf e ⌝ }
+{
+    let update = low_first(e.update);
+    [
+        either(e.take, TAKE, VOTE),
+        e.process,
+        e.by,
+        e.store,
+        e.tx,
+        e.participants,
+        either(e.commit, COMMIT, ABORT),
+        0,
+        update[0],
+        update[1],
+        update[2],
+        update[3],
+    ]
+}

@@ -1,0 +1,20 @@
+-- The empty log, made of rows without votes.
+use mathlib.Core.Path.{_≡_, ap}
+use lib.ListN.{replicate}
+use Rattle.log_entry.specs.Limits.{stores, transactions}
+use Rattle.log_core.specs.declared.Log.{Log}
+use Rattle.log_core.specs.declared.Row.{Row}
+use Rattle.log_core.specs.Log.{emptyLog, noVote}
+
+abbrev pub allRows : Row → Log
+allRows r = record {
+  rows = replicate transactions r;
+  holders = replicate stores 0;
+  past = replicate stores 0;
+  groups = 0;
+  remembered = replicate transactions 0;
+}
+
+pub rows-without-votes : (r : Row) → r ≡ record { votes = replicate stores noVote; group = 0 } → allRows r ≡ emptyLog
+unfolding emptyLog
+rows-without-votes r h = ap allRows h

@@ -1,0 +1,25 @@
+use borrow.Author.Needs.{needs}
+use mathlib.Core.Path.{ap, sym, _∙_}
+use Rattle.log_core.specs.declared.Row.{Row}
+use Rattle.log_core.specs.Outcome.{outcomeOfVotes}
+use Rattle.log_core.proofs.Absent.{no-row, open-without-votes}
+use Rattle.log_core.proofs.Log.outcome.Statement.{statement}
+use Rattle.log_core.proofs.Log.outcome.Tie as tie
+
+returns : tie.Need-returns
+returns c = let a = c .before in open-without-votes ∙ ap (λ (r : Row). outcomeOfVotes (r .votes)) (no-row (a .args .t1) _ (a .good .0) (a .args .tx) (c .if1 .taken))
+
+mul-row : tie.Need-mul-row
+mul-row c = search needs
+
+element-copy-out-row : tie.Need-element-copy-out-row
+element-copy-out-row c = search needs
+
+outcome-requires : tie.Need-outcome-requires
+outcome-requires c κs = search needs
+
+returns-2 : tie.Need-returns-2
+returns-2 c = search needs
+
+pub outcome-spec : {M : Type 1} → statement M
+outcome-spec = tie.close (tie.spec returns mul-row element-copy-out-row outcome-requires returns-2)

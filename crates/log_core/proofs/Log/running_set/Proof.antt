@@ -1,0 +1,77 @@
+-- From the last row to the first, the digits passed are the set of the rows passed.
+use borrow.Author.Needs.{needs}
+use Prim.Native.Nat.{_*_, _+_, _<_, _^_, _≤_}
+use mathlib.Core.Path.{_≡_, ap, ap₂, refl, sym, _∙_}
+use mathlib.Core.Bool.{cond}
+use native.Mathlib.Omega.{arith}
+use Prim.Native.Nat.{ℕ}
+use lib.ListN.{drop, length}
+use Rattle.log_core.specs.Group.{runningSet}
+use Rattle.log_core.proofs.Good.{rows-length}
+use Rattle.log_core.proofs.GroupLaws.{digit-small, running-none, running-room, running-step}
+use Rattle.log_core.proofs.Log.running_set.Statement.{statement}
+use Rattle.log_core.proofs.Log.running_set.Tie as tie
+
+abbrev Inv-loop : tie.InvT-loop
+Inv-loop self set₀ t₀ set t = (t ≤ 32) × (set ≡ runningSet (drop t (self .rows)))
+
+abbrev μ-loop : tie.MeasureT-loop
+μ-loop self set₀ t₀ set t = t
+
+loop-holds : tie.Need-loop-holds Inv-loop μ-loop
+loop-holds c = let s = c in let n : length (s .args .t1 .rows) ≡ 32 = rows-length (s .args .t1) _ (s .good .0) in (omega arith, running-none (s .args .t1 .rows) 32 (omega arith))
+
+sub-row : tie.Need-sub-row Inv-loop μ-loop
+sub-row c = omega arith
+
+mul-row : tie.Need-mul-row Inv-loop μ-loop
+mul-row c = omega arith
+
+element-copy-out-row : tie.Need-element-copy-out-row Inv-loop μ-loop
+element-copy-out-row c = omega arith
+
+running-requires : tie.Need-running-requires Inv-loop μ-loop
+running-requires c κs = search needs
+
+digit-requires : tie.Need-digit-requires Inv-loop μ-loop
+digit-requires c κs = search needs
+
+mul-set : tie.Need-mul-set Inv-loop μ-loop
+mul-set c = let s = c .before .before .before .before .before in let n : length (s .args .t1 .rows) ≡ 32 = rows-length (s .args .t1) _ (s .good .0) in
+    let l = c .before .before .before .before .loop in let room : l .set < 2 ^ 31 = rw (l .inv .1) (running-room (s .args .t1 .rows) (l .t) n (c .before .before .before .loop-test .taken)) in omega arith
+
+add-set : tie.Need-add-set Inv-loop μ-loop
+add-set c = let s = c .before .before .before .before .before in let n : length (s .args .t1 .rows) ≡ 32 = rows-length (s .args .t1) _ (s .good .0) in
+    let l = c .before .before .before .before .loop in let room : l .set < 2 ^ 31 = rw (l .inv .1) (running-room (s .args .t1 .rows) (l .t) n (c .before .before .before .loop-test .taken)) in omega (arith, c .digit .ensures, digit-small (c .before .running .result))
+
+sub-t : tie.Need-sub-t Inv-loop μ-loop
+sub-t c = omega arith
+
+loop-less : tie.Need-loop-less Inv-loop μ-loop
+loop-less c = omega arith
+
+loop-again : tie.Need-loop-again Inv-loop μ-loop
+loop-again c = let s = c .before .before .before .before .before in let n : length (s .args .t1 .rows) ≡ 32 = rows-length (s .args .t1) _ (s .good .0) in
+    let l = c .before .before .before .before .loop in (omega arith, ap₂ (λ (d m : ℕ). d + 2 * m) (c .digit .ensures ∙ ap (λ b. cond b 1 0) (c .before .running .ensures)) (l .inv .1) ∙ running-step (s .args .t1 .rows) (l .t) (c .before .before .before .loop-test .taken) (omega arith))
+
+returns : tie.Need-returns Inv-loop μ-loop
+returns c = let l = c .before .loop in let z : l .t ≡ 0 = omega arith in l .inv .1 ∙ ap (λ (k : ℕ). runningSet (drop k (c .before .before .args .t1 .rows))) z
+
+pub running-set-spec : {M : Type 1} → statement M
+running-set-spec =
+    tie.close
+    (tie.spec
+    Inv-loop
+    μ-loop
+    loop-holds
+    sub-row
+    mul-row
+    element-copy-out-row
+    running-requires
+    digit-requires
+    mul-set
+    add-set
+    sub-t
+    loop-less
+    loop-again
+    returns)

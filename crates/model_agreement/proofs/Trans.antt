@@ -1,0 +1,492 @@
+-- The step as a relation: its tests are gone through once, here, and every invariant goes by these cases.
+use Prim.Native.Nat.{ℕ, _+_, _*_, _-_, _%_, _≤_, _<_}
+use mathlib.Core.Path.{_≡_, refl, sym, subst, _∙_}
+use mathlib.Core.Logic.{_⊎_, inl, inr}
+use mathlib.Core.Bool.{Bool, true, false, _&&_, _||_, not, cond}
+use mathlib.Core.List.{List, _∷_}
+use native.Mathlib.Nat.{mod-eq-of-lt, mod-lt}
+use native.Mathlib.Omega.{arith}
+use lib.Dec.{T, T-not, eqb, eqb→eq, eqb-refl, leb, leb→le, ltb, ltb→lt, nleb→lt, nltb→le, lt→ltb}
+use lib.ListN.{length}
+use Rattle.log_entry.specs.declared.Entry.{Entry}
+use Rattle.log_entry.specs.Entry.{noProcess, outside}
+use Rattle.log_entry.specs.Limits.{processes, stores, transactions}
+use Rattle.log_entry.specs.Refusal.{check, outsideLimits}
+use Rattle.log_core.specs.declared.Outcome.{Outcome}
+use Rattle.log_core.specs.declared.Replay.{Replay}
+use Rattle.log_core.specs.Outcome.{isOpen, outcomeOf}
+use Rattle.log_core.specs.Replay.{replayOf}
+use Rattle.model_steps.specs.declared.Role.{Role}
+use Rattle.model_steps.specs.declared.Step.{Step}
+use Rattle.model_steps.specs.declared.Step.the-variants.{Setup, Request, Open, Propose, Deliver, Tell, Restore, Crash}
+use Rattle.model_steps.specs.Limits.{ballots, coordinators, instances, messages, noBallot, noCoordinator, outsideStep, mostAcceptors}
+use Rattle.model_protocol.specs.declared.Batch.{Batch}
+use Rattle.model_protocol.specs.declared.Cell.{Cell}
+use Rattle.model_protocol.specs.declared.Change.{Change}
+use Rattle.model_protocol.specs.declared.Coordinator.{Coordinator}
+use Rattle.model_protocol.specs.declared.Down.{Down}
+use Rattle.model_protocol.specs.declared.Kind.{Kind}
+use Rattle.model_protocol.specs.declared.Kind.the-variants as kind
+use Rattle.model_protocol.specs.declared.Message.{Message}
+use Rattle.model_protocol.specs.declared.Parts.{Parts}
+use Rattle.model_protocol.specs.declared.Places.{Places}
+use Rattle.model_protocol.specs.declared.Queue.{Queue}
+use Rattle.model_protocol.specs.declared.Round.{Round}
+use Rattle.model_protocol.specs.declared.World.{World}
+use Rattle.model_protocol.specs.Acceptor as acceptor
+use Rattle.model_protocol.specs.Acceptor.{accepting, promising}
+use Rattle.model_protocol.specs.Ballot.{majority, owner}
+use Rattle.model_protocol.specs.Coordinator.{batchToPropose, counting, hearing, isCurrent, isHeard, learning, promiseHeard, proposing, withQueue, withRound}
+use Rattle.model_protocol.specs.Change.{coordinatorNow, done}
+use Rattle.model_protocol.specs.Deliver.{handed, noPlaceFor}
+use Rattle.model_protocol.specs.Limits.{cellPlaces, processPlaces}
+use Rattle.model_protocol.specs.Message.{acceptTo, acceptedFrom, prepareTo, promiseFrom, requestTo, restoreTo, tellTo}
+use Rattle.model_protocol.specs.Places.{deliveryPlaces, placesOf}
+use Rattle.model_protocol.specs.Process.{hearingOutcome, taking}
+use Rattle.model_protocol.specs.Queue.{isFull, isIn, joined, joining, queued}
+use Rattle.model_protocol.specs.Send.{lacksNumbers}
+use Rattle.model_protocol.specs.Step.{acceptorsCounted, cannotOpen, cannotPropose, changed, changeOf, heldStore, messageFor, messageIn, partsAt, partsOf, placesIn, stepChecks, stepOf, stepRefusal, unbelieved}
+use Rattle.model_protocol.specs.World.{cellOf, coordinatorOf, crashed, logOf, messageOf, newRound, processOf, withMessage}
+use Rattle.model_agreement.specs.Bounds.{InRange}
+use Rattle.model_agreement.specs.Content.{Content, accept, accepted, contentAs, paxos, prepare, promise, request, restore, tell}
+use Rattle.model_agreement.specs.History.{Event, asked, delivered, note, noted, opened, restoring, setup}
+use Rattle.model_agreement.proofs.Tests.{Passed, Positive, both, is-false, is-true, neither, neqb→ne, none-of-five, none-of-three, not-first, not-not, not-second, passed}
+use Rattle.model_agreement.proofs.With.{accepts-sent, acceptors-changed, cell-answers, cellAt, coordinator-changed, coordinator-learns, down-changed, nothing, only-sends, prepares-sent, process-changed, withAcceptors, withCell, withCoordinator, withDown, withLearned, withProcess}
+use Rattle.model_agreement.proofs.Wire.{AllNew, At, OneNew, Posts, at-new, posted, posts-all, posts-one, send-posts}
+
+-- the accepted pair that a round keeps after a promise with the pair (d, v)
+pub data Higher (r : Round) (d : ℕ) (v : Batch) : ℕ → Batch → Type 0 where
+  theirs : r .held < d → Higher r d v d v
+  ours : d ≤ r .held → Higher r d v (r .held) (r .batch)
+
+-- a step after setup that was answered 0
+pub data Move (w : World) (h : List Event) : World → List Event → Type 0 where
+  asks : (e : Entry) (k : ℕ) (ms : List Message) (c : ℕ) → k < coordinators
+      → Posts (w .messages) (w .sent) ms c (OneNew (w .sent) (request k e))
+      → Move w h (posted w ms c) (asked e ∷ h)
+  opens : (k i b : ℕ) (ms : List Message) (c : ℕ) → k < coordinators → i < instances → b ≤ ballots
+      → i ≡ coordinatorOf w k .applied
+      → owner b ≡ k
+      → coordinatorOf w k .round .ballot < b
+      → Posts (w .messages) (w .sent) ms c (AllNew (w .acceptors) (λ a. paxos (prepare i b a)))
+      → Move w h (posted (withCoordinator w k (withRound (coordinatorOf w k) (newRound b))) ms c) (opened k i b ∷ h)
+  proposes : (k i b : ℕ) (v : Batch) (ms : List Message) (c : ℕ) → k < coordinators
+      → i ≡ coordinatorOf w k .applied
+      → b ≡ coordinatorOf w k .round .ballot
+      → 0 < b
+      → coordinatorOf w k .round .proposed ≡ false
+      → T (majority (w .acceptors) (coordinatorOf w k .round .promises))
+      → T (not (eqb (coordinatorOf w k .round .held) 0 && eqb (coordinatorOf w k .queue .count) 0))
+      → v ≡ batchToPropose (coordinatorOf w k)
+      → Posts (w .messages) (w .sent) ms c (AllNew (w .acceptors) (λ a. paxos (accept i b a v)))
+      → Move w h (posted (withCoordinator w k (withRound (coordinatorOf w k) (proposing (coordinatorOf w k .round) v))) ms c) h
+  tells : (k p tx : ℕ) (ms : List Message) (c : ℕ) → p ≤ processes → tx < transactions
+      → T (not (isOpen (outcomeOf (logOf w k) tx)))
+      → Posts (w .messages) (w .sent) ms c (OneNew (w .sent) (tell p tx (outcomeOf (logOf w k) tx)))
+      → Move w h (posted w ms c) h
+  restores : (k p : ℕ) (ms : List Message) (c : ℕ) → 0 < p → p ≤ processes
+      → heldStore (logOf w k) p < stores
+      → Posts (w .messages) (w .sent) ms c
+      (OneNew (w .sent)
+      (restore p (heldStore (logOf w k) p) (coordinatorOf w k .applied)
+      (replayOf (logOf w k) (heldStore (logOf w k) p))))
+      → Move w h (posted w ms c) (restoring k (w .sent) ∷ h)
+  crashes : (d : Down) → Move w h (withDown w d) h
+  -- a message is delivered to an acceptor
+  promises : (j i b a : ℕ) (ms : List Message) (c : ℕ) → At (w .messages) (w .sent) j (paxos (prepare i b a))
+      → cellOf w a i .promised < b
+      → Posts (w .messages) (w .sent) ms c
+      (OneNew (w .sent) (paxos (promise i b a (cellOf w a i .ballot) (cellOf w a i .batch))))
+      → Move w h (posted (withCell w a i (promising (cellOf w a i) b)) ms c) (delivered j (paxos (prepare i b a)) ∷ h)
+  passes-prepare : (j i b a : ℕ) → At (w .messages) (w .sent) j (paxos (prepare i b a))
+      → b ≤ cellOf w a i .promised
+      → Move w h w (delivered j (paxos (prepare i b a)) ∷ h)
+  votes : (j i b a : ℕ) (v : Batch) (ms : List Message) (c : ℕ) → At (w .messages) (w .sent) j (paxos (accept i b a v))
+      → cellOf w a i .promised ≤ b
+      → Posts (w .messages) (w .sent) ms c (OneNew (w .sent) (paxos (accepted i b a)))
+      → At ms c (w .sent) (paxos (accepted i b a))
+      → Move w h (posted (withCell w a i (accepting b v)) ms c) (delivered j (paxos (accept i b a v)) ∷ h)
+  passes-accept : (j i b a : ℕ) (v : Batch) → At (w .messages) (w .sent) j (paxos (accept i b a v))
+      → b < cellOf w a i .promised
+      → Move w h w (delivered j (paxos (accept i b a v)) ∷ h)
+  -- to a coordinator
+  hears : (j i b a d : ℕ) (v : Batch) (d′ : ℕ) (v′ : Batch) → At (w .messages) (w .sent) j (paxos (promise i b a d v))
+      → i ≡ coordinatorOf w (owner b) .applied
+      → b ≡ coordinatorOf w (owner b) .round .ballot
+      → Higher (coordinatorOf w (owner b) .round) d v d′ v′
+      → Move w h
+      (withCoordinator w (owner b) (withRound (coordinatorOf w (owner b)) (hearing (coordinatorOf w (owner b) .round) a d′ v′)))
+      (delivered j (paxos (promise i b a d v)) ∷ h)
+  passes-promise : (j i b a d : ℕ) (v : Batch) → At (w .messages) (w .sent) j (paxos (promise i b a d v))
+      → Move w h w (delivered j (paxos (promise i b a d v)) ∷ h)
+  counts : (j i b a : ℕ) → At (w .messages) (w .sent) j (paxos (accepted i b a))
+      → i ≡ coordinatorOf w (owner b) .applied
+      → b ≡ coordinatorOf w (owner b) .round .ballot
+      → T (not (majority (w .acceptors) (counting (coordinatorOf w (owner b) .round) a .acceptances)))
+      → Move w h
+      (withCoordinator w (owner b) (withRound (coordinatorOf w (owner b)) (counting (coordinatorOf w (owner b) .round) a)))
+      (delivered j (paxos (accepted i b a)) ∷ h)
+  learns : (j i b a : ℕ) → At (w .messages) (w .sent) j (paxos (accepted i b a))
+      → i ≡ coordinatorOf w (owner b) .applied
+      → b ≡ coordinatorOf w (owner b) .round .ballot
+      → T (majority (w .acceptors) (counting (coordinatorOf w (owner b) .round) a .acceptances))
+      → Move w h (withLearned w (owner b) (learning (coordinatorOf w (owner b))) (coordinatorOf w (owner b) .round .proposal))
+      (delivered j (paxos (accepted i b a)) ∷ h)
+  passes-accepted : (j i b a : ℕ) → At (w .messages) (w .sent) j (paxos (accepted i b a))
+      → (a < mostAcceptors → i ≡ coordinatorOf w (owner b) .applied → b ≡ coordinatorOf w (owner b) .round .ballot → ⊥)
+      → Move w h w (delivered j (paxos (accepted i b a)) ∷ h)
+  joins : (j k : ℕ) (e : Entry) → At (w .messages) (w .sent) j (request k e)
+      → T (not (isFull (coordinatorOf w k .queue)))
+      → Move w h
+      (withCoordinator w k (withQueue (coordinatorOf w k) (joined (coordinatorOf w k .queue) e)))
+      (delivered j (request k e) ∷ h)
+  passes-request : (j k : ℕ) (e : Entry) → At (w .messages) (w .sent) j (request k e) → Move w h w (delivered j (request k e) ∷ h)
+  -- to a process
+  is-told : (j p tx : ℕ) (o : Outcome) → At (w .messages) (w .sent) j (tell p tx o)
+      → Move w h (withProcess w p (hearingOutcome (processOf w p) tx o)) (delivered j (tell p tx o) ∷ h)
+  takes : (j p s i : ℕ) (r : Replay) → At (w .messages) (w .sent) j (restore p s i r)
+      → T (ltb (processOf w p .position) i)
+      → Move w h (withProcess w p (taking (processOf w p) s i r)) (delivered j (restore p s i r) ∷ h)
+  passes-restore : (j p s i : ℕ) (r : Replay) → At (w .messages) (w .sent) j (restore p s i r)
+      → T (not (ltb (processOf w p .position) i))
+      → Move w h w (delivered j (restore p s i r) ∷ h)
+
+pub data Trans (w : World) (h : List Event) : World → List Event → Type 0 where
+  refused : Trans w h w h
+  sets-up : (n : ℕ) → w .acceptors ≡ 0 → (n ≡ 3) ⊎ (n ≡ 5) → Trans w h (withAcceptors w n) (setup n ∷ h)
+  moves : {w′ : World} {h′ : List Event} → 0 < w .acceptors → Move w h w′ h′ → Trans w h w′ h′
+
+-- ---- deliveries
+
+-- at coordinator k, at process k
+abbrev coordinatorAt : ℕ → Places
+coordinatorAt k = record { coordinator = k; cell = 0; process = 0 }
+
+abbrev processAt : ℕ → Places
+processAt k = record { coordinator = 0; cell = 0; process = k }
+
+module _ (w : World) (h : List Event) (size : length (w .messages) ≡ messages) (few : w .acceptors ≤ mostAcceptors)
+    (range : (j : ℕ) (x : Content) → At (w .messages) (w .sent) j x → InRange (w .acceptors) x) where
+  -- a test chooses what is changed
+  move-by : {A : Type 0} (f : A → World) (t : Bool) {x y : A} {g : List Event}
+      → (T t → Move w h (f x) g)
+      → (T (not t) → Move w h (f y) g)
+      → Move w h (f (cond t x y)) g
+  move-by f true p q = p tt
+  move-by f false p q = q tt
+
+  -- the world is this one
+  to-world : {x y : World} {g : List Event} → x ≡ y → Move w h y g → Move w h x g
+  to-world {x} {y} {g} e m = subst (λ v. Move w h v g) (sym e) m
+
+  one-left : T (not (lacksNumbers (w .sent) 1)) → w .sent < messages
+  one-left t = omega (arith, nltb→le (messages - w .sent) 1 t)
+
+  -- the message m of number j, handed on at these places
+  abbrev Handled : ℕ → Message → Kind → Places → Type 0
+  Handled j m κ at =
+      T (not (noPlaceFor (partsAt w at m) κ)) → Move w h (changed w at (handed (partsAt w at m) κ)) (delivered j (contentAs κ m) ∷ h)
+
+  module _ (j : ℕ) (m : Message) where
+    abbrev its-cell : Cell
+    its-cell = cellOf w (m .acceptor) (m .inst)
+
+    abbrev its-owner : Coordinator
+    its-owner = coordinatorOf w (owner (m .ballot))
+
+    t-prepare : At (w .messages) (w .sent) j (paxos (prepare (m .inst) (m .ballot) (m .acceptor))) → Handled j m kind.Prepare (cellAt (m .acceptor) (m .inst))
+    unfolding handed
+    t-prepare s t =
+        let i = m .inst in
+        let b = m .ballot in
+        let a = m .acceptor in
+        let x = its-cell in
+        move-by (λ (ch : Change). changed w (cellAt a i) ch) (ltb (x .promised) b)
+        (λ f. to-world (cell-answers w m a i (promising x b) (promiseFrom i b a (x .ballot) (x .batch)))
+        (promises j i b a _ _ s (ltb→lt (x .promised) b f)
+        (posts-one (w .messages) (w .sent) (promiseFrom i b a (x .ballot) (x .batch)) size
+        (one-left (not-second (acceptor.promises x b) (lacksNumbers (w .sent) 1) t f)))))
+        (λ f. to-world (nothing w (cellAt a i) m) (passes-prepare j i b a s (nltb→le (x .promised) b f)))
+
+    t-accept : At (w .messages) (w .sent) j (paxos (accept (m .inst) (m .ballot) (m .acceptor) (m .batch))) → Handled j m kind.Accept (cellAt (m .acceptor) (m .inst))
+    unfolding handed
+    t-accept s t =
+        let i = m .inst in
+        let b = m .ballot in
+        let a = m .acceptor in
+        let x = its-cell in
+        move-by (λ (ch : Change). changed w (cellAt a i) ch) (leb (x .promised) b)
+        (λ f. let g = one-left (not-second (acceptor.accepts x b) (lacksNumbers (w .sent) 1) t f) in
+        to-world (cell-answers w m a i (accepting b (m .batch)) (acceptedFrom i b a))
+        (votes j i b a (m .batch) _ _ s (leb→le (x .promised) b f)
+        (posts-one (w .messages) (w .sent) (acceptedFrom i b a) size g)
+        (at-new (w .messages) (w .sent) (acceptedFrom i b a) (rw size g))))
+        (λ f. to-world (nothing w (cellAt a i) m) (passes-accept j i b a (m .batch) s (nleb→lt (x .promised) b f)))
+
+    t-promise : At (w .messages) (w .sent) j (paxos (promise (m .inst) (m .ballot) (m .acceptor) (m .held) (m .batch))) → Handled j m kind.Promise (coordinatorAt (owner (m .ballot)))
+    unfolding handed promiseHeard
+    t-promise s _ =
+        let i = m .inst in
+        let b = m .ballot in
+        let a = m .acceptor in
+        let c = its-owner in
+        let d = m .held in
+        let v = m .batch in
+        let at = coordinatorAt (owner b) in
+        move-by (λ (ch : Change). changed w at ch) (isHeard c i b a)
+        (λ f. let g = both (eqb i (c .applied)) (eqb b (c .round .ballot)) (both (isCurrent c i b) (ltb a mostAcceptors) f .0) in
+        let e = eqb→eq i (c .applied) (g .0) in
+        let e′ = eqb→eq b (c .round .ballot) (g .1) in
+        to-world (coordinator-changed w at m (withRound c (promiseHeard (c .round) a d v)))
+        (move-by (λ (r : Round). withCoordinator w (owner b) (withRound c r)) (ltb (c .round .held) d)
+        (λ l. hears j i b a d v _ _ s e e′ (theirs (ltb→lt (c .round .held) d l)))
+        (λ l. hears j i b a d v _ _ s e e′ (ours (nltb→le (c .round .held) d l)))))
+        (λ f. to-world (nothing w at m) (passes-promise j i b a d v s))
+
+    t-accepted : At (w .messages) (w .sent) j (paxos (accepted (m .inst) (m .ballot) (m .acceptor))) → Handled j m kind.Accepted (coordinatorAt (owner (m .ballot)))
+    unfolding handed
+    t-accepted s _ =
+        let i = m .inst in
+        let b = m .ballot in
+        let a = m .acceptor in
+        let c = its-owner in
+        let r = counting (c .round) a in
+        let at = coordinatorAt (owner b) in
+        move-by (λ (ch : Change). changed w at ch) (isHeard c i b a)
+        (λ f. let g = both (eqb i (c .applied)) (eqb b (c .round .ballot)) (both (isCurrent c i b) (ltb a mostAcceptors) f .0) in
+        let e = eqb→eq i (c .applied) (g .0) in
+        let e′ = eqb→eq b (c .round .ballot) (g .1) in
+        move-by (λ (ch : Change). changed w at ch) (majority (w .acceptors) (r .acceptances))
+        (λ q. to-world (coordinator-learns w at m (learning c) (c .round .proposal)) (learns j i b a s e e′ q))
+        (λ q. to-world (coordinator-changed w at m (withRound c r)) (counts j i b a s e e′ q)))
+        (λ f. to-world (nothing w at m) (passes-accepted j i b a s (λ l d e. T-not (isHeard c i b a) f (current l d e))))
+      where
+        a : ℕ
+        a = m .acceptor
+
+        current : a < mostAcceptors → m .inst ≡ its-owner .applied → m .ballot ≡ its-owner .round .ballot → T (isHeard its-owner (m .inst) (m .ballot) a)
+        current l d e = rw (← d, ← e) (go (m .inst) (m .ballot))
+          where
+            go : (i b : ℕ) → T (eqb i i && eqb b b && ltb a mostAcceptors)
+            go i b = rw (is-true (eqb i i) (eqb-refl i), is-true (eqb b b) (eqb-refl b)) (lt→ltb a mostAcceptors l)
+
+    -- an equal entry is there, or there is a place
+    queue-by : (here full : Bool) → T (not (full && not here)) → T (not (here || full)) → T (not full)
+    queue-by true full t u = absurd u
+    queue-by false full t u = u
+
+    t-request : At (w .messages) (w .sent) j (request (m .to) (m .entry)) → Handled j m kind.Request (coordinatorAt (m .to))
+    unfolding handed joining
+    t-request s t =
+        let k = coordinatorOf w (m .to) in
+        let at = coordinatorAt (m .to) in
+        let here = isIn (m .entry) (queued (k .queue)) in
+        move-by (λ (q : Queue). changed w at (done (coordinatorNow (partsAt w at m) (withQueue k q)))) (here || isFull (k .queue))
+        (λ _. to-world (nothing w at m) (passes-request j (m .to) (m .entry) s))
+        (λ f. to-world (coordinator-changed w at m (withQueue k (joined (k .queue) (m .entry))))
+        (joins j (m .to) (m .entry) s (queue-by here (isFull (k .queue)) t f)))
+
+    t-told : At (w .messages) (w .sent) j (tell (m .to) (m .tx) (m .outcome)) → Handled j m kind.Tell (processAt (m .to))
+    unfolding handed
+    t-told s _ =
+        to-world (process-changed w (processAt (m .to)) m (hearingOutcome (processOf w (m .to)) (m .tx) (m .outcome)))
+        (is-told j (m .to) (m .tx) (m .outcome) s)
+
+    t-taken : At (w .messages) (w .sent) j (restore (m .to) (m .store) (m .position) (m .replay)) → Handled j m kind.Restore (processAt (m .to))
+    unfolding handed
+    t-taken s _ =
+        let at = processAt (m .to) in
+        let q = processOf w (m .to) in
+        move-by (λ (ch : Change). changed w at ch) (ltb (q .position) (m .position))
+        (λ f. to-world (process-changed w at m (taking q (m .store) (m .position) (m .replay)))
+        (takes j (m .to) (m .store) (m .position) (m .replay) s f))
+        (λ f. to-world (nothing w at m) (passes-restore j (m .to) (m .store) (m .position) (m .replay) s f))
+
+    -- no number of a message that was sent lies beyond the places
+    own-place : owner (m .ballot) % coordinators ≡ owner (m .ballot)
+    own-place = mod-eq-of-lt (mod-lt (m .ballot) (omega arith))
+
+    cell-place : m .acceptor < w .acceptors → m .inst < instances
+        → (m .acceptor * instances + m .inst) % cellPlaces ≡ m .acceptor * instances + m .inst
+    cell-place l g = mod-eq-of-lt (omega arith)
+
+    t-deliver : (κ : Kind) → At (w .messages) (w .sent) j (contentAs κ m) → Handled j m κ (deliveryPlaces m κ)
+    t-deliver kind.Request s = rw (mod-eq-of-lt (range j _ s)) (t-request s)
+    t-deliver kind.Prepare s = rw (cell-place (range j _ s .acceptor) (range j _ s .inst)) (t-prepare s)
+    t-deliver kind.Accept s = rw (cell-place (range j _ s .acceptor) (range j _ s .inst)) (t-accept s)
+    t-deliver kind.Promise s = rw own-place (t-promise s)
+    t-deliver kind.Accepted s = rw own-place (t-accepted s)
+    t-deliver kind.Tell s = let l = range j _ s .0 in let e : m .to % processPlaces ≡ m .to = mod-eq-of-lt (omega arith) in rw e (t-told s)
+    t-deliver kind.Restore s = let l = range j _ s .1 in let e : m .to % processPlaces ≡ m .to = mod-eq-of-lt (omega arith) in rw e (t-taken s)
+
+  -- ---- steps
+
+  abbrev Accepted : Parts → Step → Type 0
+  Accepted p s = Passed (check outsideLimits (outsideStep (acceptorsCounted (p .acceptors)) s) ∷ stepChecks p s)
+
+  live : T (not (eqb (w .acceptors) 0)) → 0 < w .acceptors
+  live t = omega (arith, neqb→ne (w .acceptors) 0 t)
+
+  -- a step that is not refused, at these places
+  abbrev Taken : Step → Places → Message → Type 0
+  Taken s at d = Accepted (partsAt w at d) s → Trans w h (changed w at (changeOf (partsAt w at d) s)) (note w s h)
+
+  to-trans : {x y : World} {g : List Event} → x ≡ y → Trans w h y g → Trans w h x g
+  to-trans {x} {y} {g} e m = subst (λ v. Trans w h v g) (sym e) m
+
+  module _ (d : Message) where
+    t-setup : (n : ℕ) (at : Places) → Taken (Setup n) at d
+    unfolding changeOf stepChecks outsideStep
+    t-setup n at p =
+        to-trans (acceptors-changed w at d n)
+        (sets-up n
+        (eqb→eq (w .acceptors) 0 (not-not (eqb (w .acceptors) 0) (p .1 .0)))
+        (one (eqb n 3) (eqb n 5) (eqb→eq n 3) (eqb→eq n 5) (not-not (eqb n 3 || eqb n 5) (p .0))))
+      where
+        one : (a b : Bool) → (T a → n ≡ 3) → (T b → n ≡ 5) → T (a || b) → (n ≡ 3) ⊎ (n ≡ 5)
+        one true b f g t = inl (f tt)
+        one false b f g t = inr (g t)
+
+    t-ask : (e : Entry) (k : ℕ) (at : Places) → Taken (Request e k) at d
+    unfolding changeOf stepChecks outsideStep
+    t-ask e k at p =
+        to-trans (only-sends w at d (requestTo k e))
+        (moves (live (neither (eqb (w .acceptors) 0) (unbelieved e (processOf w (at .process))) (p .1 .1 .0) .0))
+        (asks e k _ _ (nleb→lt coordinators k (neither (outside e) (noCoordinator k) (p .0) .1))
+        (posts-one (w .messages) (w .sent) (requestTo k e) size (one-left (p .1 .1 .1 .0)))))
+
+    t-open : (k i b : ℕ) → Taken (Open k i b) (coordinatorAt k) d
+    unfolding changeOf stepChecks outsideStep
+    t-open k i b p =
+        let c = coordinatorOf w k in
+        let l = none-of-three (noCoordinator k) (leb instances i) (noBallot b) (p .0) in
+        let m = neither (eqb (w .acceptors) 0) (cannotOpen c k i b) (p .1 .1 .0) in
+        let q = none-of-three (not (eqb i (c .applied))) (not (eqb (owner b) k)) (leb b (c .round .ballot)) (m .1) in
+        let n = live (m .0) in
+        let r = nltb→le (messages - w .sent) (w .acceptors) (p .1 .1 .1 .0) in
+        let new = withRound c (newRound b) in
+        to-trans (prepares-sent w (coordinatorAt k) d new (w .acceptors) i b ∙ send-posts (withCoordinator w k new) (w .acceptors) (prepareTo i b))
+        (moves n
+        (opens k i b _ _
+        (nleb→lt coordinators k (l .0))
+        (nleb→lt instances i (l .1))
+        (nltb→le ballots b (neither (eqb b 0) (ltb ballots b) (l .2) .1))
+        (eqb→eq i (c .applied) (not-not (eqb i (c .applied)) (q .0)))
+        (eqb→eq (owner b) k (not-not (eqb (owner b) k) (q .1)))
+        (nleb→lt b (c .round .ballot) (q .2))
+        (posts-all (w .messages) (w .sent) (w .acceptors) (prepareTo i b) size (omega arith))))
+
+    t-propose : (k i b : ℕ) → Taken (Propose k i b) (coordinatorAt k) d
+    unfolding changeOf stepChecks outsideStep
+    t-propose k i b p =
+        let c = coordinatorOf w k in
+        let v = batchToPropose c in
+        let l = none-of-three (noCoordinator k) (leb instances i) (noBallot b) (p .0) in
+        let m = neither (eqb (w .acceptors) 0) (cannotPropose (w .acceptors) c i b) (p .1 .1 .0) in
+        let q =
+        none-of-five
+        (not (eqb i (c .applied)))
+        (not (eqb b (c .round .ballot)))
+        (not (majority (w .acceptors) (c .round .promises)))
+        (c .round .proposed)
+        (eqb (c .round .held) 0 && eqb (c .queue .count) 0)
+        (m .1) in
+        let n = live (m .0) in
+        let r = nltb→le (messages - w .sent) (w .acceptors) (p .1 .1 .1 .0) in
+        let z = neqb→ne b 0 (neither (eqb b 0) (ltb ballots b) (l .2) .0) in
+        let new = withRound c (proposing (c .round) v) in
+        to-trans (accepts-sent w (coordinatorAt k) d new (w .acceptors) i b v ∙ send-posts (withCoordinator w k new) (w .acceptors) (acceptTo i b v))
+        (moves n
+        (proposes k i b v _ _ (nleb→lt coordinators k (l .0))
+        (eqb→eq i (c .applied) (not-not (eqb i (c .applied)) (q .0)))
+        (eqb→eq b (c .round .ballot) (not-not (eqb b (c .round .ballot)) (q .1)))
+        (omega arith)
+        (is-false (c .round .proposed) (q .3))
+        (not-not (majority (w .acceptors) (c .round .promises)) (q .2))
+        (q .4)
+        refl
+        (posts-all (w .messages) (w .sent) (w .acceptors) (acceptTo i b v) size (omega arith))))
+
+    t-crash : (role : Role) (id : ℕ) (at : Places) → Taken (Crash role id) at d
+    unfolding changeOf stepChecks
+    t-crash role id at p = to-trans (down-changed w at d (crashed (w .down) role id)) (moves (live (p .1 .1 .0)) (crashes _))
+
+  process-in : (p : ℕ) → T (not (noProcess p)) → (0 < p) × (p ≤ processes)
+  process-in p t = let q = neither (eqb p 0) (ltb processes p) t in let z = neqb→ne p 0 (q .0) in (omega arith, nltb→le processes p (q .1))
+
+  -- what a tell sends, and a restore, by the log of coordinator k
+  abbrev tellBy : ℕ → ℕ → ℕ → Message
+  tellBy p tx k = tellTo p tx (outcomeOf (logOf w k) tx)
+
+  abbrev restoreBy : ℕ → ℕ → Message
+  restoreBy p k = restoreTo p (heldStore (logOf w k) p) (coordinatorOf w k .applied) (replayOf (logOf w k) (heldStore (logOf w k) p))
+
+  t-tell : (k p tx : ℕ) → Taken (Tell k p tx) (coordinatorAt k) (tellBy p tx k)
+  unfolding changeOf stepChecks outsideStep
+  t-tell k p tx q =
+      let l = none-of-three (noCoordinator k) (noProcess p) (leb transactions tx) (q .0) in
+      let m = neither (eqb (w .acceptors) 0) (isOpen (outcomeOf (logOf w k) tx)) (q .1 .1 .0) in
+      to-trans (only-sends w (coordinatorAt k) (tellBy p tx k) (tellBy p tx k))
+      (moves (live (m .0))
+      (tells k p tx _ _ (process-in p (l .1) .1) (nleb→lt transactions tx (l .2)) (m .1)
+      (posts-one (w .messages) (w .sent) (tellBy p tx k) size (one-left (q .1 .1 .1 .0)))))
+
+  t-restore : (k p : ℕ) → Taken (Restore k p) (coordinatorAt k) (restoreBy p k)
+  unfolding changeOf stepChecks outsideStep
+  t-restore k p q =
+      let l = neither (noCoordinator k) (noProcess p) (q .0) in
+      let m = neither (eqb (w .acceptors) 0) (leb stores (heldStore (logOf w k) p)) (q .1 .1 .0) in
+      to-trans (only-sends w (coordinatorAt k) (restoreBy p k) (restoreBy p k))
+      (moves (live (m .0))
+      (restores k p _ _ (process-in p (l .1) .0) (process-in p (l .1) .1) (nleb→lt stores (heldStore (logOf w k) p) (m .1))
+      (posts-one (w .messages) (w .sent) (restoreBy p k) size (one-left (q .1 .1 .1 .0)))))
+
+  -- a step within its limits finds its coordinator
+  at-its-place : (k : ℕ) (s : Step) (d : ℕ → Message) → T (not (noCoordinator k)) → Taken s (coordinatorAt k) (d k)
+      → Taken s (coordinatorAt (k % coordinators)) (d (k % coordinators))
+  at-its-place k s d l f = rw (mod-eq-of-lt (nleb→lt coordinators k l)) f
+
+  t-deliver-step : (j : ℕ) → Taken (Deliver j) (deliveryPlaces (messageOf w j) (messageOf w j .kind)) (messageOf w j)
+  unfolding changeOf stepChecks
+  t-deliver-step j p =
+      moves (live (p .1 .1 .1 .0))
+      (t-deliver j (messageOf w j) (messageOf w j .kind) (record { below = nleb→lt (w .sent) j (p .1 .0); is = refl }) (p .1 .1 .1 .1 .0))
+
+  t-step : (s : Step) → Taken s (placesIn w s) (messageIn w s)
+  unfolding placesOf messageFor outsideStep
+  t-step (Setup n) p = t-setup _ n _ p
+  t-step (Request e k) p = t-ask _ e k _ p
+  t-step (Open k i b) p =
+      at-its-place k (Open k i b) (λ _. messageOf w 0) (none-of-three (noCoordinator k) (leb instances i) (noBallot b) (p .0) .0) (t-open _ k i b) p
+  t-step (Propose k i b) p =
+      at-its-place k (Propose k i b) (λ _. messageOf w 0) (none-of-three (noCoordinator k) (leb instances i) (noBallot b) (p .0) .0) (t-propose _ k i b) p
+  t-step (Deliver j) p =
+      let e : j % messages ≡ j = mod-eq-of-lt (nleb→lt messages j (p .0)) in
+      subst (λ i. Taken (Deliver j) (placesOf (Deliver j) (messageOf w i)) (messageOf w i)) (sym e) (t-deliver-step j) p
+  t-step (Tell k p tx) q =
+      at-its-place k (Tell k p tx) (tellBy p tx) (none-of-three (noCoordinator k) (noProcess p) (leb transactions tx) (q .0) .0) (t-tell k p tx) q
+  t-step (Restore k p) q = at-its-place k (Restore k p) (restoreBy p) (neither (noCoordinator k) (noProcess p) (q .0) .0) (t-restore k p) q
+  t-step (Crash role id) p = t-crash _ role id _ p
+
+  positive : (p : Parts) (s : Step) → Positive (check outsideLimits (outsideStep (acceptorsCounted (p .acceptors)) s) ∷ stepChecks p s)
+  unfolding stepChecks
+  positive p (Setup n) = (tt, (tt, tt))
+  positive p (Request e k) = (tt, (tt, (tt, (tt, (tt, tt)))))
+  positive p (Open k i b) = (tt, (tt, (tt, (tt, tt))))
+  positive p (Propose k i b) = (tt, (tt, (tt, (tt, tt))))
+  positive p (Deliver j) = (tt, (tt, (tt, (tt, (tt, tt)))))
+  positive p (Tell k q tx) = (tt, (tt, (tt, (tt, tt))))
+  positive p (Restore k q) = (tt, (tt, (tt, (tt, tt))))
+  positive p (Crash role id) = (tt, (tt, (tt, tt)))
+
+  pub trans : (s : Step) → Trans w h (stepOf w s .world) (noted w s h)
+  unfolding stepOf noted stepRefusal
+  trans s = go (eqb (stepRefusal p s) 0) refl
+    where
+      p : Parts
+      p = partsOf w s
+
+      go : (t : Bool) → eqb (stepRefusal p s) 0 ≡ t → Trans w h (stepOf w s .world) (noted w s h)
+      go true e =
+          rw e (t-step s (passed (check outsideLimits (outsideStep (acceptorsCounted (p .acceptors)) s) ∷ stepChecks p s) (positive p s) (subst T (sym e) tt)))
+      go false e = rw (e, e) refused

@@ -1,0 +1,203 @@
+-- The world with one part changed, and that what a step changes is that.
+use Prim.Native.Nat.{ℕ, suc, _+_, _*_}
+use mathlib.Core.Path.{_≡_, ap, refl, _∙_}
+use lib.ListN.{set}
+use Rattle.log_core.specs.Enter.{feed}
+use Rattle.model_steps.specs.Limits.{instances}
+use Rattle.model_protocol.specs.declared.Batch.{Batch}
+use Rattle.model_protocol.specs.declared.Cell.{Cell}
+use Rattle.model_protocol.specs.declared.Coordinator.{Coordinator}
+use Rattle.model_protocol.specs.declared.Down.{Down}
+use Rattle.model_protocol.specs.declared.Message.{Message}
+use Rattle.model_protocol.specs.declared.Places.{Places}
+use Rattle.model_protocol.specs.declared.Process.{Process}
+use Rattle.model_protocol.specs.declared.World.{World}
+use Rattle.model_protocol.specs.Batch.{entriesOf, noBatch}
+use Rattle.model_protocol.specs.Change.{acceptorsNow, cellNow, coordinatorNow, done, downNow, learns, processNow, sending}
+use Rattle.model_protocol.specs.Message.{acceptTo, prepareTo}
+use Rattle.model_protocol.specs.Send.{copyOf, sendToAll}
+use Rattle.model_protocol.specs.Step.{changed, partsAt, putBack}
+use Rattle.model_protocol.specs.World.{logOf, withMessage}
+use Rattle.model_protocol.proofs.PutBack.{all-back, none-sent, nothing-changed, same-cells, same-coordinators, same-logs, same-processes}
+
+abbrev pub withAcceptors : World → ℕ → World
+withAcceptors w n = record {
+  acceptors = n;
+  cells = w .cells;
+  coordinators = w .coordinators;
+  logs = w .logs;
+  processes = w .processes;
+  down = w .down;
+  messages = w .messages;
+  sent = w .sent;
+}
+
+abbrev pub withCell : World → ℕ → ℕ → Cell → World
+withCell w a i x = record {
+  acceptors = w .acceptors;
+  cells = set (w .cells) (a * instances + i) x;
+  coordinators = w .coordinators;
+  logs = w .logs;
+  processes = w .processes;
+  down = w .down;
+  messages = w .messages;
+  sent = w .sent;
+}
+
+abbrev pub withCoordinator : World → ℕ → Coordinator → World
+withCoordinator w c x = record {
+  acceptors = w .acceptors;
+  cells = w .cells;
+  coordinators = set (w .coordinators) c x;
+  logs = w .logs;
+  processes = w .processes;
+  down = w .down;
+  messages = w .messages;
+  sent = w .sent;
+}
+
+abbrev pub withProcess : World → ℕ → Process → World
+withProcess w p x = record {
+  acceptors = w .acceptors;
+  cells = w .cells;
+  coordinators = w .coordinators;
+  logs = w .logs;
+  processes = set (w .processes) p x;
+  down = w .down;
+  messages = w .messages;
+  sent = w .sent;
+}
+
+abbrev pub withDown : World → Down → World
+withDown w d = record {
+  acceptors = w .acceptors;
+  cells = w .cells;
+  coordinators = w .coordinators;
+  logs = w .logs;
+  processes = w .processes;
+  down = d;
+  messages = w .messages;
+  sent = w .sent;
+}
+
+-- coordinator c learned the batch
+abbrev pub withLearned : World → ℕ → Coordinator → Batch → World
+withLearned w c x b = record {
+  acceptors = w .acceptors;
+  cells = w .cells;
+  coordinators = set (w .coordinators) c x;
+  logs = set (w .logs) c (feed (logOf w c) (entriesOf b));
+  processes = w .processes;
+  down = w .down;
+  messages = w .messages;
+  sent = w .sent;
+}
+
+-- ---- the messages sent
+
+one-sent : (w : World) (m : Message) → sendToAll w 1 (copyOf m) ≡ withMessage w m
+unfolding sendToAll copyOf
+one-sent w m = refl
+
+same-sent : (w : World) (f g : ℕ → Message) → ((i : ℕ) → f i ≡ g i) → (n : ℕ) → sendToAll w n f ≡ sendToAll w n g
+unfolding sendToAll
+same-sent w f g same ℕ.zero = refl
+same-sent w f g same (suc n) =
+    ap (λ (v : World). withMessage v (f n)) (same-sent w f g same n)
+    ∙ ap (λ (m : Message). withMessage (sendToAll w n g) m) (same n)
+
+prepare-copy : (i b k : ℕ) → copyOf (prepareTo i b 0) k ≡ prepareTo i b k
+unfolding copyOf
+prepare-copy i b ℕ.zero = refl
+prepare-copy i b (suc k) = refl
+
+accept-copy : (i b : ℕ) (v : Batch) (k : ℕ) → copyOf (acceptTo i b v 0) k ≡ acceptTo i b v k
+unfolding copyOf
+accept-copy i b v ℕ.zero = refl
+accept-copy i b v (suc k) = refl
+
+-- ---- what a step changes
+
+module _ (w : World) (at : Places) (d : Message) where
+  coordinator-back : (c : Coordinator) → putBack w at (coordinatorNow (partsAt w at d) c) noBatch ≡ withCoordinator w (at .coordinator) c
+  coordinator-back c = λ i. record {
+    acceptors = w .acceptors;
+    cells = same-cells w at i;
+    coordinators = set (w .coordinators) (at .coordinator) c;
+    logs = same-logs w at i;
+    processes = same-processes w at i;
+    down = w .down;
+    messages = w .messages;
+    sent = w .sent;
+  }
+
+  pub nothing : changed w at (done (partsAt w at d)) ≡ w
+  nothing = nothing-changed w at d 0
+
+  pub acceptors-changed : (n : ℕ) → changed w at (done (acceptorsNow (partsAt w at d) n)) ≡ withAcceptors w n
+  acceptors-changed n = none-sent _ _ ∙ ap (λ (v : World). withAcceptors v n) (all-back w at d)
+
+  pub down-changed : (x : Down) → changed w at (done (downNow (partsAt w at d) x)) ≡ withDown w x
+  down-changed x = none-sent _ _ ∙ ap (λ (v : World). withDown v x) (all-back w at d)
+
+  pub coordinator-changed : (c : Coordinator) → changed w at (done (coordinatorNow (partsAt w at d) c)) ≡ withCoordinator w (at .coordinator) c
+  coordinator-changed c = none-sent _ _ ∙ coordinator-back c
+
+  pub coordinator-learns : (c : Coordinator) (b : Batch)
+      → changed w at (learns (coordinatorNow (partsAt w at d) c) b) ≡ withLearned w (at .coordinator) c b
+  coordinator-learns c b = none-sent _ _ ∙ (λ i. record {
+    acceptors = w .acceptors;
+    cells = same-cells w at i;
+    coordinators = set (w .coordinators) (at .coordinator) c;
+    logs = set (w .logs) (at .coordinator) (feed (logOf w (at .coordinator)) (entriesOf b));
+    processes = same-processes w at i;
+    down = w .down;
+    messages = w .messages;
+    sent = w .sent;
+  })
+
+  pub process-changed : (h : Process) → changed w at (done (processNow (partsAt w at d) h)) ≡ withProcess w (at .process) h
+  process-changed h = none-sent _ _ ∙ (λ i. record {
+    acceptors = w .acceptors;
+    cells = same-cells w at i;
+    coordinators = same-coordinators w at i;
+    logs = same-logs w at i;
+    processes = set (w .processes) (at .process) h;
+    down = w .down;
+    messages = w .messages;
+    sent = w .sent;
+  })
+
+  pub only-sends : (m : Message) → changed w at (sending (partsAt w at d) 1 m) ≡ withMessage w m
+  only-sends m = one-sent _ m ∙ ap (λ (v : World). withMessage v m) (all-back w at d)
+
+  pub prepares-sent : (c : Coordinator) (n i b : ℕ)
+      → changed w at (sending (coordinatorNow (partsAt w at d) c) n (prepareTo i b 0))
+      ≡ sendToAll (withCoordinator w (at .coordinator) c) n (prepareTo i b)
+  prepares-sent c n i b =
+      same-sent _ (copyOf (prepareTo i b 0)) (prepareTo i b) (prepare-copy i b) n
+      ∙ ap (λ (v : World). sendToAll v n (prepareTo i b)) (coordinator-back c)
+
+  pub accepts-sent : (c : Coordinator) (n i b : ℕ) (v : Batch)
+      → changed w at (sending (coordinatorNow (partsAt w at d) c) n (acceptTo i b v 0))
+      ≡ sendToAll (withCoordinator w (at .coordinator) c) n (acceptTo i b v)
+  accepts-sent c n i b v =
+      same-sent _ (copyOf (acceptTo i b v 0)) (acceptTo i b v) (accept-copy i b v) n
+      ∙ ap (λ (u : World). sendToAll u n (acceptTo i b v)) (coordinator-back c)
+
+-- at acceptor a's cell of instance i
+abbrev pub cellAt : ℕ → ℕ → Places
+cellAt a i = record { coordinator = 0; cell = a * instances + i; process = 0 }
+
+pub cell-answers : (w : World) (d : Message) (a i : ℕ) (x : Cell) (m : Message)
+    → changed w (cellAt a i) (sending (cellNow (partsAt w (cellAt a i) d) x) 1 m) ≡ withMessage (withCell w a i x) m
+cell-answers w d a i x m = one-sent _ m ∙ (λ k. withMessage (record {
+  acceptors = w .acceptors;
+  cells = set (w .cells) (a * instances + i) x;
+  coordinators = same-coordinators w (cellAt a i) k;
+  logs = same-logs w (cellAt a i) k;
+  processes = same-processes w (cellAt a i) k;
+  down = w .down;
+  messages = w .messages;
+  sent = w .sent;
+}) m)

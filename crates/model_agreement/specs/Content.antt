@@ -1,0 +1,39 @@
+-- What a message says, by its kind.
+use Prim.Native.Nat.{ℕ}
+use Rattle.log_entry.specs.declared.Entry.{Entry}
+use Rattle.log_core.specs.declared.Outcome.{Outcome}
+use Rattle.log_core.specs.declared.Replay.{Replay}
+use Rattle.model_protocol.specs.declared.Batch.{Batch}
+use Rattle.model_protocol.specs.declared.Kind.{Kind}
+use Rattle.model_protocol.specs.declared.Kind.the-variants.{Request, Prepare, Accept, Promise, Accepted, Tell, Restore}
+use Rattle.model_protocol.specs.declared.Message.{Message}
+
+-- the messages of single-decree Paxos about values: each has an instance, a ballot and an acceptor
+pub data Paxos (Value : Type 0) : Type 0 where
+  prepare : ℕ → ℕ → ℕ → Paxos Value
+  -- with the acceptor's accepted pair: the ballot, 0 if none, and the value
+  promise : ℕ → ℕ → ℕ → ℕ → Value → Paxos Value
+  -- with the value proposed
+  accept : ℕ → ℕ → ℕ → Value → Paxos Value
+  accepted : ℕ → ℕ → ℕ → Paxos Value
+
+pub data Content : Type 0 where
+  paxos : Paxos Batch → Content
+  -- coordinator, entry
+  request : ℕ → Entry → Content
+  -- process, transaction, outcome
+  tell : ℕ → ℕ → Outcome → Content
+  -- process, store, position, replay
+  restore : ℕ → ℕ → ℕ → Replay → Content
+
+abbrev pub contentAs : Kind → Message → Content
+contentAs Request m = request (m .to) (m .entry)
+contentAs Prepare m = paxos (prepare (m .inst) (m .ballot) (m .acceptor))
+contentAs Accept m = paxos (accept (m .inst) (m .ballot) (m .acceptor) (m .batch))
+contentAs Promise m = paxos (promise (m .inst) (m .ballot) (m .acceptor) (m .held) (m .batch))
+contentAs Accepted m = paxos (accepted (m .inst) (m .ballot) (m .acceptor))
+contentAs Tell m = tell (m .to) (m .tx) (m .outcome)
+contentAs Restore m = restore (m .to) (m .store) (m .position) (m .replay)
+
+abbrev pub contentOf : Message → Content
+contentOf m = contentAs (m .kind) m

@@ -1,0 +1,28 @@
+-- Runs that compute: `unfolding computed` opens every definition that a step goes through.
+use mathlib.Core.List.{List}
+use lib.Count.{ones, onesIn}
+use Rattle.log_entry.specs.Entry.{illFormed, outside, sameEntry}
+use Rattle.log_entry.specs.Refusal.{firstRefusal}
+use Rattle.log_core.specs.Enter.{afterEntry, enter, feed, refusalOf, voted}
+use Rattle.log_core.specs.Group.{committing, remembered, runningSet}
+use Rattle.log_core.specs.Log.{emptyLog}
+use Rattle.log_core.specs.Outcome.{outcomeOfVotes, running}
+use Rattle.log_core.specs.Replay.{groupReplay, replayFrom, replayOf}
+use Rattle.log_core.specs.Scan.{allFrom, anyFrom}
+use Rattle.model_steps.specs.declared.Step.{Step}
+use Rattle.model_steps.specs.Limits.{outsideStep}
+use Rattle.model_protocol.specs.declared.World.{World}
+use Rattle.model_protocol.specs.Batch.{batchOf, noBatch}
+use Rattle.model_protocol.specs.Coordinator.{batchToPropose, learning, promiseHeard}
+use Rattle.model_protocol.specs.Deliver.{handed}
+use Rattle.model_protocol.specs.Message.{noReplay}
+use Rattle.model_protocol.specs.Places.{placesOf}
+use Rattle.model_protocol.specs.Queue.{firstBatch, isIn, joining, leftBy, queueOf, without}
+use Rattle.model_protocol.specs.Send.{copyOf, sendToAll}
+use Rattle.model_protocol.specs.Step.{changeOf, heldFrom, messageFor, run, stepChecks, stepOf, stepRefusal}
+use Rattle.model_protocol.specs.World.{allUp, freshCoordinator, freshProcess, freshWorld}
+
+-- the world after a list of steps from the fresh world
+unfoldable pub computed : List Step → World
+unfolding run stepOf placesOf stepRefusal stepChecks changeOf messageFor heldFrom handed firstRefusal outsideStep outside illFormed sendToAll copyOf promiseHeard learning joining batchToPropose firstBatch batchOf isIn sameEntry leftBy queueOf without freshWorld freshCoordinator freshProcess allUp noBatch noReplay emptyLog feed enter refusalOf afterEntry voted committing remembered runningSet outcomeOfVotes running replayOf replayFrom groupReplay anyFrom allFrom ones onesIn
+computed steps = run freshWorld steps

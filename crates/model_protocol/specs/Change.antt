@@ -1,0 +1,55 @@
+-- The parts of the world that a step touches, with one of them changed, and changes.
+use Prim.Native.Nat.{ℕ}
+use Rattle.log_entry.specs.Refusal.{accepted}
+use Rattle.model_protocol.specs.declared.Batch.{Batch}
+use Rattle.model_protocol.specs.declared.Cell.{Cell}
+use Rattle.model_protocol.specs.declared.Coordinator.{Coordinator}
+use Rattle.model_protocol.specs.declared.Down.{Down}
+use Rattle.model_protocol.specs.declared.Message.{Message}
+use Rattle.model_protocol.specs.declared.Process.{Process}
+use Rattle.model_protocol.specs.Batch.{noBatch}
+use Rattle.model_protocol.specs.Message.{noMessage}
+use Rattle.model_protocol.specs.declared.Change.{Change}
+use Rattle.model_protocol.specs.declared.Parts.{Parts}
+
+abbrev pub parts : ℕ → ℕ → Down → Coordinator → Cell → Process → Message → Parts
+parts acceptors sent down coordinator cell process message = record {
+  acceptors = acceptors;
+  sent = sent;
+  down = down;
+  coordinator = coordinator;
+  cell = cell;
+  process = process;
+  message = message;
+}
+
+abbrev pub acceptorsNow : Parts → ℕ → Parts
+acceptorsNow p n = parts n (p .sent) (p .down) (p .coordinator) (p .cell) (p .process) (p .message)
+
+abbrev pub downNow : Parts → Down → Parts
+downNow p d = parts (p .acceptors) (p .sent) d (p .coordinator) (p .cell) (p .process) (p .message)
+
+abbrev pub coordinatorNow : Parts → Coordinator → Parts
+coordinatorNow p c = parts (p .acceptors) (p .sent) (p .down) c (p .cell) (p .process) (p .message)
+
+abbrev pub cellNow : Parts → Cell → Parts
+cellNow p x = parts (p .acceptors) (p .sent) (p .down) (p .coordinator) x (p .process) (p .message)
+
+abbrev pub processNow : Parts → Process → Parts
+processNow p h = parts (p .acceptors) (p .sent) (p .down) (p .coordinator) (p .cell) h (p .message)
+
+-- the parts are these, and nothing is sent
+abbrev pub still : Parts → ℕ → Change
+still p answer = record { answer = answer; parts = p; count = 0; message = noMessage; learned = noBatch }
+
+-- the step is accepted, the parts are these, and so many messages are sent
+abbrev pub sending : Parts → ℕ → Message → Change
+sending p n m = record { answer = accepted; parts = p; count = n; message = m; learned = noBatch }
+
+-- the step is accepted, the parts are these, and the coordinator's log is to be fed the batch
+abbrev pub learns : Parts → Batch → Change
+learns p b = record { answer = accepted; parts = p; count = 0; message = noMessage; learned = b }
+
+-- the step is accepted, the parts are these, and nothing is sent
+abbrev pub done : Parts → Change
+done p = still p accepted

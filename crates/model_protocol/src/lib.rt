@@ -1,0 +1,161 @@
+// The coordinated commit service: messages, acceptors, coordinators, processes, and the world that joins them.
+// These are the values; what each step does to them stands in specs/.
+use log_core::Log;
+use log_core::Outcome;
+use log_core::Replay;
+use log_entry::Entry;
+
+// A batch: its first `count` entries.
+pub struct Batch {
+    pub entries: [Entry; 4],
+    pub count: u8,
+}
+
+pub enum Kind {
+    // To a coordinator: an entry.
+    Request,
+    // To an acceptor, from the ballot's coordinator.
+    Prepare,
+    Accept,
+    // From an acceptor, to the ballot's coordinator.
+    Promise,
+    Accepted,
+    // To a process, from a coordinator.
+    Tell,
+    Restore,
+}
+
+// A message. What its kind does not use is 0.
+pub struct Message {
+    pub kind: Kind,
+    // Of a request the coordinator, of a tell and a restore the process that it goes to.
+    pub to: u8,
+    // The acceptor that a prepare or an accept goes to, or that a promise or an acceptance comes from.
+    pub acceptor: u8,
+    pub inst: u8,
+    pub ballot: u8,
+    // Of a promise: the ballot that the acceptor accepted, 0 if none.
+    pub held: u8,
+    // Of a promise: the batch that goes with `held`; of an accept: the batch proposed.
+    pub batch: Batch,
+    // Of a request.
+    pub entry: Entry,
+    // Of a tell.
+    pub tx: u8,
+    pub outcome: Outcome,
+    // Of a restore: the store, the sender's applied count, and the store's replay.
+    pub store: u8,
+    pub position: u8,
+    pub replay: Replay,
+}
+
+// What an acceptor holds of an instance, 0 at first.
+pub struct Cell {
+    pub promised: u8,
+    // The accepted ballot, 0 if none, and its batch.
+    pub ballot: u8,
+    pub batch: Batch,
+}
+
+// The entries that a coordinator was sent: the first `count`, oldest first.
+pub struct Queue {
+    pub entries: [Entry; 8],
+    pub count: u8,
+}
+
+// The ballot that a coordinator opened last in its current instance, and what came of it.
+pub struct Round {
+    // 0 if it opened none there.
+    pub ballot: u8,
+    // The acceptors whose promise was heard, bit a for acceptor a.
+    pub promises: u8,
+    // The highest accepted ballot among the promises, 0 if none, and its batch.
+    pub held: u8,
+    pub batch: Batch,
+    pub proposed: bool,
+    // The batch proposed.
+    pub proposal: Batch,
+    // The acceptors whose acceptance was heard, bit a for acceptor a.
+    pub acceptances: u8,
+}
+
+pub struct Coordinator {
+    // How many instances it applied; the next is its current one.
+    pub applied: u8,
+    pub queue: Queue,
+    pub round: Round,
+}
+
+// What a process heard of a transaction; open if nothing.
+pub struct Heard {
+    pub outcome: Outcome,
+}
+
+pub struct Process {
+    // By transaction.
+    pub heard: [Heard; 32],
+    // The last restore that it took: store, position, replay. Position 0 if it took none.
+    pub store: u8,
+    pub position: u8,
+    pub replay: Replay,
+}
+
+// Who is down.
+pub struct Down {
+    pub acceptors: [bool; 5],
+    pub coordinators: [bool; 3],
+    // Processes are numbered from 1.
+    pub processes: [bool; 16],
+}
+
+pub struct World {
+    // How many acceptors there are, 0 before setup.
+    pub acceptors: u8,
+    // Acceptor a's cell of instance i stands at a * 16 + i.
+    pub cells: [Cell; 80],
+    pub coordinators: [Coordinator; 3],
+    // By coordinator.
+    pub logs: [Log; 3],
+    // Processes are numbered from 1.
+    pub processes: [Process; 16],
+    pub down: Down,
+    // The first `sent` were sent, numbered from 0.
+    pub messages: [Message; 128],
+    pub sent: u8,
+}
+
+// The parts of the world that a step looks at and may change: of coordinators, cells, processes and messages the one that it is about.
+pub struct Parts {
+    pub acceptors: u8,
+    pub sent: u8,
+    pub down: Down,
+    pub coordinator: Coordinator,
+    pub cell: Cell,
+    pub process: Process,
+    // The message that the step delivers, or that it sends by what the coordinator's log says.
+    pub message: Message,
+}
+
+// The answer to a step, the parts after it, and what it sends.
+pub struct Change {
+    pub answer: u8,
+    pub parts: Parts,
+    // So many messages: this one first, and then the same to acceptors 1, 2 and so on.
+    pub count: u8,
+    pub message: Message,
+    // The batch that the coordinator learned, for its log; one without entries if none.
+    pub learned: Batch,
+}
+
+// Where in the world the parts of a step stand.
+pub struct Places {
+    pub coordinator: u8,
+    pub cell: usize,
+    pub process: u8,
+}
+
+// The world after a step, and the answer.
+pub struct Stepped {
+    pub world: World,
+    pub answer: u8,
+}

@@ -1,0 +1,22 @@
+// A step of the world as a value, whatever its numbers.
+use log_entry::Entry;
+
+pub mod limits;
+
+pub enum Role {
+    Acceptor,
+    Coord,
+    Proc,
+}
+
+// Document 01's steps. `take` and `vote` are a request: the entry, and the coordinator in `to`.
+pub enum Step {
+    Setup { acceptors: u8 },
+    Request { entry: Entry, to: u8 },
+    Open { coord: u8, inst: u8, ballot: u8 },
+    Propose { coord: u8, inst: u8, ballot: u8 },
+    Deliver { msg: u8 },
+    Tell { coord: u8, process: u8, tx: u8 },
+    Restore { coord: u8, process: u8 },
+    Crash { role: Role, id: u8 },
+}

@@ -1,0 +1,104 @@
+// The limits of what a step names. `specs/Limits.antt` has the same numbers for the contracts.
+ghost use mathlib.Core.Path.{_≡_};
+ghost use mathlib.Core.Bool.{_||_, not};
+ghost use lib.Dec.{eqb, leb};
+ghost use Rattle.log_entry.specs.Entry.{noProcess, outside};
+ghost use Rattle.log_entry.specs.Limits.{transactions};
+ghost use Rattle.model_steps.specs.Limits.{instances, mostAcceptors, noBallot, noCoordinator, noParty, outsideStep};
+use crate::Role;
+use crate::Step;
+use log_entry::Entry;
+use log_entry::limits::TRANSACTIONS;
+
+pub const COORDINATORS: u8 = 3;
+
+pub const MOST_ACCEPTORS: u8 = 5;
+
+pub const INSTANCES: u8 = 16;
+
+pub const MESSAGES: u8 = 128;
+
+fn no_setup(n: u8) -> bool
+    ensures { λ r. ⌜ r ≡ not (eqb n 3 || eqb n mostAcceptors) ⌝ }
+{
+    if n == 3 {
+        return false;
+    }
+    n != MOST_ACCEPTORS
+}
+
+fn no_request(e: Entry, to: u8) -> bool
+    ensures { λ r. ⌜ r ≡ (outside e || noCoordinator to) ⌝ }
+{
+    if e.outside() {
+        return true;
+    }
+    COORDINATORS <= to
+}
+
+fn no_round(coord: u8, inst: u8, ballot: u8) -> bool
+    ensures { λ r. ⌜ r ≡ (noCoordinator coord || leb instances inst || noBallot ballot) ⌝ }
+{
+    if COORDINATORS <= coord {
+        return true;
+    }
+    if INSTANCES <= inst {
+        return true;
+    }
+    ballot == 0
+}
+
+fn no_tell(coord: u8, process: u8, tx: u8) -> bool
+    ensures { λ r. ⌜ r ≡ (noCoordinator coord || noProcess process || leb transactions tx) ⌝ }
+{
+    if COORDINATORS <= coord {
+        return true;
+    }
+    if log_entry::no_process(process) {
+        return true;
+    }
+    TRANSACTIONS <= tx
+}
+
+fn no_restore(coord: u8, process: u8) -> bool
+    ensures { λ r. ⌜ r ≡ (noCoordinator coord || noProcess process) ⌝ }
+{
+    if COORDINATORS <= coord {
+        return true;
+    }
+    log_entry::no_process(process)
+}
+
+fn no_party(acceptors: u8, role: Role, id: u8) -> bool
+    ensures { λ r. ⌜ r ≡ noParty acceptors role id ⌝ }
+{
+    match role {
+        Role::Acceptor => acceptors <= id,
+        Role::Coord => COORDINATORS <= id,
+        Role::Proc => log_entry::no_process(id),
+    }
+}
+
+// Refusal 2, where so many acceptors count.
+pub fn outside(acceptors: u8, s: Step) -> bool
+    ensures { λ r. ⌜ r ≡ outsideStep acceptors s ⌝ }
+{
+    match s {
+        Step::Setup { acceptors: n } => no_setup(n),
+        Step::Request { entry, to } => no_request(entry, to),
+        Step::Open {
+            coord,
+            inst,
+            ballot,
+        } => no_round(coord, inst, ballot),
+        Step::Propose {
+            coord,
+            inst,
+            ballot,
+        } => no_round(coord, inst, ballot),
+        Step::Deliver { msg } => MESSAGES <= msg,
+        Step::Tell { coord, process, tx } => no_tell(coord, process, tx),
+        Step::Restore { coord, process } => no_restore(coord, process),
+        Step::Crash { role, id } => no_party(acceptors, role, id),
+    }
+}

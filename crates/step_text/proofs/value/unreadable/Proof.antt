@@ -1,9 +1,0 @@
-use lib.Seq.{drop-length}
-use Rattle.step_text.proofs.value.unreadable.Statement.{statement}
-use Rattle.step_text.proofs.value.unreadable.Tie as tie
-
-returns : tie.Need-returns
-returns c = rw (drop-length (c .args .line .now))
-
-pub unreadable-spec : {M : Type 1} → statement M
-unreadable-spec = tie.close (tie.spec returns)

@@ -1,0 +1,26 @@
+-- A number in lower-case hexadecimal digits, so many of them.
+use Prim.Native.Nat.{ℕ, suc, _+_, _-_, _*_, _/_, _%_}
+use mathlib.Core.Bool.{Bool, _&&_, _||_, cond}
+use mathlib.Core.List.{List, [], _∷_, _++_}
+use lib.Dec.{leb, ltb}
+use Rattle.text_ascii.specs.Decimal.{isDigit}
+
+-- the byte of a digit below 16: `0` to `9`, then `a` to `f`
+abbrev pub hexDigit : ℕ → ℕ
+hexDigit d = cond (ltb d 10) (48 + d) (87 + d)
+
+-- the last k digits of n
+unfoldable pub hex : ℕ → ℕ → List ℕ
+hex ℕ.zero n = []
+hex (suc k) n = hex k (n / 16) ++ hexDigit (n % 16) ∷ []
+
+abbrev pub isHexDigit : ℕ → Bool
+isHexDigit c = isDigit c || (leb 97 c && leb c 102)
+
+-- the number of a digit's byte
+abbrev pub hexDigitOf : ℕ → ℕ
+hexDigitOf c = cond (leb c 57) (c - 48) (c - 87)
+
+-- a number with one digit more
+abbrev pub hexGrown : ℕ → ℕ → ℕ
+hexGrown n c = n * 16 + hexDigitOf c

@@ -1,0 +1,95 @@
+-- A number beyond a byte is outside its limits.
+use Prim.Native.Nat.{ℕ, _≤_}
+use native.Mathlib.Omega.{arith}
+use mathlib.Core.Bool.{Bool, true, false, _&&_, _||_, not, false≢true}
+use mathlib.Core.List.{List, [], _∷_}
+use mathlib.Core.Logic.{inl, inr}
+use mathlib.Core.Path.{_≡_, refl, ap}
+use lib.Dec.{eqb, leb, ltb}
+use borrow.Author.Tests.{leb-true, le-leb, lt-ltb}
+use Rattle.log_entry.specs.declared.Entry.{Entry}
+use Rattle.log_entry.specs.Entry.{noProcess, outside}
+use Rattle.log_entry.specs.Limits.{stores, transactions, processes, lists, updates}
+use Rattle.text_entry.specs.Entry.{HasText, beyond, numbers}
+use Rattle.text_entry.specs.Table.{anyBeyond, noByte}
+
+-- one of the numbers is beyond a byte
+abbrev pub Whichever : Type 0 → List ℕ → Type 0
+Whichever P [] = Unit {0}
+Whichever P (n ∷ ns) = (256 ≤ n → P) × Whichever P ns
+
+pub beyond-cases : (P : Type 0) (ns : List ℕ) → Whichever P ns → anyBeyond ns ≡ true → P
+beyond-cases P [] c h = absurd (false≢true h)
+beyond-cases P (n ∷ ns) c h = go (noByte n) refl h (beyond-cases P ns (c .1))
+  where
+    go : (b : Bool) → noByte n ≡ b → (b || anyBeyond ns) ≡ true → (anyBeyond ns ≡ true → P) → P
+    go true k h later = c .0 (leb-true 256 n k)
+    go false k h later = later h
+
+module _ (a b c : Bool) where
+  pub first-of : a ≡ true → (a || b || c) ≡ true
+  first-of h = rw h
+
+  pub second-of : b ≡ true → (a || b || c) ≡ true
+  second-of h = elim a as (λ x. (x || b || c) ≡ true) [ true ↦ refl | false ↦ rw h ]
+
+  pub third-of : c ≡ true → (a || b || c) ≡ true
+  third-of h = elim (a || b) as (λ x. (x || c) ≡ true) [ true ↦ refl | false ↦ h ]
+
+pub no-such-process : (p : ℕ) → 256 ≤ p → noProcess p ≡ true
+no-such-process p h = elim (eqb p 0) as (λ x. (x || ltb processes p) ≡ true) [ true ↦ refl | false ↦ lt-ltb processes p (omega arith) ]
+
+-- the parts of a vote's limits that a take has none of
+module _ (e : Entry) where
+  vote-limits : Bool
+  vote-limits = not (e .take) && (leb stores (e .by) || leb transactions (e .tx) || leb lists (e .participants) || leb updates (e .update))
+
+  process-outside : 256 ≤ e .process → outside e ≡ true
+  unfolding outside vote-limits
+  process-outside h = first-of (noProcess (e .process)) (leb stores (e .store)) vote-limits (no-such-process (e .process) h)
+
+  store-outside : 256 ≤ e .store → outside e ≡ true
+  unfolding outside vote-limits
+  store-outside h = second-of (noProcess (e .process)) (leb stores (e .store)) vote-limits (le-leb stores (e .store) (omega arith))
+
+  others-outside : (leb stores (e .by) || leb transactions (e .tx) || leb lists (e .participants) || leb updates (e .update)) ≡ true → e .take ≡ false → outside e ≡ true
+  unfolding outside vote-limits
+  others-outside h t = third-of (noProcess (e .process)) (leb stores (e .store)) vote-limits (rw t h)
+
+  by-outside : 256 ≤ e .by → e .take ≡ false → outside e ≡ true
+  by-outside h = others-outside (rw (le-leb stores (e .by) (omega arith)))
+
+  tx-outside : 256 ≤ e .tx → e .take ≡ false → outside e ≡ true
+  tx-outside h =
+      others-outside
+      (ap (λ (b : Bool). b || leb updates (e .update)) (second-of (leb stores (e .by)) (leb transactions (e .tx)) (leb lists (e .participants)) (le-leb transactions (e .tx) (omega arith))))
+
+  list-outside : 256 ≤ e .participants → e .take ≡ false → outside e ≡ true
+  list-outside h =
+      others-outside
+      (ap (λ (b : Bool). b || leb updates (e .update)) (third-of (leb stores (e .by)) (leb transactions (e .tx)) (leb lists (e .participants)) (le-leb lists (e .participants) h)))
+
+-- what a take does not use is no number beyond a byte
+no-number : (n : ℕ) → n ≡ 0 → 256 ≤ n → ⊥
+no-number n h k = omega arith
+
+pub beyond-is-outside : (e : Entry) → HasText e → beyond e ≡ true → outside e ≡ true
+beyond-is-outside e (inl h) =
+    beyond-cases (outside e ≡ true) (numbers e) (
+      process-outside e,
+      (
+        (λ m. absurd (no-number (e .by) (ap (λ (x : Entry). x .by) h) m)),
+        (
+          store-outside e,
+          (
+            (λ m. absurd (no-number (e .tx) (ap (λ (x : Entry). x .tx) h) m)),
+            ((λ m. absurd (no-number (e .participants) (ap (λ (x : Entry). x .participants) h) m)), tt),
+          ),
+        ),
+      ),
+    )
+beyond-is-outside e (inr h) =
+    beyond-cases (outside e ≡ true) (numbers e) (
+      process-outside e,
+      ((λ m. by-outside e m (h .0)), (store-outside e, ((λ m. tx-outside e m (h .0)), ((λ m. list-outside e m (h .0)), tt)))),
+    )

@@ -1,0 +1,238 @@
+-- What reads is what was written: values, fields, lines.
+use Prim.Native.Nat.{ℕ, suc, _≤_, _<_, _+_, _-_, _*_, _^_}
+use native.Mathlib.Omega.{arith}
+use native.Mathlib.Nat.{add-suc, zero-add, add-zero, suc-add, mul-assoc, pow-succ', lt-of-lt-of-le, mul-le-mul-right}
+use native.Mathlib.Decide.{decLt}
+use mathlib.Core.Bool.{Bool, true, false, _&&_, not, cond, false≢true}
+use mathlib.Core.List.{List, [], _∷_, _++_, append-assoc}
+use mathlib.Core.Option.{Option, none, some}
+use mathlib.Core.Path.{_≡_, refl, sym, _∙_, ap, subst}
+use lib.ListN.{length, drop, getD}
+use borrow.Author.Tests.{eq-eqb, not-true}
+use Rattle.text_ascii.specs.Bytes.{begins}
+use Rattle.text_ascii.specs.Decimal.{digit, decimal, isDigit, digitOf, grown, beginsDigit}
+use Rattle.text_ascii.specs.Hex.{hex, isHexDigit, hexDigitOf, hexGrown}
+use Rattle.text_ascii.proofs.Decimals.{is-digit-low, is-digit-high, digit-byte, decimal-small, decimal-grows}
+use Rattle.text_ascii.proofs.Hexes.{hex-grows, hex-digit-bound}
+use Rattle.text_ascii.proofs.Words.{begins-splits, both-l, both-r}
+use Rattle.text_entry.specs.Fields.{Form, inDecimal, inHex, inWords, Field, keyText, valueText, fieldsText, Kind, nameText, lineText}
+use Rattle.text_entry.specs.Read.{Part, part, unreadable, leadingZero, readDigits, readDecimal, readHex, readWord, readValue, after, readField, isEnd, with, readFields, readKind}
+
+-- a decimal with a digit's byte behind it
+decimal-byte : (n c : ℕ) → 1 ≤ n → isDigit c ≡ true → decimal n ++ c ∷ [] ≡ decimal (grown n c)
+decimal-byte n c h e =
+    let d : digitOf c < 10 = omega (arith, is-digit-low c e, is-digit-high c e) in
+    ap (λ (b : ℕ). decimal n ++ b ∷ []) (sym (digit-byte c e)) ∙ sym (decimal-grows n (digitOf c) h d)
+
+-- ---- decimals
+
+digits-text : (n : ℕ) (s : List ℕ) → (n ≡ 0 → beginsDigit s ≡ false) → decimal n ++ s ≡ decimal (readDigits n s .value) ++ readDigits n s .rest
+unfolding readDigits
+digits-text n [] h = refl
+digits-text n (c ∷ s) h = go (isDigit c) refl (digits-text (grown n c) s)
+  where
+    go : (b : Bool) → isDigit c ≡ b → ((grown n c ≡ 0 → beginsDigit s ≡ false) → decimal (grown n c) ++ s ≡ decimal (readDigits (grown n c) s .value) ++ readDigits (grown n c) s .rest)
+        → decimal n ++ (c ∷ s) ≡ decimal (cond b (readDigits (grown n c) s) (part n (c ∷ s)) .value) ++ cond b (readDigits (grown n c) s) (part n (c ∷ s)) .rest
+    go false e ih = refl
+    go true e ih = elim (decLt 0 n) [
+      | yes k ↦
+          sym (append-assoc (decimal n) (c ∷ []) s)
+          ∙ ap (λ (d : List ℕ). d ++ s) (decimal-byte n c k e)
+          ∙ ih (λ z. absurd (omega arith))
+      | no k ↦ absurd (false≢true (sym (h (omega arith)) ∙ e))
+    ]
+
+readable-true : (b : Bool) (p : Part) → cond b p unreadable .readable ≡ true → b ≡ true
+readable-true true p h = refl
+readable-true false p h = absurd (false≢true h)
+
+first-digit : (c : ℕ) (s : List ℕ) → isDigit c ≡ true → leadingZero (c ∷ s) ≡ false → c ∷ s ≡ decimal (readDigits 0 (c ∷ s) .value) ++ readDigits 0 (c ∷ s) .rest
+unfolding readDigits
+first-digit c s e z =
+    let low : 48 ≤ c = is-digit-low c e in
+    let high : c ≤ 57 = is-digit-high c e in
+    let byte : digit (grown 0 c) ≡ c = omega arith in
+    rw e (
+    ap (λ (d : ℕ). d ∷ s) (sym byte)
+    ∙ ap (λ (d : List ℕ). d ++ s) (sym (decimal-small (grown 0 c) (omega arith)))
+    ∙ digits-text (grown 0 c) s (λ (k : grown 0 c ≡ 0). sym (ap (λ (b : Bool). b && beginsDigit s) (eq-eqb c 48 (omega arith))) ∙ z)
+    )
+
+decimal-text : (s : List ℕ) → readDecimal s .readable ≡ true → s ≡ decimal (readDecimal s .value) ++ readDecimal s .rest
+unfolding readDecimal
+decimal-text [] h = absurd (false≢true h)
+decimal-text (c ∷ s) h =
+    let t = readable-true (isDigit c && not (leadingZero (c ∷ s))) (readDigits 0 (c ∷ s)) h in
+    rw t (first-digit c s (both-l (isDigit c) _ t) (not-true _ (both-r (isDigit c) _ t)))
+
+-- ---- hexadecimal digits
+
+hex-text : (k j v : ℕ) (s : List ℕ) → readHex k v s .readable ≡ true → hex j v ++ s ≡ hex (j + k) (readHex k v s .value) ++ readHex k v s .rest
+unfolding readHex
+hex-text ℕ.zero j v s h = (λ i. hex (sym (add-zero j) i) v ++ s)
+hex-text (suc k) j v [] h = absurd (false≢true h)
+hex-text (suc k) j v (c ∷ s) h = go (isHexDigit c) refl h (hex-text k (suc j) (hexGrown v c) s)
+  where
+    go : (b : Bool) → isHexDigit c ≡ b → cond b (readHex k (hexGrown v c) s) unreadable .readable ≡ true
+        → (readHex k (hexGrown v c) s .readable ≡ true → hex (suc j) (hexGrown v c) ++ s ≡ hex (suc j + k) (readHex k (hexGrown v c) s .value) ++ readHex k (hexGrown v c) s .rest)
+        → hex j v ++ (c ∷ s) ≡ hex (j + suc k) (cond b (readHex k (hexGrown v c) s) unreadable .value) ++ cond b (readHex k (hexGrown v c) s) unreadable .rest
+    go false e h ih = absurd (false≢true h)
+    go true e h ih =
+        sym (append-assoc (hex j v) (c ∷ []) s)
+        ∙ ap (λ (d : List ℕ). d ++ s) (sym (hex-grows j v c e))
+        ∙ ih h
+        ∙ ap (λ (n : ℕ). hex n (readHex k (hexGrown v c) s .value) ++ readHex k (hexGrown v c) s .rest) (suc-add j k ∙ sym (add-suc j k))
+
+hex-bound : (k v : ℕ) (s : List ℕ) → readHex k v s .readable ≡ true → readHex k v s .value < (v + 1) * 16 ^ k
+unfolding readHex
+hex-bound ℕ.zero v s h = omega arith
+hex-bound (suc k) v [] h = absurd (false≢true h)
+hex-bound (suc k) v (c ∷ s) h = go (isHexDigit c) refl h (hex-bound k (hexGrown v c) s)
+  where
+    go : (b : Bool) → isHexDigit c ≡ b → cond b (readHex k (hexGrown v c) s) unreadable .readable ≡ true
+        → (readHex k (hexGrown v c) s .readable ≡ true → readHex k (hexGrown v c) s .value < (hexGrown v c + 1) * 16 ^ k)
+        → cond b (readHex k (hexGrown v c) s) unreadable .value < (v + 1) * 16 ^ suc k
+    go false e h ih = absurd (false≢true h)
+    go true e h ih =
+        let d : hexDigitOf c < 16 = hex-digit-bound c e in
+        let g : hexGrown v c + 1 ≤ (v + 1) * 16 = omega arith in
+        let p : (v + 1) * 16 * 16 ^ k ≡ (v + 1) * 16 ^ suc k = mul-assoc (v + 1) 16 (16 ^ k) ∙ ap (λ (m : ℕ). (v + 1) * m) (sym (pow-succ' 16 k)) in
+        subst (λ (m : ℕ). readHex k (hexGrown v c) s .value < m) p (lt-of-lt-of-le (ih h) (mul-le-mul-right (16 ^ k) g))
+
+-- ---- words
+
+pub record WordAt (n : ℕ) (ws : List (List ℕ)) (s : List ℕ) (p : Part) : Type 0 where
+  pub from : n ≤ p .value
+  pub to : p .value < n + length ws
+  pub text : s ≡ getD ws (p .value - n) [] ++ p .rest
+
+word-text : (n : ℕ) (ws : List (List ℕ)) (s : List ℕ) → readWord n ws s .readable ≡ true → WordAt n ws s (readWord n ws s)
+unfolding readWord
+word-text n [] s h = absurd (false≢true h)
+word-text n (w ∷ ws) s h = go (begins s w) refl h (word-text (suc n) ws s)
+  where
+    go : (b : Bool) → begins s w ≡ b → cond b (part n (drop (length w) s)) (readWord (suc n) ws s) .readable ≡ true
+        → (readWord (suc n) ws s .readable ≡ true → WordAt (suc n) ws s (readWord (suc n) ws s))
+        → WordAt n (w ∷ ws) s (cond b (part n (drop (length w) s)) (readWord (suc n) ws s))
+    go true e h ih = record {
+      from = omega arith;
+      to = omega arith;
+      text = let z : 0 ≡ n - n = omega arith in begins-splits s w e ∙ ap (λ (i : ℕ). getD (w ∷ ws) i [] ++ drop (length w) s) z;
+    }
+    go false e h ih =
+        let r = ih h in
+        let m = readWord (suc n) ws s .value in
+        let k : suc n ≤ m = r .from in
+        let l : m < suc n + length ws = r .to in
+        let z : suc (m - suc n) ≡ m - n = omega arith in
+        record {
+          from = omega arith;
+          to = omega arith;
+          text = r .text ∙ ap (λ (i : ℕ). getD (w ∷ ws) i [] ++ readWord (suc n) ws s .rest) z;
+        }
+
+-- ---- values, fields, lines
+
+-- a value of so many hexadecimal digits, a word's index
+abbrev pub Indexed : Form → ℕ → Type 0
+Indexed inDecimal v = Unit {0}
+Indexed (inHex k) v = v < 16 ^ k
+Indexed (inWords ws) v = v < length ws
+
+pub record ValueAt (f : Form) (s : List ℕ) (p : Part) : Type 0 where
+  pub indexed : Indexed f (p .value)
+  pub text : s ≡ valueText f (p .value) ++ p .rest
+
+value-text : (f : Form) (s : List ℕ) → readValue f s .readable ≡ true → ValueAt f s (readValue f s)
+unfolding readValue valueText hex
+value-text inDecimal s h = record { indexed = tt; text = decimal-text s h }
+value-text (inHex k) s h =
+    record { indexed = omega (arith, hex-bound k 0 s h); text = ap (λ (z : List ℕ). z ++ s) (no-digits 0) ∙ hex-text k 0 0 s h ∙ ap (λ (n : ℕ). hex n (readHex k 0 s .value) ++ readHex k 0 s .rest) (zero-add k) }
+  where
+    no-digits : (n : ℕ) → [] ≡ hex 0 n
+    no-digits n = refl
+value-text (inWords ws) s h =
+    let r = word-text 0 ws s h in
+    let l : readWord 0 ws s .value < 0 + length ws = r .to in
+    let z : readWord 0 ws s .value - 0 ≡ readWord 0 ws s .value = omega arith in
+    record { indexed = omega arith; text = r .text ∙ ap (λ (i : ℕ). getD ws i [] ++ readWord 0 ws s .rest) z }
+
+pub record AfterAt (w : List ℕ) (p : Part) : Type 0 where
+  pub readable : p .readable ≡ true
+  pub text : p .rest ≡ w ++ after w p .rest
+
+after-text : (w : List ℕ) (p : Part) → after w p .readable ≡ true → AfterAt w p
+unfolding after
+after-text w p h =
+    let t = readable-true (p .readable && begins (p .rest) w) (part 0 (drop (length w) (p .rest))) h in
+    record { readable = both-l (p .readable) _ t; text = rw t (begins-splits (p .rest) w (both-r (p .readable) _ t)) }
+
+pub record FieldAt (f : Field) (p : Part) : Type 0 where
+  pub readable : p .readable ≡ true
+  pub indexed : Indexed (f .form) (readField f p .value)
+  pub text : p .rest ≡ keyText f ++ (valueText (f .form) (readField f p .value) ++ readField f p .rest)
+
+field-text : (f : Field) (p : Part) → readField f p .readable ≡ true → FieldAt f p
+field-text f p h =
+    let q = after (keyText f) p in
+    let t = readable-true (q .readable) (readValue (f .form) (q .rest)) h in
+    let a = after-text (keyText f) p t in
+    let e : readField f p ≡ readValue (f .form) (q .rest) = rw t in
+    let v = value-text (f .form) (q .rest) (ap (λ (r : Part). r .readable) (sym e) ∙ h) in
+    record {
+      readable = a .readable;
+      indexed = subst (λ (r : Part). Indexed (f .form) (r .value)) (sym e) (v .indexed);
+      text = a .text ∙ ap (λ (r : List ℕ). keyText f ++ r) (v .text) ∙ ap (λ (r : Part). keyText f ++ (valueText (f .form) (r .value) ++ r .rest)) (sym e);
+    }
+
+abbrev pub IndexedAll : List Field → List ℕ → Type 0
+IndexedAll [] [] = Unit {0}
+IndexedAll [] (v ∷ vs) = ⊥
+IndexedAll (f ∷ fs) [] = ⊥
+IndexedAll (f ∷ fs) (v ∷ vs) = Indexed (f .form) v × IndexedAll fs vs
+
+pub record FieldsAt (fs : List Field) (p : Part) (vs : List ℕ) : Type 0 where
+  pub readable : p .readable ≡ true
+  pub indexed : IndexedAll fs vs
+  pub text : p .rest ≡ fieldsText fs vs
+
+some-not-none : (vs : List ℕ) → _≡_ {A = Option (List ℕ)} none (some vs) → ⊥
+some-not-none vs e = let z : _≡_ {A = ℕ} 0 1 = cc in omega arith
+
+pub fields-text : (fs : List Field) (p : Part) (vs : List ℕ) → readFields fs p ≡ some vs → FieldsAt fs p vs
+unfolding readFields fieldsText
+fields-text [] p vs h = go (p .readable) (p .rest) refl refl h
+  where
+    ended : (r : List ℕ) → p .readable ≡ true → p .rest ≡ [] → [] ≡ vs → FieldsAt [] p vs
+    ended r k e z = subst (λ (us : List ℕ). FieldsAt [] p us) z (record { readable = k; indexed = tt; text = e })
+
+    go : (b : Bool) (r : List ℕ) → p .readable ≡ b → p .rest ≡ r → cond (b && isEnd r) (some []) none ≡ some vs → FieldsAt [] p vs
+    go true [] k e h = ended [] k e (let z : [] ≡ vs = cc in z)
+    go true (c ∷ r) k e h = absurd (some-not-none vs h)
+    go false r k e h = absurd (some-not-none vs h)
+fields-text (f ∷ fs) p vs h = go (readFields fs (readField f p)) refl h (fields-text fs (readField f p))
+  where
+    joined : (us : List ℕ) → FieldsAt fs (readField f p) us → FieldsAt (f ∷ fs) p (readField f p .value ∷ us)
+    joined us r =
+        let t = field-text f p (r .readable) in
+        record {
+          readable = t .readable;
+          indexed = (t .indexed, r .indexed);
+          text = t .text ∙ ap (λ (s : List ℕ). keyText f ++ (valueText (f .form) (readField f p .value) ++ s)) (r .text);
+        }
+
+    go : (o : Option (List ℕ)) → readFields fs (readField f p) ≡ o → with (readField f p .value) o ≡ some vs
+        → ((us : List ℕ) → readFields fs (readField f p) ≡ some us → FieldsAt fs (readField f p) us) → FieldsAt (f ∷ fs) p vs
+    go none e h ih = absurd (some-not-none vs h)
+    go (some us) e h ih = subst (λ (ws : List ℕ). FieldsAt (f ∷ fs) p ws) (let z : readField f p .value ∷ us ≡ vs = cc in z) (joined us (ih us e))
+
+pub record LineAt (k : Kind) (s vs : List ℕ) : Type 0 where
+  pub indexed : IndexedAll (k .fields) vs
+  pub text : s ≡ lineText k vs
+
+pub line-text : (k : Kind) (s vs : List ℕ) → readKind k s ≡ some vs → LineAt k s vs
+unfolding readKind lineText
+line-text k s vs h =
+    let r = fields-text (k .fields) (after (nameText k) (part 0 s)) vs h in
+    let a = after-text (nameText k) (part 0 s) (r .readable) in
+    record { indexed = r .indexed; text = a .text ∙ ap (λ (t : List ℕ). nameText k ++ t) (r .text) }

@@ -1,0 +1,42 @@
+use mathlib.Core.List.{[], _∷_}
+use mathlib.Core.Path.{_∙_, ap}
+use Rattle.text_ascii.specs.Bytes.{ascii}
+use Rattle.text_entry.specs.Seen.{seen, wordAfter}
+use Rattle.text_entry.proofs.Parts.{words-value}
+use borrow.Author.Needs.{needs}
+use Rattle.text_entry.proofs.said.Statement.{statement}
+use Rattle.text_entry.proofs.said.Tie as tie
+
+unreadable-requires : tie.Need-unreadable-requires
+unreadable-requires c κs = search needs
+
+slice-aggregate-word : tie.Need-slice-aggregate-word
+slice-aggregate-word c = search needs
+
+word-requires : tie.Need-word-requires
+word-requires c κs = search needs
+
+slice-aggregate-word-2 : tie.Need-slice-aggregate-word-2
+slice-aggregate-word-2 c = search needs
+
+word-requires-2 : tie.Need-word-requires-2
+word-requires-2 c κs = search needs
+
+returns : tie.Need-returns
+returns c =
+    let a = c .before .before .before .before .before .before .args in
+    let p = seen (a .line .now) (a .before) in
+    c .word2 .ensures
+    ∙ ap (wordAfter (ascii "abort") 0 p) (c .before .before .word .ensures ∙ ap (wordAfter (ascii "commit") 1 p) (c .before .before .before .before .unreadable .ensures))
+    ∙ words-value (ascii "abort" ∷ ascii "commit" ∷ []) p
+
+pub said-spec : {M : Type 1} → statement M
+said-spec =
+    tie.close
+    (tie.spec
+    unreadable-requires
+    slice-aggregate-word
+    word-requires
+    slice-aggregate-word-2
+    word-requires-2
+    returns)

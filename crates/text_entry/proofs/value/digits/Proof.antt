@@ -1,0 +1,107 @@
+use native.Mathlib.Omega.{arith}
+use borrow.Author.Needs.{needs}
+use Prim.Native.Nat.{_≤_, _<_, _-_, _+_, min}
+use mathlib.Core.Path.{_≡_, refl, sym, _∙_, ap}
+use mathlib.Core.Bool.{true}
+use lib.ListN.{length, drop, getD}
+use Rattle.text_ascii.specs.Decimal.{beginsDigit, grown}
+use Rattle.text_entry.specs.Read.{readDigits, part}
+use Rattle.text_entry.specs.Seen.{capped, most}
+use Rattle.text_entry.proofs.Digits.{digit-inside, digit-low, digit-high, digits-more, digits-end, digits-capped}
+use Rattle.text_entry.proofs.value.digits.Statement.{statement}
+use Rattle.text_entry.proofs.value.digits.Tie as tie
+
+abbrev Inv-loop : tie.InvT-loop
+Inv-loop line at number₀ i₀ number i = (number ≤ most) × (capped (readDigits 0 (drop at line)) ≡ capped (readDigits number (drop i line)))
+
+abbrev μ-loop : tie.MeasureT-loop
+μ-loop line at number₀ i₀ number i = length line - i
+
+loop-holds : tie.Need-loop-holds Inv-loop μ-loop
+loop-holds c = (omega arith, refl)
+
+is-digit-requires : tie.Need-is-digit-requires Inv-loop μ-loop
+is-digit-requires c κs = search needs
+
+mul-least : tie.Need-mul-least Inv-loop μ-loop
+mul-least c = omega arith
+
+digit : (c : tie.Then1 Inv-loop μ-loop) → beginsDigit (drop (c .before .before .loop .i) (c .before .before .before .before .args .line .now)) ≡ true
+digit c = sym (c .before .is-digit .ensures) ∙ c .if1 .taken
+
+-- a digit stands at the place
+there : (c : tie.Then1 Inv-loop μ-loop) → let s = c .before .before .before .before .args .line .now in let i = c .before .before .loop .i in (i < length s) × (48 ≤ getD s i 0) × (getD s i 0 ≤ 57)
+there c =
+    let s = c .before .before .before .before .args .line .now in
+    let i = c .before .before .loop .i in
+    (digit-inside s i (digit c), digit-low s i (digit c), digit-high s i (digit c))
+
+shared-slice-read-least : tie.Need-shared-slice-read-least Inv-loop μ-loop
+shared-slice-read-least c =
+    let t = there (c .before) in
+    omega arith
+
+sub-least : tie.Need-sub-least Inv-loop μ-loop
+sub-least c =
+    let t = there (c .before) in
+    omega arith
+
+cast-least : tie.Need-cast-least Inv-loop μ-loop
+cast-least c =
+    let t = there (c .before) in
+    omega arith
+
+add-least : tie.Need-add-least Inv-loop μ-loop
+add-least c =
+    let t = there (c .before) in
+    omega arith
+
+least-requires : tie.Need-least-requires Inv-loop μ-loop
+least-requires c κs = search needs
+
+add-i : tie.Need-add-i Inv-loop μ-loop
+add-i c =
+    let t = there (c .before .before) in
+    omega arith
+
+loop-less : tie.Need-loop-less Inv-loop μ-loop
+loop-less c =
+    let t = there (c .before .before) in
+    omega arith
+
+loop-again : tie.Need-loop-again Inv-loop μ-loop
+loop-again c =
+    let s = c .before .before .before .before .before .before .args .line .now in
+    let l = c .before .before .before .before .loop in
+    let e : c .least .result ≡ min (grown (l .number) (getD s (l .i) 0)) most = c .least .ensures in (
+      omega arith,
+      l .inv .1
+          ∙ ap capped (digits-more s (l .i) (l .number) (digit (c .before .before)))
+          ∙ digits-capped (grown (l .number) (getD s (l .i) 0)) (c .least .result) (drop (l .i + 1) s) (omega arith),
+    )
+
+returns : tie.Need-returns Inv-loop μ-loop
+returns c =
+    let s = c .before .before .before .before .args .line .now in
+    let l = c .before .before .loop in
+    let e : min (l .number) most ≡ l .number = omega arith in
+    sym (l .inv .1 ∙ ap capped (digits-end (l .number) (drop (l .i) s) (sym (c .before .is-digit .ensures) ∙ c .if1 .left)) ∙ (λ j. part (e j) (drop (l .i) s)))
+
+pub digits-spec : {M : Type 1} → statement M
+digits-spec =
+    tie.close
+    (tie.spec
+    Inv-loop
+    μ-loop
+    loop-holds
+    is-digit-requires
+    mul-least
+    shared-slice-read-least
+    sub-least
+    cast-least
+    add-least
+    least-requires
+    add-i
+    loop-less
+    loop-again
+    returns)

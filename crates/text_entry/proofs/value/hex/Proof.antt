@@ -1,0 +1,144 @@
+use native.Mathlib.Omega.{arith}
+use borrow.Author.Needs.{needs}
+use Prim.Native.Nat.{ℕ, _≤_, _<_, _+_, _-_, _*_, _^_}
+use mathlib.Core.Bool.{true}
+use mathlib.Core.Path.{_≡_, refl, sym, _∙_, ap, subst}
+use lib.Dec.{lit<}
+use lib.ListN.{drop, getD}
+use borrow.Author.Tests.{not-true, not-false}
+use Rattle.text_ascii.specs.Hex.{isHexDigit}
+use Rattle.text_ascii.proofs.Hexes.{hex-digit-bound}
+use Rattle.text_entry.specs.Fields.{inHex}
+use Rattle.text_entry.specs.Read.{Part, readHex, readValue, valueAfter}
+use Rattle.text_entry.specs.Seen.{seen}
+use Rattle.text_entry.proofs.Parts.{value-stopped, value-there}
+use Rattle.text_entry.proofs.Digits.{hex-far, hex-other, hex-more, hex-end, hex-grown, hex-fits}
+use Rattle.text_entry.proofs.value.hex.Statement.{statement}
+use Rattle.text_entry.proofs.value.hex.Tie as tie
+
+abbrev Inv-loop : tie.InvT-loop
+Inv-loop line count number₀ left₀ i₀ number left i = (left ≤ count) × (number < 16 ^ (count - left)) × (readHex count 0 (drop i₀ line) ≡ readHex left number (drop i line))
+
+abbrev μ-loop : tie.MeasureT-loop
+μ-loop line count number₀ left₀ i₀ number left i = left
+
+unreadable-requires : tie.Need-unreadable-requires Inv-loop μ-loop
+unreadable-requires c κs = search needs
+
+returns : tie.Need-returns Inv-loop μ-loop
+returns c =
+    let a = c .before .before .before .before .args in
+    c .unreadable .ensures ∙ value-stopped (inHex (a .count)) (seen (a .line .now) (a .before)) (not-true _ (c .before .if1 .taken))
+
+-- what the digits read as is the value
+value-is : (c : tie.Else1 Inv-loop μ-loop) → let a = c .before .before .before .args in (p : Part) → readHex (a .count) 0 (drop (a .before .end) (a .line .now)) ≡ p → valueAfter (inHex (a .count)) (seen (a .line .now) (a .before)) ≡ p
+unfolding readValue
+value-is c p e = let a = c .before .before .before .args in sym (value-there (inHex (a .count)) (seen (a .line .now) (a .before)) (not-false _ (c .if1 .left))) ∙ e
+
+-- a digit stands at the place, and the number with it fits
+digit : (c : tie.Else3 Inv-loop μ-loop) → isHexDigit (getD (c .before .before .before .before .before .before .before .before .before .args .line .now) (c .before .before .before .before .before .loop .i) 0) ≡ true
+digit c = sym (c .before .is-hex-digit .ensures) ∙ not-false _ (c .if3 .left)
+
+small : (c : tie.After-hex-number Inv-loop μ-loop) → c .hex-number .result < 16
+small c = subst (λ (d : ℕ). d < 16) (sym (c .hex-number .ensures)) (hex-digit-bound (getD (c .before .before .before .before .before .before .before .before .before .before .args .line .now) (c .before .before .before .before .before .before .loop .i) 0) (digit (c .before)))
+
+grown-at : (c : tie.Else3 Inv-loop μ-loop) (d : ℕ) → d < 16 → let l = c .before .before .before .before .before .loop in l .number * 16 + d < 16 ^ ((c .before .before .before .before .before .before .before .before .before .args .count - l .left) + 1)
+grown-at c d h = hex-grown _ _ d (c .before .before .before .before .before .loop .inv .1) h
+
+grows : (c : tie.Else3 Inv-loop μ-loop) (d : ℕ) → d < 16 → c .before .before .before .before .before .loop .number * 16 + d < 2 ^ 32
+grows c d h = hex-fits _ _ (omega arith) (grown-at c d h)
+
+loop-holds : tie.Need-loop-holds Inv-loop μ-loop
+loop-holds c =
+    let n = c .before .before .before .args .count in
+    let z : 0 ≡ n - n = omega arith in
+    (omega arith, subst (λ (k : ℕ). 0 < 16 ^ k) z (lit< tt), refl)
+
+unreadable-requires-2 : tie.Need-unreadable-requires-2 Inv-loop μ-loop
+unreadable-requires-2 c κs = search needs
+
+returns-2 : tie.Need-returns-2 Inv-loop μ-loop
+returns-2 c =
+    let a = c .before .before .before .before .before .before .before .args in
+    let l = c .before .before .before .loop in
+    c .unreadable2 .ensures ∙ sym (value-is (c .before .before .before .before) _ (c .before .before .before .loop .inv .2 ∙ hex-far (a .line .now) (l .i) (l .left) (l .number) (c .before .before .loop-test .taken) (c .before .if2 .taken)))
+
+shared-slice-read-c : tie.Need-shared-slice-read-c Inv-loop μ-loop
+shared-slice-read-c c = omega arith
+
+is-hex-digit-requires : tie.Need-is-hex-digit-requires Inv-loop μ-loop
+is-hex-digit-requires c κs = search needs
+
+unreadable-requires-3 : tie.Need-unreadable-requires-3 Inv-loop μ-loop
+unreadable-requires-3 c κs = search needs
+
+returns-3 : tie.Need-returns-3 Inv-loop μ-loop
+returns-3 c =
+    let a = c .before .before .before .before .before .before .before .before .before .before .args in
+    let l = c .before .before .before .before .before .before .loop in
+    c .unreadable3 .ensures
+    ∙ sym (value-is (c .before .before .before .before .before .before .before) _ (l .inv .2 ∙ hex-other (a .line .now) (l .i) (l .left) (l .number) (c .before .before .before .before .before .loop-test .taken) (c .before .before .before .before .if2 .left) (sym (c .before .before .is-hex-digit .ensures) ∙ not-true _ (c .before .if3 .taken))))
+
+mul-number : tie.Need-mul-number Inv-loop μ-loop
+mul-number c =
+    let d = grows c 0 (omega arith) in
+    omega arith
+
+hex-number-requires : tie.Need-hex-number-requires Inv-loop μ-loop
+hex-number-requires c κs = sym (c .before .is-hex-digit .ensures) ∙ not-false _ (c .if3 .left)
+
+add-number : tie.Need-add-number Inv-loop μ-loop
+add-number c =
+    let d = grows (c .before) (c .hex-number .result) (small c) in
+    omega arith
+
+sub-left : tie.Need-sub-left Inv-loop μ-loop
+sub-left c = omega arith
+
+add-i : tie.Need-add-i Inv-loop μ-loop
+add-i c = omega arith
+
+loop-less : tie.Need-loop-less Inv-loop μ-loop
+loop-less c = omega arith
+
+loop-again : tie.Need-loop-again Inv-loop μ-loop
+loop-again c =
+    let a = c .before .before .before .before .before .before .before .before .before .before .args in
+    let l = c .before .before .before .before .before .before .loop in
+    let e : (a .count - l .left) + 1 ≡ a .count - (l .left - 1) = omega arith in (
+      omega arith,
+      subst (λ (k : ℕ). l .number * 16 + c .hex-number .result < 16 ^ k) e (grown-at (c .before) (c .hex-number .result) (small c)),
+      l .inv .2
+          ∙ hex-more (a .line .now) (l .i) (l .left) (l .number) (c .before .before .before .before .before .loop-test .taken) (c .before .before .before .before .if2 .left) (digit (c .before))
+          ∙ ap (λ (d : ℕ). readHex (l .left - 1) (l .number * 16 + d) (drop (l .i + 1) (a .line .now))) (sym (c .hex-number .ensures)),
+    )
+
+returns-4 : tie.Need-returns-4 Inv-loop μ-loop
+returns-4 c =
+    let a = c .before .before .before .before .before .args in
+    let l = c .before .loop in
+    sym (value-is (c .before .before) _ (l .inv .2 ∙ hex-end (drop (l .i) (a .line .now)) (l .left) (l .number) (c .loop-test .left)))
+
+pub hex-spec : {M : Type 1} → statement M
+hex-spec =
+    tie.close
+    (tie.spec
+    Inv-loop
+    μ-loop
+    unreadable-requires
+    returns
+    loop-holds
+    unreadable-requires-2
+    returns-2
+    shared-slice-read-c
+    is-hex-digit-requires
+    unreadable-requires-3
+    returns-3
+    mul-number
+    hex-number-requires
+    add-number
+    sub-left
+    add-i
+    loop-less
+    loop-again
+    returns-4)

@@ -1,0 +1,72 @@
+use native.Mathlib.Omega.{arith}
+use Prim.Native.Nat.{_≤_, _-_}
+use mathlib.Core.Path.{_≡_, refl, sym, _∙_}
+use lib.ListN.{length, drop}
+use Rattle.text_ascii.specs.Bytes.{begins}
+use Rattle.text_entry.proofs.Words.{begins-ends, begins-differs, begins-goes-on, begins-whole}
+use Rattle.text_entry.proofs.value.starts.Statement.{statement}
+use Rattle.text_entry.proofs.value.starts.Tie as tie
+
+abbrev Inv-loop : tie.InvT-loop
+Inv-loop line at word i₀ to₀ i to = (i ≤ length word) × (begins (drop at line) word ≡ begins (drop to line) (drop i word))
+
+abbrev μ-loop : tie.MeasureT-loop
+μ-loop line at word i₀ to₀ i to = length word - i
+
+loop-holds : tie.Need-loop-holds Inv-loop μ-loop
+loop-holds c = (omega arith, refl)
+
+returns : tie.Need-returns Inv-loop μ-loop
+returns c =
+    let a = c .before .before .before .args in
+    sym (c .before .before .loop .inv .1 ∙ begins-ends (a .line .now) (a .word .now) (c .before .before .loop .to) (c .before .before .loop .i) (c .before .loop-test .taken) (c .if1 .taken))
+
+shared-slice-read-if2 : tie.Need-shared-slice-read-if2 Inv-loop μ-loop
+shared-slice-read-if2 c = omega arith
+
+shared-slice-read-if2-2 : tie.Need-shared-slice-read-if2-2 Inv-loop μ-loop
+shared-slice-read-if2-2 c = omega arith
+
+returns-2 : tie.Need-returns-2 Inv-loop μ-loop
+returns-2 c =
+    let a = c .before .before .before .before .before .before .args in
+    let l = c .before .before .before .before .before .loop in
+    sym (l .inv .1 ∙ begins-differs (a .line .now) (a .word .now) (l .to) (l .i) (c .before .before .before .before .loop-test .taken) (c .before .before .before .if1 .left) (c .if2 .taken))
+
+add-to : tie.Need-add-to Inv-loop μ-loop
+add-to c = omega arith
+
+add-i : tie.Need-add-i Inv-loop μ-loop
+add-i c = omega arith
+
+loop-less : tie.Need-loop-less Inv-loop μ-loop
+loop-less c = omega arith
+
+loop-again : tie.Need-loop-again Inv-loop μ-loop
+loop-again c =
+    let a = c .before .before .before .before .before .before .args in
+    let l = c .before .before .before .before .before .loop in
+    (omega arith, l .inv .1 ∙ begins-goes-on (a .line .now) (a .word .now) (l .to) (l .i) (c .before .before .before .before .loop-test .taken) (c .before .before .before .if1 .left) (c .if2 .left))
+
+returns-3 : tie.Need-returns-3 Inv-loop μ-loop
+returns-3 c =
+    let a = c .before .before .args in
+    let l = c .before .loop in
+    sym (l .inv .1 ∙ begins-whole (drop (l .to) (a .line .now)) (a .word .now) (l .i) (c .loop-test .left))
+
+pub starts-spec : {M : Type 1} → statement M
+starts-spec =
+    tie.close
+    (tie.spec
+    Inv-loop
+    μ-loop
+    loop-holds
+    returns
+    shared-slice-read-if2
+    shared-slice-read-if2-2
+    returns-2
+    add-to
+    add-i
+    loop-less
+    loop-again
+    returns-3)

@@ -1,0 +1,64 @@
+-- The line of an entry, as `plain` reads it: how it is written, and how it reads.
+use Prim.Native.Nat.{ℕ, _<_}
+use mathlib.Core.Bool.{Bool, false, cond}
+use mathlib.Core.List.{List, [], _∷_}
+use mathlib.Core.Logic.{_⊎_}
+use mathlib.Core.Option.{Option}
+use mathlib.Core.Path.{_≡_}
+use lib.Dec.{eqb}
+use Rattle.log_entry.specs.declared.Entry.{Entry}
+use Rattle.log_entry.specs.Entry.{takeEntry, voteEntry}
+use Rattle.log_entry.specs.Limits.{lists, updates}
+use Rattle.text_entry.specs.declared.Reading.{Reading}
+use Rattle.text_entry.specs.declared.Reading.the-variants.{Read, Outside, Unreadable}
+use Rattle.text_entry.specs.Fields.{lineText}
+use Rattle.text_entry.specs.Kinds.{takeKind, voteKind}
+use Rattle.text_entry.specs.Table.{Reader, anyBeyond, answerOf, at, readFirst, reader}
+
+-- say is 0 for abort and 1 for commit
+abbrev pub sayOf : Bool → ℕ
+sayOf c = cond c 1 0
+
+-- the values of the fields of a take, and of a vote
+abbrev pub takeValues : Entry → List ℕ
+takeValues e = e .process ∷ e .store ∷ []
+
+abbrev pub voteValues : Entry → List ℕ
+voteValues e = e .process ∷ e .by ∷ e .store ∷ e .tx ∷ e .participants ∷ sayOf (e .commit) ∷ e .update ∷ []
+
+-- the line of an entry, whose numbers are of any size
+unfoldable pub text : Entry → List ℕ
+text e = cond (e .take) (lineText takeKind (takeValues e)) (lineText voteKind (voteValues e))
+
+-- an entry has a text if it is a take, what a take does not use being 0, or a vote whose list and update have their digits
+abbrev pub HasText : Entry → Type 0
+HasText e = (e ≡ takeEntry (e .process) (e .store)) ⊎ ((e .take ≡ false) × (e .participants < lists) × (e .update < updates))
+
+-- the entry of a line's values
+abbrev pub takeOf : List ℕ → Entry
+takeOf vs = takeEntry (at vs 0) (at vs 1)
+
+abbrev pub voteOf : List ℕ → Entry
+voteOf vs = voteEntry (at vs 0) (at vs 1) (at vs 2) (at vs 3) (at vs 4) (eqb (at vs 5) 1) (at vs 6)
+
+abbrev pub entryReaders : List (Reader Entry)
+entryReaders = reader takeKind takeOf ∷ reader voteKind voteOf ∷ []
+
+-- the entry that a line reads as, whose numbers are of any size
+unfoldable pub readEntry : List ℕ → Option Entry
+readEntry s = readFirst entryReaders s
+
+-- the numbers of an entry, but for its update, which is of any 32 bits
+abbrev pub numbers : Entry → List ℕ
+numbers e = e .process ∷ e .by ∷ e .store ∷ e .tx ∷ e .participants ∷ []
+
+-- one of them is beyond a byte
+abbrev pub beyond : Entry → Bool
+beyond e = anyBeyond (numbers e)
+
+abbrev pub readingOf : Option Entry → Reading
+readingOf = answerOf beyond Read Outside Unreadable
+
+-- what the reader answers: `Outside` if a number is beyond a byte; what else is outside its limits, the log refuses
+abbrev pub reading : List ℕ → Reading
+reading s = readingOf (readEntry s)

@@ -1,0 +1,148 @@
+// The text of steps: document 01's "Step files".
+pub mod decimals;
+pub mod fields;
+pub mod value;
+
+ghost use mathlib.Core.Option.{some};
+ghost use mathlib.Core.Path.{_≡_};
+ghost use lib.Dec.{eqb};
+ghost use Rattle.log_entry.specs.Entry.{voteEntry};
+ghost use Rattle.text_entry.specs.Decimals.{answerBy};
+ghost use Rattle.text_entry.specs.declared.Reading.the-variants.{Read, Outside, Unreadable};
+ghost use Rattle.text_entry.specs.Fields.{nameText};
+ghost use Rattle.text_entry.specs.Follows.{Follows, voteParts};
+ghost use Rattle.text_entry.specs.Kinds.{say, takeKind, voteKind};
+ghost use Rattle.text_entry.specs.Read.{part, after, readKind, valueAfter};
+ghost use Rattle.text_entry.specs.Seen.{seen};
+ghost use Rattle.text_entry.specs.Table.{made};
+ghost use Rattle.text_entry.specs.Entry.{readingOf, reading, takeOf, voteOf};
+use decimals::Decimals;
+use log_entry::Entry;
+use value::Value;
+
+// What a line is: an entry; the text of an entry with a number beyond a byte; or no text of an entry.
+pub enum Reading {
+    Read(Entry),
+    Outside,
+    Unreadable,
+}
+
+// The values of a vote's fields.
+pub struct VoteParts {
+    pub process: Value,
+    pub by: Value,
+    pub store: Value,
+    pub tx: Value,
+    pub list: Value,
+    pub say: Value,
+    pub update: Value,
+}
+
+// The answer to a line of these decimals that stands for the entry.
+fn answer(d: Decimals, entry: Entry) -> Reading
+    ensures { λ r. ⌜ r ≡ answerBy Read Outside Unreadable d entry ⌝ }
+{
+    if !d.readable {
+        return Reading::Unreadable;
+    }
+    if !d.fit {
+        return Reading::Outside;
+    }
+    Reading::Read(entry)
+}
+
+fn read_take(line: &[u8]) -> Reading
+    ensures { λ r. ⌜ r ≡ readingOf (made takeOf (readKind takeKind (now (line .entry)))) ⌝ }
+{
+    let d = decimals::two(line, b"take", b"proc", b"store");
+    let entry = Entry::take_of(d.first, d.second);
+    answer(d, entry)
+}
+
+// The vote of these numbers.
+pub fn made_vote(
+    process: u32,
+    by: u32,
+    store: u32,
+    tx: u32,
+    list: u32,
+    say: u32,
+    update: u32,
+) -> Reading
+    ensures { λ r. ⌜ r ≡ readingOf (some (voteEntry process by store tx list (eqb say 1) update)) ⌝ }
+{
+    if !decimals::bytes(process, by, store, tx, list) {
+        return Reading::Outside;
+    }
+    Reading::Read(Entry {
+        take: false,
+        process: process as u8,
+        by: by as u8,
+        store: store as u8,
+        tx: tx as u8,
+        participants: list as u8,
+        commit: say == 1,
+        update,
+    })
+}
+
+// The values of a line that begins with a vote's name and fields.
+pub fn vote_parts(line: &[u8]) -> VoteParts
+    ensures { λ r. ⌜ Follows (voteKind .fields) (after (nameText voteKind) (part 0 (now (line .entry)))) (voteParts (now (line .entry)) r) ⌝ }
+{
+    let name = fields::named(line, b"vote");
+    let process = fields::decimal(line, name, b"proc");
+    let by = fields::decimal(line, process, b"by");
+    let store = fields::decimal(line, by, b"store");
+    let tx = fields::decimal(line, store, b"tx");
+    let list = value::two_digits(line, fields::keyed(line, tx, b"list"));
+    let say = said(line, fields::keyed(line, list, b"say"));
+    let update = value::eight_digits(line, fields::keyed(line, say, b"upd"));
+    VoteParts {
+        process,
+        by,
+        store,
+        tx,
+        list,
+        say,
+        update,
+    }
+}
+
+fn read_vote(line: &[u8]) -> Reading
+    ensures { λ r. ⌜ r ≡ readingOf (made voteOf (readKind voteKind (now (line .entry)))) ⌝ }
+{
+    let v = vote_parts(line);
+    if !fields::ends(line, v.update) {
+        return Reading::Unreadable;
+    }
+    made_vote(
+        v.process.number,
+        v.by.number,
+        v.store.number,
+        v.tx.number,
+        v.list.number,
+        v.say.number,
+        v.update.number,
+    )
+}
+
+// Behind a value: abort, which is 0, or commit, which is 1.
+fn said(line: &[u8], before: Value) -> Value
+    ensures { λ r. ⌜ seen (now (line .entry)) r ≡ valueAfter (say .form) (seen (now (line .entry)) before) ⌝ }
+{
+    let other = value::unreadable(line);
+    let commit = value::word(line, before, b"commit", 1, other);
+    value::word(line, before, b"abort", 0, commit)
+}
+
+// The entry whose text the line is.
+pub fn read_entry(line: &[u8]) -> Reading
+    ensures { λ r. ⌜ r ≡ reading (now (line .entry)) ⌝ }
+{
+    match read_take(line) {
+        Reading::Read(entry) => Reading::Read(entry),
+        Reading::Outside => Reading::Outside,
+        Reading::Unreadable => read_vote(line),
+    }
+}

@@ -1,0 +1,221 @@
+// Values of a line, read one behind the other. What does not read makes all behind it unreadable.
+ghost use Prim.Native.Nat.{_≤_, min};
+ghost use mathlib.Core.Path.{_≡_};
+ghost use mathlib.Core.Bool.{true};
+ghost use lib.ListN.{drop};
+ghost use Rattle.text_ascii.specs.Bytes.{begins};
+ghost use Rattle.text_ascii.specs.Decimal.{beginsDigit};
+ghost use Rattle.text_ascii.specs.Hex.{isHexDigit as Hex·isHexDigit, hexDigitOf};
+ghost use Rattle.text_entry.specs.Fields.{inDecimal, inHex};
+ghost use Rattle.text_entry.specs.Read.{after as Read·after, leadingZero, readDigits, valueAfter};
+ghost use Rattle.text_entry.specs.Read.{unreadable as Read·unreadable};
+ghost use Rattle.text_entry.specs.Seen.{seen, capped, wordAfter};
+
+// The number up to which decimals are counted: the first that no byte holds.
+const MOST: u32 = 256;
+
+// A value read from a line: whether it reads, its number, and where it ends in the line.
+pub struct Value {
+    pub readable: bool,
+    pub number: u32,
+    pub end: usize,
+}
+
+// What does not read.
+pub fn unreadable(line: &[u8]) -> Value
+    ensures { λ r. ⌜ seen (now (line .entry)) r ≡ Read·unreadable ⌝ }
+{
+    Value {
+        readable: false,
+        number: 0,
+        end: line.len(),
+    }
+}
+
+// Whether the word stands in the line at a place.
+fn starts(line: &[u8], at: usize, word: &[u8]) -> bool
+    ensures { λ r. ⌜ r ≡ begins (drop at (now (line .entry))) (now (word .entry)) ⌝ }
+{
+    let mut i: usize = 0;
+    let mut to = at;
+    while i < word.len() {
+        if line.len() <= to {
+            return false;
+        }
+        if line[to] != word[i] {
+            return false;
+        }
+        to += 1;
+        i += 1;
+    }
+    true
+}
+
+// Behind a value: these bytes.
+pub fn after(line: &[u8], before: Value, word: &[u8]) -> Value
+    ensures { λ r. ⌜ seen (now (line .entry)) r ≡ Read·after (now (word .entry)) (seen (now (line .entry)) before) ⌝ }
+{
+    if !before.readable {
+        return unreadable(line);
+    }
+    let at = before.end;
+    if !starts(line, at, word) {
+        return unreadable(line);
+    }
+    Value {
+        readable: true,
+        number: 0,
+        end: at + word.len(),
+    }
+}
+
+// Whether a digit stands in the line at a place.
+fn is_digit(line: &[u8], at: usize) -> bool
+    ensures { λ r. ⌜ r ≡ beginsDigit (drop at (now (line .entry))) ⌝ }
+{
+    if line.len() <= at {
+        return false;
+    }
+    if line[at] < 48 {
+        return false;
+    }
+    line[at] <= 57
+}
+
+// Whether a 0 with a digit behind it stands there.
+fn leading_zero(line: &[u8], at: usize) -> bool
+    ensures { λ r. ⌜ r ≡ leadingZero (drop at (now (line .entry))) ⌝ }
+{
+    if line.len() <= at {
+        return false;
+    }
+    if line[at] != 48 {
+        return false;
+    }
+    is_digit(line, at + 1)
+}
+
+fn least(a: u32, b: u32) -> u32
+    ensures { λ r. ⌜ r ≡ min a b ⌝ }
+{
+    if a < b { a } else { b }
+}
+
+// All digits from a place on.
+fn digits(line: &[u8], at: usize) -> Value
+    ensures { λ r. ⌜ seen (now (line .entry)) r ≡ capped (readDigits 0 (drop at (now (line .entry)))) ⌝ }
+{
+    let mut number: u32 = 0;
+    let mut i = at;
+    while is_digit(line, i) {
+        number = least(number * 10 + (line[i] - 48) as u32, MOST);
+        i += 1;
+    }
+    Value {
+        readable: true,
+        number,
+        end: i,
+    }
+}
+
+// Behind a value: a decimal.
+pub fn decimal(line: &[u8], before: Value) -> Value
+    ensures { λ r. ⌜ seen (now (line .entry)) r ≡ capped (valueAfter inDecimal (seen (now (line .entry)) before)) ⌝ }
+{
+    if !before.readable {
+        return unreadable(line);
+    }
+    let at = before.end;
+    if !is_digit(line, at) {
+        return unreadable(line);
+    }
+    if leading_zero(line, at) {
+        return unreadable(line);
+    }
+    digits(line, at)
+}
+
+// Whether the byte is a lower-case hexadecimal digit's.
+fn is_hex_digit(c: u8) -> bool
+    ensures { λ r. ⌜ r ≡ Hex·isHexDigit c ⌝ }
+{
+    if c < 48 {
+        return false;
+    }
+    if c <= 57 {
+        return true;
+    }
+    if c < 97 {
+        return false;
+    }
+    c <= 102
+}
+
+fn hex_number(c: u8) -> u32
+    requires { ⌜ Hex·isHexDigit c ≡ true ⌝ }
+    ensures { λ r. ⌜ r ≡ hexDigitOf c ⌝ }
+{
+    if c <= 57 {
+        return (c - 48) as u32;
+    }
+    (c - 87) as u32
+}
+
+// Behind a value: so many hexadecimal digits.
+fn hex(line: &[u8], before: Value, count: usize) -> Value
+    requires { ⌜ count ≤ 8 ⌝ }
+    ensures { λ r. ⌜ seen (now (line .entry)) r ≡ valueAfter (inHex count) (seen (now (line .entry)) before) ⌝ }
+{
+    if !before.readable {
+        return unreadable(line);
+    }
+    let mut number: u32 = 0;
+    let mut left = count;
+    let mut i = before.end;
+    while 0 < left {
+        if line.len() <= i {
+            return unreadable(line);
+        }
+        let c = line[i];
+        if !is_hex_digit(c) {
+            return unreadable(line);
+        }
+        number = number * 16 + hex_number(c);
+        left -= 1;
+        i += 1;
+    }
+    Value {
+        readable: true,
+        number,
+        end: i,
+    }
+}
+
+// Behind a value: two hexadecimal digits.
+pub fn two_digits(line: &[u8], before: Value) -> Value
+    ensures { λ r. ⌜ seen (now (line .entry)) r ≡ valueAfter (inHex 2) (seen (now (line .entry)) before) ⌝ }
+{
+    hex(line, before, 2)
+}
+
+// Behind a value: eight hexadecimal digits.
+pub fn eight_digits(line: &[u8], before: Value) -> Value
+    ensures { λ r. ⌜ seen (now (line .entry)) r ≡ valueAfter (inHex 8) (seen (now (line .entry)) before) ⌝ }
+{
+    hex(line, before, 8)
+}
+
+// Behind a value: the word, which has this number, or else another value.
+pub fn word(line: &[u8], before: Value, word: &[u8], number: u32, other: Value) -> Value
+    ensures { λ r. ⌜ seen (now (line .entry)) r ≡ wordAfter (now (word .entry)) number (seen (now (line .entry)) before) (seen (now (line .entry)) other) ⌝ }
+{
+    let found = after(line, before, word);
+    if !found.readable {
+        return other;
+    }
+    Value {
+        readable: true,
+        number,
+        end: found.end,
+    }
+}

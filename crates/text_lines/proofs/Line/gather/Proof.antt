@@ -1,0 +1,88 @@
+use native.Mathlib.Omega.{arith}
+use Prim.Native.Nat.{_-_, _+_}
+use mathlib.Core.Path.{_≡_, refl, sym, _∙_, ap}
+use lib.ListN.{length, drop, getD}
+use Rattle.text_lines.specs.declared.Line.{Line}
+use Rattle.text_lines.specs.Line.{gathered}
+use Rattle.text_lines.proofs.Gathering.{gathered-lf, gathered-byte, gathered-end, with-room, without-room}
+use Rattle.text_lines.proofs.Line.gather.Statement.{statement}
+use Rattle.text_lines.proofs.Line.gather.Tie as tie
+
+abbrev Inv-loop : tie.InvT-loop
+Inv-loop piece at self₀ i₀ self i = gathered self₀ (drop at piece) ≡ gathered self (drop i piece)
+
+abbrev μ-loop : tie.MeasureT-loop
+μ-loop piece at self₀ i₀ self i = length piece - i
+
+loop-holds : tie.Need-loop-holds Inv-loop μ-loop
+loop-holds c = refl
+
+shared-slice-read-c : tie.Need-shared-slice-read-c Inv-loop μ-loop
+shared-slice-read-c c = omega arith
+
+add-i : tie.Need-add-i Inv-loop μ-loop
+add-i c = omega arith
+
+returns : tie.Need-returns Inv-loop μ-loop
+returns c =
+    let l = c .before .before .before .loop in
+    sym (l .inv ∙ gathered-lf (l .self) (c .before .before .before .before .args .piece .now) (l .i) (c .before .before .loop-test .taken) (c .if1 .taken))
+
+cast-self : tie.Need-cast-self Inv-loop μ-loop
+cast-self c = omega arith
+
+element-write-self : tie.Need-element-write-self Inv-loop μ-loop
+element-write-self c = omega arith
+
+add-self : tie.Need-add-self Inv-loop μ-loop
+add-self c = omega arith
+
+loop-less : tie.Need-loop-less Inv-loop μ-loop
+loop-less c = omega arith
+
+loop-again : tie.Need-loop-again Inv-loop μ-loop
+loop-again c =
+    let l = c .before .before .before .before .loop in
+    let s = c .before .before .before .before .before .args .piece .now in
+    l .inv
+    ∙ gathered-byte (l .self) s (l .i) (c .before .before .before .loop-test .taken) (c .before .if1 .left)
+    ∙ ap (λ (k : Line). gathered k (drop (l .i + 1) s)) (with-room (l .self) (getD s (l .i) 0) (c .if2 .taken))
+
+add-self-2 : tie.Need-add-self-2 Inv-loop μ-loop
+add-self-2 c = omega arith
+
+loop-less-2 : tie.Need-loop-less-2 Inv-loop μ-loop
+loop-less-2 c = omega arith
+
+loop-again-2 : tie.Need-loop-again-2 Inv-loop μ-loop
+loop-again-2 c =
+    let l = c .before .before .before .before .loop in
+    let s = c .before .before .before .before .before .args .piece .now in
+    l .inv
+    ∙ gathered-byte (l .self) s (l .i) (c .before .before .before .loop-test .taken) (c .before .if1 .left)
+    ∙ ap (λ (k : Line). gathered k (drop (l .i + 1) s)) (without-room (l .self) (getD s (l .i) 0) (c .if2 .left))
+
+returns-2 : tie.Need-returns-2 Inv-loop μ-loop
+returns-2 c =
+    let l = c .before .loop in
+    sym (l .inv ∙ gathered-end (l .self) (c .before .before .args .piece .now) (l .i) (c .loop-test .left))
+
+pub gather-spec : {M : Type 1} → statement M
+gather-spec =
+    tie.close
+    (tie.spec
+    Inv-loop
+    μ-loop
+    loop-holds
+    shared-slice-read-c
+    add-i
+    returns
+    cast-self
+    element-write-self
+    add-self
+    loop-less
+    loop-again
+    add-self-2
+    loop-less-2
+    loop-again-2
+    returns-2)

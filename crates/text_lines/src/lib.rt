@@ -1,0 +1,97 @@
+// The lines of a step file, gathered from pieces of any length.
+ghost use mathlib.Core.Path.{_≡_};
+ghost use lib.ListN.{drop};
+ghost use Rattle.text_lines.specs.Line.{noLine, gathered, seen};
+ghost use Rattle.text_lines.specs.Answers.{noAnswers, noted};
+
+// A line holds at most so many bytes without its LF.
+pub const LONGEST: u8 = 100;
+
+// A program reads at most so many lines.
+pub const MOST: u16 = 1000;
+
+const LF: u8 = 10;
+
+// The bytes of a line, as far as it is gathered: their number, up to one more than a line may hold, and the first of them.
+pub struct Line {
+    pub length: u8,
+    pub bytes: [u8; 100],
+}
+
+// What was gathered from a piece: the line, whether an LF ended it, and where the piece goes on.
+pub struct Gathered {
+    pub line: Line,
+    pub ended: bool,
+    pub next: usize,
+}
+
+impl Line {
+    pub fn none() -> Line
+        ensures { λ r. ⌜ r ≡ noLine ⌝ }
+    {
+        Line {
+            length: 0,
+            bytes: [0; 100],
+        }
+    }
+
+    // Adds the bytes of a piece from a place on, up to an LF or the piece's end.
+    pub fn gather(mut self, piece: &[u8], at: usize) -> Gathered
+        ensures { λ r. ⌜ seen (now (piece .entry)) r ≡ gathered self (drop at (now (piece .entry))) ⌝ }
+    {
+        let mut i = at;
+        while i < piece.len() {
+            let c = piece[i];
+            i += 1;
+            if c == LF {
+                return Gathered {
+                    line: self,
+                    ended: true,
+                    next: i,
+                };
+            }
+            let n = self.length;
+            if n < LONGEST {
+                self.bytes[n as usize] = c;
+                self.length = n + 1;
+            } else {
+                self.length = LONGEST + 1;
+            }
+        }
+        Gathered {
+            line: self,
+            ended: false,
+            next: i,
+        }
+    }
+}
+
+// The answers to the lines so far.
+pub struct Answers {
+    pub count: u16,
+    pub answers: [u8; 1001],
+}
+
+impl Answers {
+    pub fn none() -> Answers
+        ensures { λ r. ⌜ r ≡ noAnswers ⌝ }
+    {
+        Answers {
+            count: 0,
+            answers: [0; 1001],
+        }
+    }
+
+    // One answer more, if there is room.
+    pub fn noted(mut self, answer: u8) -> Answers
+        ensures { λ r. ⌜ r ≡ noted self answer ⌝ }
+    {
+        let n = self.count;
+        if MOST < n {
+            return self;
+        }
+        self.answers[n as usize] = answer;
+        self.count = n + 1;
+        self
+    }
+}

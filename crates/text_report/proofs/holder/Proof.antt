@@ -1,0 +1,29 @@
+use mathlib.Core.Path.{sym, _∙_}
+use Rattle.text_report.proofs.Lengths.{within-nothing, within-as}
+use Rattle.text_report.proofs.Texts.{not-held, held}
+use borrow.Author.Needs.{needs}
+use Rattle.text_report.proofs.holder.Statement.{statement}
+use Rattle.text_report.proofs.holder.Tie as tie
+
+holder-requires : tie.Need-holder-requires
+holder-requires c κs = search needs
+
+returns : tie.Need-returns
+returns c =
+    let a = c .before .before .before .args in
+    within-as (not-held (a .log) (a .store) (sym (c .before .holder .ensures) ∙ c .if1 .taken)) (within-nothing _ _ _)
+
+holder-line-requires : tie.Need-holder-line-requires
+holder-line-requires c κs = search needs
+
+same-length : tie.Need-same-length
+same-length c = search needs
+
+returns-2 : tie.Need-returns-2
+returns-2 c =
+    let a = c .before .before .before .before .before .before .before .args in
+    within-as (held (a .log) (a .store) (c .before .before .before .before .before .holder .result) (c .before .before .before .before .before .holder .ensures) (c .before .before .before .before .if1 .left)) (c .before .before .holder-line .ensures)
+
+pub holder-spec : {M : Type 1} → statement M
+holder-spec =
+    tie.close (tie.spec holder-requires returns holder-line-requires same-length returns-2)

@@ -1,0 +1,73 @@
+-- "The program `plain` reads standard input and prints for each line its number and answer, then for every tx with a kept vote its outcome
+-- and group (0 if none), each held store with its holder, and each replay."
+use Prim.Native.Nat.{ℕ, suc}
+use mathlib.Core.Bool.{cond}
+use mathlib.Core.List.{List, [], _++_}
+use lib.Dec.{eqb}
+use lib.ListN.{getD, length, take}
+use Rattle.text_ascii.specs.Bytes.{ascii}
+use Rattle.text_ascii.specs.Decimal.{decimal}
+use Rattle.text_ascii.specs.Hex.{hex}
+use Rattle.log_entry.specs.Limits.{stores, transactions}
+use Rattle.log_core.specs.declared.Log.{Log}
+use Rattle.log_core.specs.declared.Outcome.{Outcome}
+use Rattle.log_core.specs.declared.Outcome.the-variants.{Open, Commit, Abort}
+use Rattle.log_core.specs.declared.Replay.{Replay}
+use Rattle.log_core.specs.declared.Replayed.{Replayed}
+use Rattle.log_core.specs.Log.{groupOf, holderOf, rowOf}
+use Rattle.log_core.specs.Outcome.{isKept, outcomeOf}
+use Rattle.log_core.specs.Replay.{noReplayed, replayRows}
+use Rattle.log_core.specs.Scan.{anyFrom}
+
+-- the texts of 0 to n - 1, one behind the other
+unfoldable pub each : (ℕ → List ℕ) → ℕ → List ℕ
+each text ℕ.zero = []
+each text (suc n) = each text n ++ text n
+
+abbrev pub end : List ℕ
+end = ascii "\n"
+
+-- a key and its decimal
+abbrev pub field : List ℕ → ℕ → List ℕ
+field key n = key ++ decimal n
+
+abbrev pub stepLine : ℕ → ℕ → List ℕ
+stepLine number answer = field (ascii "step=") number ++ field (ascii " answer=") answer ++ end
+
+-- the answers, the first being that of line 1
+abbrev pub answersText : List ℕ → List ℕ
+answersText answers = each (λ i. stepLine (suc i) (getD answers i 0)) (length answers)
+
+abbrev pub outcomeWord : Outcome → List ℕ
+outcomeWord Open = ascii "open"
+outcomeWord Commit = ascii "commit"
+outcomeWord Abort = ascii "abort"
+
+abbrev pub txLine : ℕ → Outcome → ℕ → List ℕ
+txLine tx outcome group = field (ascii "tx=") tx ++ ascii " outcome=" ++ outcomeWord outcome ++ field (ascii " group=") group ++ end
+
+-- of a transaction with a kept vote
+abbrev pub txText : Log → ℕ → List ℕ
+txText l tx = cond (anyFrom isKept 0 (rowOf l tx .votes)) (txLine tx (outcomeOf l tx) (groupOf l tx)) []
+
+abbrev pub holderLine : ℕ → ℕ → List ℕ
+holderLine store holder = field (ascii "store=") store ++ field (ascii " holder=") holder ++ end
+
+-- of a store that is held
+abbrev pub holderText : Log → ℕ → List ℕ
+holderText l store = cond (eqb (holderOf l store) 0) [] (holderLine store (holderOf l store))
+
+abbrev pub replayLine : ℕ → Replayed → List ℕ
+replayLine store r =
+    field (ascii "store=") store ++ field (ascii " group=") (r .group) ++ field (ascii " tx=") (r .tx) ++ ascii " upd=" ++ hex 8 (r .update) ++ end
+
+abbrev pub replayText : ℕ → List Replayed → List ℕ
+replayText store rows = each (λ i. replayLine store (getD rows i noReplayed)) (length rows)
+
+-- the rows of a replay: the first `count`
+abbrev pub rowsOf : Replay → List Replayed
+rowsOf r = take (r .count) (r .rows)
+
+-- a log as it is printed
+unfoldable pub logText : Log → List ℕ
+logText l = each (txText l) transactions ++ each (holderText l) stores ++ each (λ s. replayText s (replayRows l s)) stores

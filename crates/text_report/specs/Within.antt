@@ -1,0 +1,27 @@
+-- What a function that prints leaves in the buffer, and how much room it takes at most.
+use Prim.Native.Nat.{ℕ, _≤_, _+_, _*_}
+use mathlib.Core.List.{List}
+use lib.ListN.{length}
+use Rattle.text_ascii.specs.Wrote.{Wrote}
+use Rattle.log_entry.specs.Limits.{stores, transactions}
+use Rattle.text_lines.specs.Lines.{most}
+
+pub record Within (room : ℕ) (before : List ℕ) (at : ℕ) (text after : List ℕ) (next : ℕ) : Type 0 where
+  pub wrote : Wrote before at text after next
+  pub within : length text ≤ room
+
+-- no printed line is longer
+abbrev pub longestLine : ℕ
+longestLine = 40
+
+-- no replay prints as more: a line for each row
+abbrev pub longestReplay : ℕ
+longestReplay = transactions * longestLine
+
+-- no log prints as more: a line for each transaction and each store, and each replay
+abbrev pub longestLog : ℕ
+longestLog = (transactions + stores) * longestLine + stores * longestReplay
+
+-- no answers print as more
+abbrev pub longestAnswers : ℕ
+longestAnswers = (most + 1) * longestLine

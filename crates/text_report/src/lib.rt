@@ -1,0 +1,182 @@
+// What is printed of a log and of answers, line by line into a buffer. Each function answers the next place in the buffer.
+ghost use Prim.Native.Nat.{_*_, _<_};
+ghost use Rattle.log_entry.specs.Limits.{stores, transactions};
+ghost use Rattle.text_ascii.specs.Wrote.{Wrote};
+ghost use Rattle.log_core.specs.Replay.{replayRows};
+ghost use Rattle.text_lines.specs.Answers.{answersOf};
+ghost use Rattle.text_report.specs.Report.{answersText, each, field, holderLine, holderText, logText, outcomeWord, replayLine, replayText, rowsOf, stepLine, txLine, txText};
+ghost use Rattle.text_report.specs.Within.{Within, longestAnswers, longestLine, longestLog, longestReplay};
+use log_core::Log;
+use log_core::Outcome;
+use log_core::Replay;
+use log_entry::limits::STORES;
+use log_entry::limits::TRANSACTIONS;
+use text_lines::Answers;
+use text_lines::MOST;
+
+// A key and its decimal.
+pub fn field(out: &mut [u8], at: usize, key: &[u8], n: u32) -> usize
+    ensures { λ r. ⌜ Wrote (now (out .entry)) at (field (now (key .entry)) n) (now (out .exit)) r ⌝ }
+{
+    let at = text_ascii::word(out, at, key);
+    text_ascii::decimal(out, at, n)
+}
+
+pub fn step_line(out: &mut [u8], at: usize, number: u16, answer: u8) -> usize
+    ensures { λ r. ⌜ Within longestLine (now (out .entry)) at (stepLine number answer) (now (out .exit)) r ⌝ }
+{
+    let at = field(out, at, b"step=", number as u32);
+    let at = field(out, at, b" answer=", answer as u32);
+    text_ascii::word(out, at, b"\n")
+}
+
+pub fn outcome_word(out: &mut [u8], at: usize, outcome: Outcome) -> usize
+    ensures { λ r. ⌜ Within 6 (now (out .entry)) at (outcomeWord outcome) (now (out .exit)) r ⌝ }
+{
+    match outcome {
+        Outcome::Open => text_ascii::word(out, at, b"open"),
+        Outcome::Commit => text_ascii::word(out, at, b"commit"),
+        Outcome::Abort => text_ascii::word(out, at, b"abort"),
+    }
+}
+
+pub fn tx_line(out: &mut [u8], at: usize, tx: u8, outcome: Outcome, group: u8) -> usize
+    ensures { λ r. ⌜ Within longestLine (now (out .entry)) at (txLine tx outcome group) (now (out .exit)) r ⌝ }
+{
+    let at = field(out, at, b"tx=", tx as u32);
+    let at = text_ascii::word(out, at, b" outcome=");
+    let at = outcome_word(out, at, outcome);
+    let at = field(out, at, b" group=", group as u32);
+    text_ascii::word(out, at, b"\n")
+}
+
+pub fn holder_line(out: &mut [u8], at: usize, store: u8, holder: u8) -> usize
+    ensures { λ r. ⌜ Within longestLine (now (out .entry)) at (holderLine store holder) (now (out .exit)) r ⌝ }
+{
+    let at = field(out, at, b"store=", store as u32);
+    let at = field(out, at, b" holder=", holder as u32);
+    text_ascii::word(out, at, b"\n")
+}
+
+pub fn replay_line(out: &mut [u8], at: usize, store: u8, group: u8, tx: u8, update: u32) -> usize
+    ensures { λ r. ⌜ Within longestLine (now (out .entry)) at (replayLine store (record { group = group; tx = tx; update = update })) (now (out .exit)) r ⌝ }
+{
+    let at = field(out, at, b"store=", store as u32);
+    let at = field(out, at, b" group=", group as u32);
+    let at = field(out, at, b" tx=", tx as u32);
+    let at = text_ascii::word(out, at, b" upd=");
+    let at = text_ascii::hex(out, at, 8, update);
+    text_ascii::word(out, at, b"\n")
+}
+
+// The transaction's line, if a vote is kept.
+fn tx(out: &mut [u8], at: usize, log: Log, tx: u8) -> usize
+    requires { ⌜ tx < transactions ⌝ }
+    ensures { λ r. ⌜ Within longestLine (now (out .entry)) at (txText log tx) (now (out .exit)) r ⌝ }
+{
+    let row = log.rows[tx as usize];
+    if !row.any_kept() {
+        return at;
+    }
+    tx_line(out, at, tx, row.outcome(), row.group)
+}
+
+// The store's line, if it is held.
+fn holder(out: &mut [u8], at: usize, log: Log, store: u8) -> usize
+    ensures { λ r. ⌜ Within longestLine (now (out .entry)) at (holderText log store) (now (out .exit)) r ⌝ }
+{
+    let holder = log.holder(store);
+    if holder == 0 {
+        return at;
+    }
+    holder_line(out, at, store, holder)
+}
+
+// A replay of the store.
+pub fn put_replay(out: &mut [u8], at: usize, store: u8, replay: Replay) -> usize
+    ensures { λ r. ⌜ Within longestReplay (now (out .entry)) at (replayText store (rowsOf replay)) (now (out .exit)) r ⌝ }
+{
+    let count = replay.count;
+    let mut to = at;
+    let mut i: u8 = 0;
+    while i < count {
+        if TRANSACTIONS <= i {
+            return to;
+        }
+        let row = replay.rows[i as usize];
+        to = replay_line(out, to, store, row.group, row.tx, row.update);
+        i += 1;
+    }
+    to
+}
+
+// The store's replay in the log.
+pub fn replay(out: &mut [u8], at: usize, log: Log, store: u8) -> usize
+    ensures { λ r. ⌜ Within longestReplay (now (out .entry)) at (replayText store (replayRows log store)) (now (out .exit)) r ⌝ }
+{
+    let replay = log.replay(store);
+    put_replay(out, at, store, replay)
+}
+
+fn outcomes(out: &mut [u8], at: usize, log: Log) -> usize
+    ensures { λ r. ⌜ Within (transactions * longestLine) (now (out .entry)) at (each (txText log) transactions) (now (out .exit)) r ⌝ }
+{
+    let mut to = at;
+    let mut i: u8 = 0;
+    while i < TRANSACTIONS {
+        to = tx(out, to, log, i);
+        i += 1;
+    }
+    to
+}
+
+fn holders(out: &mut [u8], at: usize, log: Log) -> usize
+    ensures { λ r. ⌜ Within (stores * longestLine) (now (out .entry)) at (each (holderText log) stores) (now (out .exit)) r ⌝ }
+{
+    let mut to = at;
+    let mut i: u8 = 0;
+    while i < STORES {
+        to = holder(out, to, log, i);
+        i += 1;
+    }
+    to
+}
+
+fn replays(out: &mut [u8], at: usize, log: Log) -> usize
+    ensures { λ r. ⌜ Within (stores * longestReplay) (now (out .entry)) at (each (λ s. replayText s (replayRows log s)) stores) (now (out .exit)) r ⌝ }
+{
+    let mut to = at;
+    let mut i: u8 = 0;
+    while i < STORES {
+        to = replay(out, to, log, i);
+        i += 1;
+    }
+    to
+}
+
+// A log as it is printed.
+pub fn put_log(out: &mut [u8], at: usize, log: Log) -> usize
+    ensures { λ r. ⌜ Within longestLog (now (out .entry)) at (logText log) (now (out .exit)) r ⌝ }
+{
+    let at = outcomes(out, at, log);
+    let at = holders(out, at, log);
+    replays(out, at, log)
+}
+
+// The answers, each with its line's number.
+pub fn put_answers(out: &mut [u8], at: usize, answers: Answers) -> usize
+    ensures { λ r. ⌜ Within longestAnswers (now (out .entry)) at (answersText (answersOf answers)) (now (out .exit)) r ⌝ }
+{
+    let count = answers.count;
+    let mut to = at;
+    let mut i: u16 = 0;
+    while i < count {
+        if MOST < i {
+            return to;
+        }
+        let answer = answers.answers[i as usize];
+        i += 1;
+        to = step_line(out, to, i, answer);
+    }
+    to
+}

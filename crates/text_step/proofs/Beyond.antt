@@ -1,0 +1,84 @@
+-- A number beyond a byte is outside its limits.
+use Prim.Native.Nat.{ℕ, _≤_}
+use native.Mathlib.Omega.{arith}
+use mathlib.Core.Bool.{Bool, true, false, _||_, not}
+use mathlib.Core.List.{[], _∷_, _++_}
+use mathlib.Core.Path.{_≡_, refl, sym, _∙_}
+use lib.Dec.{eqb, leb, ltb}
+use borrow.Author.Tests.{le-leb, leb-true, lt-ltb, ne-eqb}
+use Rattle.log_entry.specs.declared.Entry.{Entry}
+use Rattle.log_entry.specs.Entry.{noProcess, outside}
+use Rattle.log_entry.specs.Limits.{transactions}
+use Rattle.model_steps.specs.declared.Role.{Role}
+use Rattle.model_steps.specs.declared.Role.the-variants.{Acceptor, Coord, Proc}
+use Rattle.model_steps.specs.declared.Step.{Step}
+use Rattle.model_steps.specs.declared.Step.the-variants.{Setup, Request, Open, Propose, Deliver, Tell, Restore, Crash}
+use Rattle.model_steps.specs.Limits.{ballots, coordinators, instances, messages, mostAcceptors, noBallot, noCoordinator, noParty, outsideStep}
+use Rattle.text_entry.specs.Entry as entry
+use Rattle.text_entry.specs.Seen.{most}
+use Rattle.text_entry.specs.Table.{anyBeyond, noByte}
+use Rattle.text_entry.proofs.Beyond as texts
+use Rattle.text_entry.proofs.Beyond.{beyond-cases, first-of, no-such-process, second-of, third-of}
+use Rattle.text_step.proofs.Readings.{beyond-last}
+use Rattle.text_step.specs.Step.{HasText, beyond, numbers}
+
+coordinator-beyond : (c : ℕ) → most ≤ c → noCoordinator c ≡ true
+coordinator-beyond c h = le-leb coordinators c (omega arith)
+
+ballot-beyond : (b : ℕ) → most ≤ b → noBallot b ≡ true
+ballot-beyond b h = elim (eqb b 0) as (λ x. (x || ltb ballots b) ≡ true) [ true ↦ refl | false ↦ lt-ltb ballots b (omega arith) ]
+
+setup-beyond : (n : ℕ) → most ≤ n → not (eqb n 3 || eqb n mostAcceptors) ≡ true
+setup-beyond n h = rw (ne-eqb n 3 (λ (e : n ≡ 3). omega arith), ne-eqb n mostAcceptors (λ (e : n ≡ mostAcceptors). omega arith))
+
+or-left : (a b : Bool) → a ≡ true → (a || b) ≡ true
+or-left a b h = rw h
+
+or-right : (a b : Bool) → b ≡ true → (a || b) ≡ true
+or-right true b h = refl
+or-right false b h = h
+
+round-beyond : (c i b : ℕ) → anyBeyond (c ∷ i ∷ b ∷ []) ≡ true → (noCoordinator c || leb instances i || noBallot b) ≡ true
+round-beyond c i b =
+    let x = noCoordinator c in
+    let y = leb instances i in
+    let z = noBallot b in
+    beyond-cases ((x || y || z) ≡ true) (c ∷ i ∷ b ∷ []) (
+      (λ h. first-of x y z (coordinator-beyond c h)),
+      ((λ h. second-of x y z (le-leb instances i (omega arith))), ((λ h. third-of x y z (ballot-beyond b h)), tt)),
+    )
+
+party-beyond : (n : ℕ) → n ≤ most → (r : Role) (id : ℕ) → most ≤ id → noParty n r id ≡ true
+party-beyond n k Acceptor id h = le-leb n id (omega arith)
+party-beyond n k Coord id h = coordinator-beyond id h
+party-beyond n k Proc id h = no-such-process id h
+
+-- the entry or its receiver
+request-beyond : (e : Entry) (to : ℕ) → entry.HasText e → anyBeyond (entry.numbers e ++ to ∷ []) ≡ true → (outside e || noCoordinator to) ≡ true
+request-beyond e to t h = go (entry.beyond e) (noByte to) refl refl (sym (beyond-last (entry.numbers e) to) ∙ h)
+  where
+    go : (b c : Bool) → entry.beyond e ≡ b → noByte to ≡ c → (b || c) ≡ true → (outside e || noCoordinator to) ≡ true
+    go true c k m z = or-left (outside e) (noCoordinator to) (texts.beyond-is-outside e t k)
+    go false c k m z = or-right (outside e) (noCoordinator to) (coordinator-beyond to (leb-true most to (m ∙ z)))
+
+-- the step has a number outside its limits, whichever of the numbers of acceptors counts
+pub beyond-is-outside : (n : ℕ) → n ≤ most → (s : Step) → HasText s → beyond s ≡ true → outsideStep n s ≡ true
+unfolding outsideStep
+beyond-is-outside n k (Setup a) t = beyond-cases (not (eqb a 3 || eqb a mostAcceptors) ≡ true) (a ∷ []) ((λ h. setup-beyond a h), tt)
+beyond-is-outside n k (Request e to) t = request-beyond e to t
+beyond-is-outside n k (Open c i b) t = round-beyond c i b
+beyond-is-outside n k (Propose c i b) t = round-beyond c i b
+beyond-is-outside n k (Deliver m) t = beyond-cases (leb messages m ≡ true) (m ∷ []) ((λ h. le-leb messages m (omega arith)), tt)
+beyond-is-outside n k (Tell c p tx) t =
+    let x = noCoordinator c in
+    let y = noProcess p in
+    let z = leb transactions tx in
+    beyond-cases ((x || y || z) ≡ true) (c ∷ p ∷ tx ∷ []) (
+      (λ h. first-of x y z (coordinator-beyond c h)),
+      ((λ h. second-of x y z (no-such-process p h)), ((λ h. third-of x y z (le-leb transactions tx (omega arith))), tt)),
+    )
+beyond-is-outside n k (Restore c p) t =
+    let x = noCoordinator c in
+    let y = noProcess p in
+    beyond-cases ((x || y) ≡ true) (c ∷ p ∷ []) ((λ h. or-left x y (coordinator-beyond c h)), ((λ h. or-right x y (no-such-process p h)), tt))
+beyond-is-outside n k (Crash r id) t = beyond-cases (noParty n r id ≡ true) (id ∷ []) ((λ h. party-beyond n k r id h), tt)

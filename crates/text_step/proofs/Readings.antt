@@ -1,0 +1,103 @@
+-- What the reader answers to a line, from the parts that it read.
+use Prim.Native.Nat.{ℕ, _≤_, _<_, min}
+use mathlib.Core.Bool.{Bool, true, false, _||_, cond, false≢true, true≢false}
+use mathlib.Core.List.{List, [], _∷_, _++_}
+use mathlib.Core.Option.{Option, none, some}
+use mathlib.Core.Path.{_≡_, refl, sym, _∙_, ap}
+use lib.Dec.{eqb}
+use borrow.Author.Tests.{lt-leb}
+use Rattle.log_entry.specs.declared.Entry.{Entry}
+use Rattle.log_entry.specs.Entry.{voteEntry}
+use Rattle.model_steps.specs.declared.Role.{Role}
+use Rattle.model_steps.specs.declared.Step.{Step}
+use Rattle.model_steps.specs.declared.Step.the-variants.{Request, Crash}
+use Rattle.text_entry.specs.declared.Reading.{Reading as EntryReading}
+use Rattle.text_entry.specs.declared.Reading.the-variants as variants
+use Rattle.text_entry.specs.Entry as entry
+use Rattle.text_entry.specs.Kinds.{voteKind}
+use Rattle.text_entry.specs.Read.{readKind}
+use Rattle.text_entry.specs.Seen.{most}
+use Rattle.text_entry.specs.Table.{Reader, anyBeyond, at, made, noByte, orElse, readFirst}
+use Rattle.text_entry.proofs.Counts.{at-counts, counted-same, no-byte}
+use Rattle.text_entry.proofs.Follows.{counts}
+use Rattle.text_entry.proofs.Votes as votes
+use Rattle.text_step.specs.declared.Reading.{Reading}
+use Rattle.text_step.specs.declared.Reading.the-variants.{Read, Outside, Unreadable}
+use Rattle.text_step.specs.Answers.{isRead, requestOf}
+use Rattle.text_step.specs.Kinds.{crashKind, sentVote}
+use Rattle.text_step.specs.Step.{beyond, crashOf, readingOf, roleOf, voteOf}
+
+-- ---- requests
+
+pub beyond-last : (ns : List ℕ) (n : ℕ) → anyBeyond (ns ++ n ∷ []) ≡ (anyBeyond ns || noByte n)
+beyond-last [] n = elim (noByte n) as (λ b. (b || false) ≡ b) [ true ↦ refl | false ↦ refl ]
+beyond-last (m ∷ ns) n = go (noByte m) (beyond-last ns n)
+  where
+    go : (b : Bool) → anyBeyond (ns ++ n ∷ []) ≡ (anyBeyond ns || noByte n) → (b || anyBeyond (ns ++ n ∷ [])) ≡ (b || anyBeyond ns || noByte n)
+    go true h = refl
+    go false h = h
+
+pub request-is : (e : Entry) (to : ℕ) → requestOf (entry.readingOf (some e)) to ≡ readingOf (some (Request e to))
+request-is e to = go (entry.beyond e) ∙ ap (λ (b : Bool). cond b Outside (Read (Request e to))) (sym (beyond-last (entry.numbers e) to))
+  where
+    go : (b : Bool) → requestOf (cond b variants.Outside (variants.Read e)) to ≡ cond (b || noByte to) Outside (Read (Request e to))
+    go true = refl
+    go false = refl
+
+pub request-beyond : (to : ℕ) (e : Entry) → most ≤ to → Outside ≡ requestOf (variants.Read e) to
+request-beyond to e h = rw (no-byte to h)
+
+pub request-within : (to : ℕ) (e : Entry) → to < most → Read (Request e to) ≡ requestOf (variants.Read e) to
+request-within to e h = rw (lt-leb most to h)
+
+request-counted : (r : EntryReading) (n : ℕ) → requestOf r n ≡ requestOf r (min n most)
+request-counted (variants.Read e) n = counted-same (λ (m : ℕ). requestOf (variants.Read e) m) Outside (λ m h. sym (request-beyond m e h)) n
+request-counted variants.Outside n = refl
+request-counted variants.Unreadable n = refl
+
+pub vote-counts : (vs : List ℕ) → readingOf (some (voteOf vs)) ≡ readingOf (some (voteOf (counts (sentVote .fields) vs)))
+vote-counts vs =
+    let k = at-counts (sentVote .fields) vs in
+    let j = at-counts (voteKind .fields) vs in
+    let us = counts (voteKind .fields) vs in
+    sym (request-is (entry.voteOf vs) (at vs 7))
+    ∙ ap (λ (r : EntryReading). requestOf r (at vs 7)) (votes.vote-counts vs)
+    ∙ request-counted (entry.readingOf (some (entry.voteOf us))) (at vs 7)
+    ∙ request-is (entry.voteOf us) (min (at vs 7) most)
+    ∙ (λ i. readingOf (some (Request (voteEntry (j 0 i) (j 1 i) (j 2 i) (j 3 i) (j 4 i) (eqb (j 5 i) 1) (j 6 i)) (min (at vs 7) most))))
+    ∙ (λ i. readingOf (some (Request (voteEntry (sym (k 0) i) (sym (k 1) i) (sym (k 2) i) (sym (k 3) i) (sym (k 4) i) (eqb (sym (k 5) i) 1) (sym (k 6) i)) (sym (k 7) i))))
+
+-- ---- crashes
+
+pub crash-outside : (r : Role) (id : ℕ) → most ≤ id → readingOf (some (Crash r id)) ≡ Outside
+crash-outside r id h = rw (no-byte id h)
+
+pub crash-counts : (vs : List ℕ) → readingOf (some (crashOf vs)) ≡ readingOf (some (crashOf (counts (crashKind .fields) vs)))
+crash-counts vs =
+    let k = at-counts (crashKind .fields) vs in
+    counted-same (λ (n : ℕ). readingOf (some (Crash (roleOf (at vs 0)) n))) Outside (crash-outside (roleOf (at vs 0))) (at vs 1)
+    ∙ (λ i. readingOf (some (Crash (roleOf (sym (k 0) i)) (sym (k 1) i))))
+
+-- ---- kinds tried in turn
+
+read-first : (t v : Option Step) → isRead (readingOf t) ≡ true → readingOf t ≡ readingOf (orElse t v)
+read-first none v h = absurd (false≢true h)
+read-first (some x) v h = refl
+
+read-next : (b : Bool) (x : Step) → isRead (cond b Outside (Read x)) ≡ false → ⊥
+read-next true x h = true≢false h
+read-next false x h = true≢false h
+
+read-other : (t v : Option Step) → isRead (readingOf t) ≡ false → readingOf v ≡ readingOf (orElse t v)
+read-other none v h = refl
+read-other (some x) v h = absurd (read-next (beyond x) x h)
+
+-- the answer to a line as one of this kind
+module _ (r : Reader Step) (rs : List (Reader Step)) (s : List ℕ) (a : Reading) (e : a ≡ readingOf (made (r .build) (readKind (r .kind) s))) where
+  pub decides : isRead a ≡ true → a ≡ readingOf (readFirst (r ∷ rs) s)
+  unfolding readFirst
+  decides h = e ∙ read-first (made (r .build) (readKind (r .kind) s)) (readFirst rs s) (ap isRead (sym e) ∙ h)
+
+  pub passes : isRead a ≡ false → readingOf (readFirst rs s) ≡ readingOf (readFirst (r ∷ rs) s)
+  unfolding readFirst
+  passes h = read-other (made (r .build) (readKind (r .kind) s)) (readFirst rs s) (ap isRead (sym e) ∙ h)

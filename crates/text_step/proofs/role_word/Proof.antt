@@ -1,0 +1,50 @@
+use mathlib.Core.List.{[], _∷_}
+use mathlib.Core.Path.{_∙_, ap}
+use Rattle.text_ascii.specs.Bytes.{ascii}
+use Rattle.text_entry.specs.Seen.{seen, wordAfter}
+use Rattle.text_entry.proofs.Parts.{words-value}
+use borrow.Author.Needs.{needs}
+use Rattle.text_step.proofs.role_word.Statement.{statement}
+use Rattle.text_step.proofs.role_word.Tie as tie
+
+unreadable-requires : tie.Need-unreadable-requires
+unreadable-requires c κs = search needs
+
+slice-aggregate-word : tie.Need-slice-aggregate-word
+slice-aggregate-word c = search needs
+
+word-requires : tie.Need-word-requires
+word-requires c κs = search needs
+
+slice-aggregate-word-2 : tie.Need-slice-aggregate-word-2
+slice-aggregate-word-2 c = search needs
+
+word-requires-2 : tie.Need-word-requires-2
+word-requires-2 c κs = search needs
+
+slice-aggregate-word-3 : tie.Need-slice-aggregate-word-3
+slice-aggregate-word-3 c = search needs
+
+word-requires-3 : tie.Need-word-requires-3
+word-requires-3 c κs = search needs
+
+returns : tie.Need-returns
+returns c =
+    let a = c .before .before .before .before .before .before .before .before .args in
+    let p = seen (a .line .now) (a .before) in
+    c .word3 .ensures
+    ∙ ap (wordAfter (ascii "acceptor") 0 p) (c .before .before .word2 .ensures ∙ ap (wordAfter (ascii "coord") 1 p) (c .before .before .before .before .word .ensures ∙ ap (wordAfter (ascii "proc") 2 p) (c .before .before .before .before .before .before .unreadable .ensures)))
+    ∙ words-value (ascii "acceptor" ∷ ascii "coord" ∷ ascii "proc" ∷ []) p
+
+pub role-word-spec : {M : Type 1} → statement M
+role-word-spec =
+    tie.close
+    (tie.spec
+    unreadable-requires
+    slice-aggregate-word
+    word-requires
+    slice-aggregate-word-2
+    word-requires-2
+    slice-aggregate-word-3
+    word-requires-3
+    returns)

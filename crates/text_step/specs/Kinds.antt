@@ -1,0 +1,62 @@
+-- The fields and kinds of the world's steps, as document 01 lists them beside those of an entry.
+use mathlib.Core.List.{[], _∷_, _++_}
+use Rattle.text_ascii.specs.Bytes.{ascii}
+use Rattle.text_entry.specs.Decimals.{decimalField}
+use Rattle.text_entry.specs.Fields.{Field, Kind, field, inWords, kind}
+use Rattle.text_entry.specs.Kinds.{proc, takeKind, tx, voteKind}
+
+abbrev pub to : Field
+to = decimalField (ascii "to")
+
+abbrev pub acceptors : Field
+acceptors = decimalField (ascii "acceptors")
+
+abbrev pub coord : Field
+coord = decimalField (ascii "coord")
+
+abbrev pub inst : Field
+inst = decimalField (ascii "inst")
+
+abbrev pub ballot : Field
+ballot = decimalField (ascii "ballot")
+
+abbrev pub msg : Field
+msg = decimalField (ascii "msg")
+
+-- "role is acceptor, coord or proc"
+abbrev pub role : Field
+role = field (ascii "role") (inWords (ascii "acceptor" ∷ ascii "coord" ∷ ascii "proc" ∷ []))
+
+abbrev pub id : Field
+id = decimalField (ascii "id")
+
+-- "In the world both end with `to` (a coordinator)"
+abbrev sent : Kind → Kind
+sent k = kind (k .name) (k .fields ++ to ∷ [])
+
+abbrev pub sentTake : Kind
+sentTake = sent takeKind
+
+abbrev pub sentVote : Kind
+sentVote = sent voteKind
+
+abbrev pub setupKind : Kind
+setupKind = kind (ascii "setup") (acceptors ∷ [])
+
+abbrev pub openKind : Kind
+openKind = kind (ascii "open") (coord ∷ inst ∷ ballot ∷ [])
+
+abbrev pub proposeKind : Kind
+proposeKind = kind (ascii "propose") (coord ∷ inst ∷ ballot ∷ [])
+
+abbrev pub deliverKind : Kind
+deliverKind = kind (ascii "deliver") (msg ∷ [])
+
+abbrev pub tellKind : Kind
+tellKind = kind (ascii "tell") (coord ∷ proc ∷ tx ∷ [])
+
+abbrev pub restoreKind : Kind
+restoreKind = kind (ascii "restore") (coord ∷ proc ∷ [])
+
+abbrev pub crashKind : Kind
+crashKind = kind (ascii "crash") (role ∷ id ∷ [])

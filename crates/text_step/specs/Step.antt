@@ -1,0 +1,114 @@
+-- The line of a step, as `world` reads it: how it is written, and how it reads.
+use Prim.Native.Nat.{ℕ}
+use mathlib.Core.Bool.{Bool, cond}
+use mathlib.Core.List.{List, [], _∷_, _++_}
+use mathlib.Core.Option.{Option}
+use lib.Dec.{eqb}
+use Rattle.model_steps.specs.declared.Role.{Role}
+use Rattle.model_steps.specs.declared.Role.the-variants.{Acceptor, Coord, Proc}
+use Rattle.model_steps.specs.declared.Step.{Step}
+use Rattle.model_steps.specs.declared.Step.the-variants.{Setup, Request, Open, Propose, Deliver, Tell, Restore, Crash}
+use Rattle.text_entry.specs.Entry as entry
+use Rattle.text_entry.specs.Fields.{lineText}
+use Rattle.text_entry.specs.Table.{Reader, anyBeyond, answerOf, at, readFirst, reader}
+use Rattle.text_step.specs.declared.Reading.{Reading}
+use Rattle.text_step.specs.declared.Reading.the-variants.{Read, Outside, Unreadable}
+use Rattle.text_step.specs.Kinds.{sentTake, sentVote, setupKind, openKind, proposeKind, deliverKind, tellKind, restoreKind, crashKind}
+
+-- the index of a role's word
+abbrev pub roleNumber : Role → ℕ
+roleNumber Acceptor = 0
+roleNumber Coord = 1
+roleNumber Proc = 2
+
+abbrev pub roleOf : ℕ → Role
+roleOf n = cond (eqb n 0) Acceptor (cond (eqb n 1) Coord Proc)
+
+-- the line of a step, whose numbers are of any size
+unfoldable pub text : Step → List ℕ
+text (Setup n) = lineText setupKind (n ∷ [])
+text (Request e to) = cond (e .take) (lineText sentTake (entry.takeValues e ++ to ∷ [])) (lineText sentVote (entry.voteValues e ++ to ∷ []))
+text (Open c i b) = lineText openKind (c ∷ i ∷ b ∷ [])
+text (Propose c i b) = lineText proposeKind (c ∷ i ∷ b ∷ [])
+text (Deliver m) = lineText deliverKind (m ∷ [])
+text (Tell c p tx) = lineText tellKind (c ∷ p ∷ tx ∷ [])
+text (Restore c p) = lineText restoreKind (c ∷ p ∷ [])
+text (Crash r id) = lineText crashKind (roleNumber r ∷ id ∷ [])
+
+-- a request has a text if its entry has one, and every other step has one
+abbrev pub HasText : Step → Type 0
+HasText (Setup n) = Unit {0}
+HasText (Request e to) = entry.HasText e
+HasText (Open c i b) = Unit {0}
+HasText (Propose c i b) = Unit {0}
+HasText (Deliver m) = Unit {0}
+HasText (Tell c p tx) = Unit {0}
+HasText (Restore c p) = Unit {0}
+HasText (Crash r id) = Unit {0}
+
+-- the step of a line's values
+abbrev pub takeOf : List ℕ → Step
+takeOf vs = Request (entry.takeOf vs) (at vs 2)
+
+abbrev pub voteOf : List ℕ → Step
+voteOf vs = Request (entry.voteOf vs) (at vs 7)
+
+abbrev pub setupOf : List ℕ → Step
+setupOf vs = Setup (at vs 0)
+
+abbrev pub openOf : List ℕ → Step
+openOf vs = Open (at vs 0) (at vs 1) (at vs 2)
+
+abbrev pub proposeOf : List ℕ → Step
+proposeOf vs = Propose (at vs 0) (at vs 1) (at vs 2)
+
+abbrev pub deliverOf : List ℕ → Step
+deliverOf vs = Deliver (at vs 0)
+
+abbrev pub tellOf : List ℕ → Step
+tellOf vs = Tell (at vs 0) (at vs 1) (at vs 2)
+
+abbrev pub restoreOf : List ℕ → Step
+restoreOf vs = Restore (at vs 0) (at vs 1)
+
+abbrev pub crashOf : List ℕ → Step
+crashOf vs = Crash (roleOf (at vs 0)) (at vs 1)
+
+abbrev pub stepReaders : List (Reader Step)
+stepReaders =
+    reader sentTake takeOf
+    ∷ reader sentVote voteOf
+    ∷ reader setupKind setupOf
+    ∷ reader openKind openOf
+    ∷ reader proposeKind proposeOf
+    ∷ reader deliverKind deliverOf
+    ∷ reader tellKind tellOf
+    ∷ reader restoreKind restoreOf
+    ∷ reader crashKind crashOf
+    ∷ []
+
+-- the step that a line reads as, whose numbers are of any size
+unfoldable pub readStep : List ℕ → Option Step
+readStep s = readFirst stepReaders s
+
+-- the numbers of a step
+abbrev pub numbers : Step → List ℕ
+numbers (Setup n) = n ∷ []
+numbers (Request e to) = entry.numbers e ++ to ∷ []
+numbers (Open c i b) = c ∷ i ∷ b ∷ []
+numbers (Propose c i b) = c ∷ i ∷ b ∷ []
+numbers (Deliver m) = m ∷ []
+numbers (Tell c p tx) = c ∷ p ∷ tx ∷ []
+numbers (Restore c p) = c ∷ p ∷ []
+numbers (Crash r id) = id ∷ []
+
+-- a number of the step is beyond a byte
+abbrev pub beyond : Step → Bool
+beyond s = anyBeyond (numbers s)
+
+abbrev pub readingOf : Option Step → Reading
+readingOf = answerOf beyond Read Outside Unreadable
+
+-- what the reader answers: `Outside` if a number is beyond a byte; what else is outside its limits, the world refuses
+abbrev pub reading : List ℕ → Reading
+reading s = readingOf (readStep s)

@@ -1,0 +1,67 @@
+use mathlib.Core.Bool.{false}
+use mathlib.Core.Path.{refl, _∙_, _≡_}
+use borrow.Author.Needs.{needs}
+use Rattle.log_entry.specs.Refusal.{firstRefusal}
+use Rattle.model_steps.specs.declared.Step.the-variants.{Open}
+use Rattle.model_protocol.specs.Step.{changeOf, stepChecks}
+use Rattle.world_parts.specs.Plan.{planOf, refusalIn}
+use Rattle.world_parts.proofs.PlanLaws.{done-is, refused-is, same-first}
+use Rattle.world_ballots.proofs.RoundLaws.{round-sent}
+use Rattle.world_ballots.proofs.open.Statement.{statement}
+use Rattle.world_ballots.proofs.open.Tie as tie
+
+answer-is : (c : tie.After-first-of) → c .first-of .result ≡ refusalIn (c .before .before .before .before .before .args .p) (Open (c .before .before .before .before .before .args .coord) (c .before .before .before .before .before .args .inst) (c .before .before .before .before .before .args .ballot))
+unfolding stepChecks firstRefusal
+answer-is c =
+    c .first-of .ensures ∙ same-first false false _ _ _ _ _ _ false false refl (c .before .before .before .is-down .ensures) (c .before .before .ballot-barred .ensures) (c .before .lacks-numbers .ensures) refl
+
+is-down-requires : tie.Need-is-down-requires
+is-down-requires c κs = search needs
+
+ballot-barred-requires : tie.Need-ballot-barred-requires
+ballot-barred-requires c κs = search needs
+
+lacks-numbers-requires : tie.Need-lacks-numbers-requires
+lacks-numbers-requires c κs = search needs
+
+first-of-requires : tie.Need-first-of-requires
+first-of-requires c κs = search needs
+
+still-requires : tie.Need-still-requires
+still-requires c κs = search needs
+
+returns : tie.Need-returns
+unfolding planOf
+returns c = let a = c .before .before .before .before .before .before .before .args in c .still .ensures ∙ refused-is _ _ _ (changeOf (a .p) (Open (a .coord) (a .inst) (a .ballot))) (answer-is (c .before .before)) (c .before .if1 .taken)
+
+new-round-requires : tie.Need-new-round-requires
+new-round-requires c κs = search needs
+
+prepare-to-requires : tie.Need-prepare-to-requires
+prepare-to-requires c κs = search needs
+
+sending-requires : tie.Need-sending-requires
+sending-requires c κs = search needs
+
+returns-2 : tie.Need-returns-2
+unfolding planOf changeOf
+returns-2 c =
+    let a = c .before .before .before .before .before .before .before .before .before .args in
+    c .sending .ensures
+    ∙ round-sent (a .p) (a .p .acceptors) _ _ _ _ (c .before .before .new-round .ensures) (c .before .prepare-to .ensures)
+    ∙ done-is (a .p) _ _ _ (answer-is (c .before .before .before .before)) (c .before .before .before .if1 .left)
+
+pub open-spec : {M : Type 1} → statement M
+open-spec =
+    tie.close
+    (tie.spec
+    is-down-requires
+    ballot-barred-requires
+    lacks-numbers-requires
+    first-of-requires
+    still-requires
+    returns
+    new-round-requires
+    prepare-to-requires
+    sending-requires
+    returns-2)

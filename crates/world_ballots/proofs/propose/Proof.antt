@@ -1,0 +1,75 @@
+use mathlib.Core.Bool.{false}
+use mathlib.Core.Path.{ap, refl, _∙_, _≡_}
+use borrow.Author.Needs.{needs}
+use Rattle.log_entry.specs.Refusal.{firstRefusal}
+use Rattle.model_steps.specs.declared.Step.the-variants.{Propose}
+use Rattle.model_protocol.specs.declared.Batch.{Batch}
+use Rattle.model_protocol.specs.Coordinator.{proposing}
+use Rattle.model_protocol.specs.Message.{acceptTo}
+use Rattle.model_protocol.specs.Step.{changeOf, stepChecks}
+use Rattle.world_parts.specs.Plan.{planOf, refusalIn}
+use Rattle.world_parts.proofs.PlanLaws.{done-is, refused-is, same-first}
+use Rattle.world_ballots.proofs.RoundLaws.{round-sent}
+use Rattle.world_ballots.proofs.propose.Statement.{statement}
+use Rattle.world_ballots.proofs.propose.Tie as tie
+
+answer-is : (c : tie.After-first-of) → c .first-of .result ≡ refusalIn (c .before .before .before .before .before .args .p) (Propose (c .before .before .before .before .before .args .coord) (c .before .before .before .before .before .args .inst) (c .before .before .before .before .before .args .ballot))
+unfolding stepChecks firstRefusal
+answer-is c =
+    c .first-of .ensures ∙ same-first false false _ _ _ _ _ _ false false refl (c .before .before .before .is-down .ensures) (c .before .before .proposal-barred .ensures) (c .before .lacks-numbers .ensures) refl
+
+is-down-requires : tie.Need-is-down-requires
+is-down-requires c κs = search needs
+
+proposal-barred-requires : tie.Need-proposal-barred-requires
+proposal-barred-requires c κs = search needs
+
+lacks-numbers-requires : tie.Need-lacks-numbers-requires
+lacks-numbers-requires c κs = search needs
+
+first-of-requires : tie.Need-first-of-requires
+first-of-requires c κs = search needs
+
+still-requires : tie.Need-still-requires
+still-requires c κs = search needs
+
+returns : tie.Need-returns
+unfolding planOf
+returns c = let a = c .before .before .before .before .before .before .before .args in c .still .ensures ∙ refused-is _ _ _ (changeOf (a .p) (Propose (a .coord) (a .inst) (a .ballot))) (answer-is (c .before .before)) (c .before .if1 .taken)
+
+batch-to-propose-requires : tie.Need-batch-to-propose-requires
+batch-to-propose-requires c κs = search needs
+
+proposing-requires : tie.Need-proposing-requires
+proposing-requires c κs = search needs
+
+accept-to-requires : tie.Need-accept-to-requires
+accept-to-requires c κs = search needs
+
+sending-requires : tie.Need-sending-requires
+sending-requires c κs = search needs
+
+returns-2 : tie.Need-returns-2
+unfolding planOf changeOf
+returns-2 c =
+    let a = c .before .before .before .before .before .before .before .before .before .before .args in
+    let v = c .before .before .before .batch-to-propose .ensures in
+    let now = c .before .before .proposing .ensures ∙ ap (λ (v : Batch). proposing (a .p .coordinator .round) v) v in
+    let sent = c .before .accept-to .ensures ∙ ap (λ (v : Batch). acceptTo (a .inst) (a .ballot) v 0) v in
+    c .sending .ensures ∙ round-sent (a .p) (a .p .acceptors) _ _ _ _ now sent ∙ done-is (a .p) _ _ _ (answer-is (c .before .before .before .before .before)) (c .before .before .before .before .if1 .left)
+
+pub propose-spec : {M : Type 1} → statement M
+propose-spec =
+    tie.close
+    (tie.spec
+    is-down-requires
+    proposal-barred-requires
+    lacks-numbers-requires
+    first-of-requires
+    still-requires
+    returns
+    batch-to-propose-requires
+    proposing-requires
+    accept-to-requires
+    sending-requires
+    returns-2)

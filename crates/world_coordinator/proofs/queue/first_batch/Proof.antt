@@ -1,0 +1,93 @@
+-- What is left to store, stored from where the loop is, gives the whole.
+use Prim.Native.Nat.{_-_, _≤_}
+use mathlib.Core.Path.{_≡_, refl}
+use native.Mathlib.Omega.{arith}
+use borrow.Author.Needs.{needs}
+use lib.ListN.{drop, take}
+use lib.Seq.{sets}
+use Rattle.model_protocol.specs.Limits.{batchEntries}
+use Rattle.model_protocol.specs.Queue.{queued}
+use Rattle.world_coordinator.proofs.Good.{queue-length}
+use Rattle.world_coordinator.proofs.QueueLaws.{first-done, first-turn}
+use Rattle.world_coordinator.proofs.queue.first_batch.Statement.{statement}
+use Rattle.world_coordinator.proofs.queue.first_batch.Tie as tie
+
+abbrev Inv-loop : tie.InvT-loop
+Inv-loop queue entries₀ count i₀ entries i =
+    let es = take batchEntries (queued queue) in
+    (i ≤ count) × (sets entries i (drop i es) ≡ sets entries₀ 0 es)
+
+abbrev μ-loop : tie.MeasureT-loop
+μ-loop queue entries₀ count i₀ entries i = count - i
+
+no-entry-requires : tie.Need-no-entry-requires Inv-loop μ-loop
+no-entry-requires c κs = search needs
+
+least-requires : tie.Need-least-requires Inv-loop μ-loop
+least-requires c κs = search needs
+
+loop-holds : tie.Need-loop-holds Inv-loop μ-loop
+loop-holds c = (omega arith, refl)
+
+cast-entries : tie.Need-cast-entries Inv-loop μ-loop
+cast-entries c = omega arith
+
+mul-entries : tie.Need-mul-entries Inv-loop μ-loop
+mul-entries c = omega arith
+
+element-copy-out-entries : tie.Need-element-copy-out-entries Inv-loop μ-loop
+element-copy-out-entries c = omega arith
+
+cast-entries-2 : tie.Need-cast-entries-2 Inv-loop μ-loop
+cast-entries-2 c = omega arith
+
+mul-entries-2 : tie.Need-mul-entries-2 Inv-loop μ-loop
+mul-entries-2 c = omega arith
+
+array-set-from-entries : tie.Need-array-set-from-entries Inv-loop μ-loop
+array-set-from-entries c = omega arith
+
+add-i : tie.Need-add-i Inv-loop μ-loop
+add-i c = omega arith
+
+loop-less : tie.Need-loop-less Inv-loop μ-loop
+loop-less c = omega arith
+
+loop-again : tie.Need-loop-again Inv-loop μ-loop
+loop-again c =
+    let l = c .before .before .loop in
+    let z = c .before .before .before in
+    let s = z .before .before in
+    let q = s .args .t1 in
+    let n = queue-length q _ (s .good .0) in
+    let k = z .least .ensures in
+    (omega arith, first-turn q batchEntries (l .i) (l .entries) _ (omega arith) (omega arith) (l .inv .1))
+
+returns : tie.Need-returns Inv-loop μ-loop
+returns c =
+    let l = c .before .loop in
+    let z = c .before .before in
+    let s = z .before .before in
+    let q = s .args .t1 in
+    first-done q (l .entries) (l .i) (z .least .result)
+    (z .before .no-entry .result) (z .before .no-entry .ensures) (z .least .ensures) (omega arith) (queue-length q _ (s .good .0)) (l .inv .1)
+
+pub first-batch-spec : {M : Type 1} → statement M
+first-batch-spec =
+    tie.close
+    (tie.spec
+    Inv-loop
+    μ-loop
+    no-entry-requires
+    least-requires
+    loop-holds
+    cast-entries
+    mul-entries
+    element-copy-out-entries
+    cast-entries-2
+    mul-entries-2
+    array-set-from-entries
+    add-i
+    loop-less
+    loop-again
+    returns)

@@ -1,0 +1,137 @@
+-- What the delivered message does to its receiver, by the tests that the receiver makes.
+use Prim.Native.Nat.{ℕ, _<_, _≤_}
+use mathlib.Core.Bool.{cond, false, true}
+use mathlib.Core.Path.{_≡_, ap, sym, _∙_}
+use native.Mathlib.Omega.{arith}
+use borrow.Author.Tests.{le-ltb, lt-ltb}
+use lib.Dec.{ltb}
+use Rattle.model_steps.specs.Limits.{mostAcceptors}
+use Rattle.model_protocol.specs.declared.Cell.{Cell}
+use Rattle.model_protocol.specs.declared.Coordinator.{Coordinator}
+use Rattle.model_protocol.specs.declared.Kind.the-variants.{Request, Prepare, Accept, Promise, Accepted, Tell, Restore}
+use Rattle.model_protocol.specs.declared.Message.{Message}
+use Rattle.model_protocol.specs.declared.Process.{Process}
+use Rattle.model_protocol.specs.declared.Queue.{Queue}
+use Rattle.model_protocol.specs.declared.Round.{Round}
+use Rattle.model_protocol.specs.Ballot.{majority}
+use Rattle.model_protocol.specs.Acceptor.{accepting, accepts, promises, promising}
+use Rattle.model_protocol.specs.Coordinator.{counting, isCurrent, isHeard, learning, promiseHeard, withQueue, withRound}
+use Rattle.model_protocol.specs.Message.{acceptedFrom, promiseFrom}
+use Rattle.model_protocol.specs.Process.{hearingOutcome, taking}
+use Rattle.model_protocol.specs.Queue.{joining}
+use Rattle.world_coordinator.specs.Limits.{setPlaces}
+use Rattle.world_coordinator.proofs.RoundLaws.{heard-inside}
+use Rattle.model_protocol.specs.declared.Parts.{Parts}
+use Rattle.model_protocol.specs.Change.{cellNow, coordinatorNow, processNow, sending}
+use Rattle.model_protocol.specs.Change.{done, learns}
+use Rattle.model_protocol.specs.Deliver.{handed}
+
+-- ---- a promise or an acceptance, by whether it is heard
+
+module _ (c : Coordinator) (i b a : ℕ) where
+  not-current : isCurrent c i b ≡ false → isHeard c i b a ≡ false
+  not-current h = rw h
+
+  past-acceptors : isCurrent c i b ≡ true → mostAcceptors ≤ a → isHeard c i b a ≡ false
+  past-acceptors h past = rw (h, le-ltb a mostAcceptors past)
+
+  is-heard : isCurrent c i b ≡ true → a < mostAcceptors → isHeard c i b a ≡ true
+  is-heard h inside = rw (h, lt-ltb a mostAcceptors inside)
+
+-- an acceptor's number has a place in the set
+in-set : {A : Type 0} (a : ℕ) (x changed same : A) → a < mostAcceptors → x ≡ cond (ltb a setPlaces) changed same → x ≡ changed
+in-set a x changed same h is = is ∙ sym (heard-inside a changed same (omega (arith, h)))
+
+-- ---- the parts after the message
+
+module _ (p : Parts) where
+  pub request-joins : (q : Queue) → q ≡ joining (p .coordinator .queue) (p .message .entry)
+      → done (coordinatorNow p (withQueue (p .coordinator) q)) ≡ handed p Request
+  unfolding handed
+  request-joins q is = ap (λ (x : Queue). done (coordinatorNow p (withQueue (p .coordinator) x))) is
+
+  pub prepare-passed : promises (p .cell) (p .message .ballot) ≡ false → done p ≡ handed p Prepare
+  unfolding handed
+  prepare-passed h = rw h
+
+  pub prepare-promised : (x : Cell) (m : Message)
+      → x ≡ promising (p .cell) (p .message .ballot)
+      → m ≡ promiseFrom (p .message .inst) (p .message .ballot) (p .message .acceptor) (p .cell .ballot) (p .cell .batch)
+      → promises (p .cell) (p .message .ballot) ≡ true
+      → sending (cellNow p x) 1 m ≡ handed p Prepare
+  unfolding handed
+  prepare-promised x m x-is m-is h = rw (h, x-is, m-is)
+
+  pub accept-passed : accepts (p .cell) (p .message .ballot) ≡ false → done p ≡ handed p Accept
+  unfolding handed
+  accept-passed h = rw h
+
+  pub accept-accepted : (x : Cell) (m : Message)
+      → x ≡ accepting (p .message .ballot) (p .message .batch)
+      → m ≡ acceptedFrom (p .message .inst) (p .message .ballot) (p .message .acceptor)
+      → accepts (p .cell) (p .message .ballot) ≡ true
+      → sending (cellNow p x) 1 m ≡ handed p Accept
+  unfolding handed
+  accept-accepted x m x-is m-is h = rw (h, x-is, m-is)
+
+  pub tell-heard : (h : Process) → h ≡ hearingOutcome (p .process) (p .message .tx) (p .message .outcome) → done (processNow p h) ≡ handed p Tell
+  unfolding handed
+  tell-heard h is = ap (λ (x : Process). done (processNow p x)) is
+
+  pub restore-passed : p .message .position ≤ p .process .position → done p ≡ handed p Restore
+  unfolding handed
+  restore-passed h = rw (le-ltb (p .process .position) (p .message .position) h)
+
+  pub restore-taken : (h : Process)
+      → h ≡ taking (p .process) (p .message .store) (p .message .position) (p .message .replay)
+      → p .process .position < p .message .position
+      → done (processNow p h) ≡ handed p Restore
+  unfolding handed
+  restore-taken h is above = rw (lt-ltb (p .process .position) (p .message .position) above, is)
+
+  -- ---- the message is for another instance or ballot
+
+  module _ (other : isCurrent (p .coordinator) (p .message .inst) (p .message .ballot) ≡ false) where
+    pub promise-other : done p ≡ handed p Promise
+    unfolding handed
+    promise-other = rw (not-current (p .coordinator) (p .message .inst) (p .message .ballot) (p .message .acceptor) other)
+
+    pub accepted-other : done p ≡ handed p Accepted
+    unfolding handed
+    accepted-other = rw (not-current (p .coordinator) (p .message .inst) (p .message .ballot) (p .message .acceptor) other)
+
+  module _ (current : isCurrent (p .coordinator) (p .message .inst) (p .message .ballot) ≡ true) where
+    pub promise-past : mostAcceptors ≤ p .message .acceptor → done p ≡ handed p Promise
+    unfolding handed
+    promise-past past = rw (past-acceptors (p .coordinator) (p .message .inst) (p .message .ballot) (p .message .acceptor) current past)
+
+    pub accepted-past : mostAcceptors ≤ p .message .acceptor → done p ≡ handed p Accepted
+    unfolding handed
+    accepted-past past = rw (past-acceptors (p .coordinator) (p .message .inst) (p .message .ballot) (p .message .acceptor) current past)
+
+    module _ (inside : p .message .acceptor < mostAcceptors) where
+      heard : isHeard (p .coordinator) (p .message .inst) (p .message .ballot) (p .message .acceptor) ≡ true
+      heard = is-heard (p .coordinator) (p .message .inst) (p .message .ballot) (p .message .acceptor) current inside
+
+      pub promise-counted : (r : Round)
+          → r
+          ≡ cond
+          (ltb (p .message .acceptor) setPlaces)
+          (promiseHeard (p .coordinator .round) (p .message .acceptor) (p .message .held) (p .message .batch))
+          (p .coordinator .round)
+          → done (coordinatorNow p (withRound (p .coordinator) r)) ≡ handed p Promise
+      unfolding handed
+      promise-counted r is = rw (heard, in-set (p .message .acceptor) r _ _ inside is)
+
+      module _ (r : Round) (is : r ≡ cond (ltb (p .message .acceptor) setPlaces) (counting (p .coordinator .round) (p .message .acceptor)) (p .coordinator .round)) where
+        counted : r ≡ counting (p .coordinator .round) (p .message .acceptor)
+        counted = in-set (p .message .acceptor) r _ _ inside is
+
+        pub acceptance-counted : majority (p .acceptors) (r .acceptances) ≡ false → done (coordinatorNow p (withRound (p .coordinator) r)) ≡ handed p Accepted
+        unfolding handed
+        acceptance-counted few = let k = rw counted at few in rw (heard, k, counted)
+
+        pub batch-learned : majority (p .acceptors) (r .acceptances) ≡ true → (c : Coordinator) → c ≡ learning (p .coordinator)
+            → learns (coordinatorNow p c) (p .coordinator .round .proposal) ≡ handed p Accepted
+        unfolding handed
+        batch-learned most c after = let k = rw counted at most in rw (heard, k, after)

@@ -1,0 +1,47 @@
+use borrow.Author.Needs.{needs}
+use mathlib.Core.Path.{sym, _∙_}
+use borrow.Author.Tests.{not-false, not-true}
+use Rattle.world_deliveries.proofs.HandedLaws.{accept-accepted, accept-passed}
+use Rattle.world_deliveries.proofs.accept.Statement.{statement}
+use Rattle.world_deliveries.proofs.accept.Tie as tie
+
+accepts-requires : tie.Need-accepts-requires
+accepts-requires c κs = search needs
+
+still-requires : tie.Need-still-requires
+still-requires c κs = search needs
+
+returns : tie.Need-returns
+returns c = c .still .ensures ∙ accept-passed (c .before .before .before .before .args .p) (sym (c .before .before .accepts .ensures) ∙ not-true _ (c .before .if1 .taken))
+
+accepting-requires : tie.Need-accepting-requires
+accepting-requires c κs = search needs
+
+accepted-from-requires : tie.Need-accepted-from-requires
+accepted-from-requires c κs = search needs
+
+sending-requires : tie.Need-sending-requires
+sending-requires c κs = search needs
+
+returns-2 : tie.Need-returns-2
+returns-2 c =
+    c .sending .ensures
+    ∙ accept-accepted
+    (c .before .before .before .before .before .before .args .p)
+    (c .before .before .accepting .result)
+    (c .before .accepted-from .result)
+    (c .before .before .accepting .ensures)
+    (c .before .accepted-from .ensures)
+    (sym (c .before .before .before .before .accepts .ensures) ∙ not-false _ (c .before .before .before .if1 .left))
+
+pub accept-spec : {M : Type 1} → statement M
+accept-spec =
+    tie.close
+    (tie.spec
+    accepts-requires
+    still-requires
+    returns
+    accepting-requires
+    accepted-from-requires
+    sending-requires
+    returns-2)

@@ -1,0 +1,47 @@
+use borrow.Author.Needs.{needs}
+use mathlib.Core.Path.{sym, _∙_}
+use borrow.Author.Tests.{not-false, not-true}
+use Rattle.world_deliveries.proofs.HandedLaws.{prepare-passed, prepare-promised}
+use Rattle.world_deliveries.proofs.prepare.Statement.{statement}
+use Rattle.world_deliveries.proofs.prepare.Tie as tie
+
+promises-requires : tie.Need-promises-requires
+promises-requires c κs = search needs
+
+still-requires : tie.Need-still-requires
+still-requires c κs = search needs
+
+returns : tie.Need-returns
+returns c = c .still .ensures ∙ prepare-passed (c .before .before .before .before .before .args .p) (sym (c .before .before .promises .ensures) ∙ not-true _ (c .before .if1 .taken))
+
+promising-requires : tie.Need-promising-requires
+promising-requires c κs = search needs
+
+promise-from-requires : tie.Need-promise-from-requires
+promise-from-requires c κs = search needs
+
+sending-requires : tie.Need-sending-requires
+sending-requires c κs = search needs
+
+returns-2 : tie.Need-returns-2
+returns-2 c =
+    c .sending .ensures
+    ∙ prepare-promised
+    (c .before .before .before .before .before .before .before .args .p)
+    (c .before .before .promising .result)
+    (c .before .promise-from .result)
+    (c .before .before .promising .ensures)
+    (c .before .promise-from .ensures)
+    (sym (c .before .before .before .before .promises .ensures) ∙ not-false _ (c .before .before .before .if1 .left))
+
+pub prepare-spec : {M : Type 1} → statement M
+prepare-spec =
+    tie.close
+    (tie.spec
+    promises-requires
+    still-requires
+    returns
+    promising-requires
+    promise-from-requires
+    sending-requires
+    returns-2)

@@ -1,0 +1,182 @@
+// The step deliver: what a message of each kind does to its receiver.
+ghost use mathlib.Core.Bool.{_&&_, not};
+ghost use mathlib.Core.Path.{_≡_};
+ghost use Rattle.model_steps.specs.declared.Step.the-variants.{Deliver};
+ghost use Rattle.model_protocol.specs.declared.Kind.the-variants as kind;
+ghost use Rattle.model_protocol.specs.Queue.{isFull, isIn, queued};
+ghost use Rattle.model_protocol.specs.Deliver.{handed, noPlaceFor};
+ghost use Rattle.world_parts.specs.Plan.{planOf};
+ghost use Rattle.model_protocol.specs.Send.{lacksNumbers};
+use log_entry::Entry;
+use model_protocol::Change;
+use model_protocol::Kind;
+use model_protocol::Parts;
+use model_protocol::Queue;
+use model_steps::limits::MOST_ACCEPTORS;
+use world_coordinator::learn;
+use world_coordinator::queue;
+use world_coordinator::round;
+use world_messages::message;
+use world_messages::parties;
+use world_messages::send;
+use world_parts::changes;
+use world_parts::refusal;
+
+// Whether the queue is full for the entry.
+fn is_full_for(q: Queue, e: Entry) -> bool
+    ensures { λ r. ⌜ r ≡ (isFull q && not (isIn e (queued q))) ⌝ }
+{
+    if !queue::is_full(q) {
+        return false;
+    }
+    !queue::is_queued(q, e)
+}
+
+// Whether an acceptor that answers lacks a number for it.
+fn lacks_answer(answers: bool, sent: u8) -> bool
+    ensures { λ r. ⌜ r ≡ (answers && lacksNumbers sent 1) ⌝ }
+{
+    if !answers {
+        return false;
+    }
+    send::lacks_numbers(sent, 1)
+}
+
+fn placeless(p: Parts) -> bool
+    ensures { λ r. ⌜ r ≡ noPlaceFor p (p .message .kind) ⌝ }
+{
+    let m = p.message;
+    let k = m.kind;
+    match k {
+        Kind::Request => is_full_for(p.coordinator.queue, m.entry),
+        Kind::Prepare => lacks_answer(world_acceptor::promises(p.cell, m.ballot), p.sent),
+        Kind::Accept => lacks_answer(world_acceptor::accepts(p.cell, m.ballot), p.sent),
+        Kind::Promise => false,
+        Kind::Accepted => false,
+        Kind::Tell => false,
+        Kind::Restore => false,
+    }
+}
+
+fn request(mut p: Parts) -> Change
+    ensures { λ r. ⌜ r ≡ handed p kind.Request ⌝ }
+{
+    let mut c = p.coordinator;
+    c.queue = queue::join(c.queue, p.message.entry);
+    p.coordinator = c;
+    changes::still(p, 0)
+}
+
+fn prepare(mut p: Parts) -> Change
+    ensures { λ r. ⌜ r ≡ handed p kind.Prepare ⌝ }
+{
+    let m = p.message;
+    let x = p.cell;
+    if !world_acceptor::promises(x, m.ballot) {
+        return changes::still(p, 0);
+    }
+    p.cell = world_acceptor::promising(x, m.ballot);
+    changes::sending(
+        p,
+        1,
+        message::promise_from(m.inst, m.ballot, m.acceptor, x.ballot, x.batch),
+    )
+}
+
+fn accept(mut p: Parts) -> Change
+    ensures { λ r. ⌜ r ≡ handed p kind.Accept ⌝ }
+{
+    let m = p.message;
+    if !world_acceptor::accepts(p.cell, m.ballot) {
+        return changes::still(p, 0);
+    }
+    p.cell = world_acceptor::accepting(m.ballot, m.batch);
+    changes::sending(p, 1, message::accepted_from(m.inst, m.ballot, m.acceptor))
+}
+
+fn promise(mut p: Parts) -> Change
+    ensures { λ r. ⌜ r ≡ handed p kind.Promise ⌝ }
+{
+    let m = p.message;
+    let mut c = p.coordinator;
+    if !round::is_current(c, m.inst, m.ballot) {
+        return changes::still(p, 0);
+    }
+    if MOST_ACCEPTORS <= m.acceptor {
+        return changes::still(p, 0);
+    }
+    c.round = round::promise_heard(c.round, m.acceptor, m.held, m.batch);
+    p.coordinator = c;
+    changes::still(p, 0)
+}
+
+fn accepted(mut p: Parts) -> Change
+    ensures { λ r. ⌜ r ≡ handed p kind.Accepted ⌝ }
+{
+    let m = p.message;
+    let mut c = p.coordinator;
+    if !round::is_current(c, m.inst, m.ballot) {
+        return changes::still(p, 0);
+    }
+    if MOST_ACCEPTORS <= m.acceptor {
+        return changes::still(p, 0);
+    }
+    let r = round::counting(c.round, m.acceptor);
+    if !round::is_majority(p.acceptors, r.acceptances) {
+        c.round = r;
+        p.coordinator = c;
+        return changes::still(p, 0);
+    }
+    let learned = c.round.proposal;
+    p.coordinator = learn::learning(c);
+    changes::learns(p, learned)
+}
+
+fn tell(mut p: Parts) -> Change
+    ensures { λ r. ⌜ r ≡ handed p kind.Tell ⌝ }
+{
+    let m = p.message;
+    let o = m.outcome;
+    p.process = world_process::hearing(p.process, m.tx, o);
+    changes::still(p, 0)
+}
+
+fn restore(mut p: Parts) -> Change
+    ensures { λ r. ⌜ r ≡ handed p kind.Restore ⌝ }
+{
+    let m = p.message;
+    let h = p.process;
+    if m.position <= h.position {
+        return changes::still(p, 0);
+    }
+    p.process = world_process::taking(h, m.store, m.position, m.replay);
+    changes::still(p, 0)
+}
+
+// The message is handed to its receiver.
+fn hand(p: Parts) -> Change
+    ensures { λ r. ⌜ r ≡ handed p (p .message .kind) ⌝ }
+{
+    let m = p.message;
+    let k = m.kind;
+    match k {
+        Kind::Request => request(p),
+        Kind::Prepare => prepare(p),
+        Kind::Accept => accept(p),
+        Kind::Promise => promise(p),
+        Kind::Accepted => accepted(p),
+        Kind::Tell => tell(p),
+        Kind::Restore => restore(p),
+    }
+}
+
+pub fn deliver(p: Parts, msg: u8) -> Change
+    ensures { λ r. ⌜ r ≡ planOf p (Deliver msg) ⌝ }
+{
+    let down = parties::receiver_down(p.down, p.message);
+    let answer = refusal::first_of(p.sent <= msg, down, p.acceptors == 0, placeless(p), false);
+    if answer != 0 {
+        return changes::still(p, answer);
+    }
+    hand(p)
+}

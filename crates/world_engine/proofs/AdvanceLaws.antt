@@ -1,0 +1,301 @@
+-- One turn of the loop over a block's orders.
+use Prim.Native.Nat.{ℕ, suc, _<_, _≤_, _+_, _*_, _-_, _%_, min}
+use mathlib.Core.Bool.{false, true≢false}
+use mathlib.Core.List.{List, [], _∷_}
+use mathlib.Core.Path.{_≡_, ap, refl, sym, _∙_}
+use native.Mathlib.Nat.{mod-lt}
+use native.Mathlib.Numerals.{add-one}
+use native.Mathlib.Omega.{arith}
+use denote.Laws.{Is}
+use denote.Struct.Declared.{row}
+use lib.ListN.{drop, getD, length, length-map, length-set, replicate, set, take}
+use lib.Seq.{set-getD, sets}
+use mir.Val.{Val}
+use Rattle.log_core.proofs.InList.{in-list}
+use Rattle.log_core.specs.declared.Log.{Log}
+use Rattle.log_core.specs.Enter.{feed}
+use Rattle.log_core.specs.Log.{emptyLog}
+use Rattle.model_steps.specs.declared.Step.{Step}
+use Rattle.model_steps.specs.declared.Step.the-variants.{Setup, Request, Open, Propose, Deliver, Tell, Restore, Crash}
+use Rattle.model_steps.specs.Limits.{coordinators, instances, messages}
+use Rattle.model_protocol.proofs.World.{the-type as world-type}
+use Rattle.model_protocol.specs.declared.Batch.{Batch}
+use Rattle.model_protocol.specs.declared.Cell.{Cell}
+use Rattle.model_protocol.specs.declared.Change.{Change}
+use Rattle.model_protocol.specs.declared.Coordinator.{Coordinator}
+use Rattle.model_protocol.specs.declared.Message.{Message}
+use Rattle.model_protocol.specs.declared.Parts.{Parts}
+use Rattle.model_protocol.specs.declared.Places.{Places}
+use Rattle.model_protocol.specs.declared.Process.{Process}
+use Rattle.model_protocol.specs.declared.Stepped.{Stepped}
+use Rattle.model_protocol.specs.declared.World.{World}
+use Rattle.model_protocol.specs.Ballot.{owner}
+use Rattle.model_protocol.specs.Batch.{entriesOf}
+use Rattle.model_protocol.specs.Change.{parts}
+use Rattle.model_protocol.specs.declared.Kind.{Kind}
+use Rattle.model_protocol.specs.declared.Kind.the-variants as kind
+use Rattle.model_protocol.specs.Limits.{cellPlaces, processPlaces}
+use Rattle.model_protocol.specs.Places.{deliveryPlaces, messageAt, placesOf}
+use Rattle.model_protocol.specs.Send.{addressed, copyOf, sendToAll}
+use Rattle.model_protocol.specs.Step.{answered, deliveredIn, messageFor, partsAt, putBack, stepOf}
+use Rattle.model_protocol.specs.World.{coordinatorOf, emptyCell, freshCoordinator, freshProcess, logOf, withMessage}
+use Rattle.world_coordinator.proofs.FrontLaws.{front-end, front-step}
+use Rattle.world_parts.specs.Asks.{asksLog}
+use Rattle.world_engine.specs.Changed.{changeIn}
+use Rattle.world_engine.proofs.Block.{the-type as block-type}
+use Rattle.world_engine.specs.declared.Advanced.{Advanced}
+use Rattle.world_engine.specs.declared.Block.{Block}
+use Rattle.world_engine.specs.declared.Order.{Order}
+use Rattle.world_engine.specs.Orders.{advanced, answersTo, blockOrders, ordered, ordersOf, worldAfter}
+use Rattle.world_engine.proofs.Room.{order-fits}
+use Rattle.world_engine.proofs.Stepping.{order-is, stored}
+
+-- ---- lengths
+
+-- the arrays of a world have their lengths
+abbrev pub Lengths : World → Type 0
+Lengths w =
+    (length (w .cells) ≡ cellPlaces)
+    × (length (w .coordinators) ≡ coordinators)
+    × (length (w .logs) ≡ coordinators)
+    × (length (w .processes) ≡ processPlaces)
+    × (length (w .messages) ≡ messages)
+
+pub world-lengths : (w : World) (vs : List Val) → Is (row world-type) w vs → Lengths w
+world-lengths w vs g = (
+  simp length-map at (g .1 .1 .1 .0 .1 .0 .1),
+  simp length-map at (g .1 .1 .1 .1 .0 .1 .0 .1),
+  simp length-map at (g .1 .1 .1 .1 .1 .0 .1 .0 .1),
+  simp length-map at (g .1 .1 .1 .1 .1 .1 .0 .1 .0 .1),
+  simp length-map at (g .1 .1 .1 .1 .1 .1 .1 .1 .0 .1 .0 .1),
+)
+
+pub block-length : (b : Block) (vs : List Val) → Is (row block-type) b vs → length (b .orders) ≡ blockOrders
+block-length b vs g = simp length-map at (g .1 .1 .0 .1 .0 .1)
+
+message-inside : (s : Step) → messageAt s < messages
+message-inside (Setup n) = omega arith
+message-inside (Request e to) = omega arith
+message-inside (Open c i b) = omega arith
+message-inside (Propose c i b) = omega arith
+message-inside (Deliver m) = mod-lt m (omega arith)
+message-inside (Tell c p tx) = omega arith
+message-inside (Restore c p) = omega arith
+message-inside (Crash role id) = omega arith
+
+-- the world has every place of a step
+abbrev pub There : Places → Type 0
+There at = (at .coordinator < coordinators) × (at .cell < cellPlaces) × (at .process < processPlaces)
+
+there : (c x h : ℕ) → There (record { coordinator = c % coordinators; cell = x % cellPlaces; process = h % processPlaces })
+there c x h = (mod-lt c (omega arith), mod-lt x (omega arith), mod-lt h (omega arith))
+
+delivery-there : (m : Message) (k : Kind) → There (deliveryPlaces m k)
+delivery-there m kind.Request = there (m .to) 0 0
+delivery-there m kind.Prepare = there 0 (m .acceptor * instances + m .inst) 0
+delivery-there m kind.Accept = there 0 (m .acceptor * instances + m .inst) 0
+delivery-there m kind.Promise = there (owner (m .ballot)) 0 0
+delivery-there m kind.Accepted = there (owner (m .ballot)) 0 0
+delivery-there m kind.Tell = there 0 0 (m .to)
+delivery-there m kind.Restore = there 0 0 (m .to)
+
+step-there : (s : Step) (m : Message) → There (placesOf s m)
+unfolding placesOf
+step-there (Setup n) m = there 0 0 0
+step-there (Request e to) m = there 0 0 (e .process)
+step-there (Open c i b) m = there c 0 0
+step-there (Propose c i b) m = there c 0 0
+step-there (Deliver k) m = delivery-there m (m .kind)
+step-there (Tell c p tx) m = there c 0 0
+step-there (Restore c p) m = there c 0 0
+step-there (Crash role id) m = there 0 0 0
+
+pub places-there : (at : Places) (s : Step) (m : Message) → at ≡ placesOf s m → There at
+places-there at s m e = rw e (step-there s m)
+
+-- ---- what is read of the world
+
+module _ (w : World) (long : Lengths w) where
+  pub delivered-is : (s : Step) (n : ℕ) (d : Message) → n ≡ messageAt s → getD (w .messages) n d ≡ deliveredIn w s
+  delivered-is s n d e =
+      let h = message-inside s in
+      ap (λ (i : ℕ). getD (w .messages) i d) e ∙ in-list (w .messages) (messageAt s) d _ (omega (arith, long .4, h))
+
+  pub parts-are : (at : Places) (m : Message) (c : Coordinator) (x : Cell) (h : Process) → There at
+      → parts (w .acceptors) (w .sent) (w .down) (getD (w .coordinators) (at .coordinator) c) (getD (w .cells) (at .cell) x) (getD (w .processes) (at .process) h) m
+      ≡ partsAt w at m
+  parts-are at m c x h here =
+      λ i. parts
+      (w .acceptors)
+      (w .sent)
+      (w .down)
+      (in-list (w .coordinators) (at .coordinator) c freshCoordinator (omega (arith, long .1, here .0)) i)
+      (in-list (w .cells) (at .cell) x emptyCell (omega (arith, long .0, here .1)) i)
+      (in-list (w .processes) (at .process) h freshProcess (omega (arith, long .3, here .2)) i)
+      m
+
+  -- ---- the message of the step
+
+  pub said-is : (s : Step) (at : Places) (d : Message) (l : Log) (k : Coordinator) (m : Message) → There at
+      → m ≡ messageFor s d (getD (w .logs) (at .coordinator) l) (getD (w .coordinators) (at .coordinator) k .applied)
+      → m ≡ messageFor s d (logOf w (at .coordinator)) (coordinatorOf w (at .coordinator) .applied)
+  said-is s at d l k m here is =
+      is
+      ∙ (λ i. messageFor s d
+      (in-list (w .logs) (at .coordinator) l emptyLog (omega (arith, long .2, here .0)) i)
+      (in-list (w .coordinators) (at .coordinator) k freshCoordinator (omega (arith, long .1, here .0)) i .applied))
+
+-- a step that asks no log is about the message delivered
+pub not-asked : (s : Step) (d : Message) (l : Log) (n : ℕ) → asksLog s ≡ false → d ≡ messageFor s d l n
+unfolding messageFor
+not-asked (Setup k) d l n h = refl
+not-asked (Request e to) d l n h = refl
+not-asked (Open c i b) d l n h = refl
+not-asked (Propose c i b) d l n h = refl
+not-asked (Deliver m) d l n h = refl
+not-asked (Tell c p tx) d l n h = absurd (true≢false h)
+not-asked (Restore c p) d l n h = absurd (true≢false h)
+not-asked (Crash role id) d l n h = refl
+
+-- ---- the world with the parts stored, before the log is fed
+
+abbrev pub partsStored : World → Places → Parts → World
+partsStored w at p = record {
+  acceptors = p .acceptors;
+  cells = set (w .cells) (at .cell) (p .cell);
+  coordinators = set (w .coordinators) (at .coordinator) (p .coordinator);
+  logs = w .logs;
+  processes = set (w .processes) (at .process) (p .process);
+  down = p .down;
+  messages = w .messages;
+  sent = w .sent;
+}
+
+abbrev withLogs : World → List Log → World
+withLogs w ls = record {
+  acceptors = w .acceptors;
+  cells = w .cells;
+  coordinators = w .coordinators;
+  logs = ls;
+  processes = w .processes;
+  down = w .down;
+  messages = w .messages;
+  sent = w .sent;
+}
+
+module _ (w : World) (at : Places) (p : Parts) (b : Batch) where
+  -- where nothing was learned the log stays
+  pub none-fed : b .count ≡ 0 → partsStored w at p ≡ putBack w at p b
+  unfolding feed
+  none-fed h = ap (λ (ls : List Log). withLogs (partsStored w at p) ls) (rw h (sym (set-getD (w .logs) (at .coordinator) emptyLog)))
+
+  pub log-fed : (l : Log) (fed : Log) → Lengths w → There at → fed ≡ feed (getD (w .logs) (at .coordinator) l) (entriesOf b)
+      → withLogs (partsStored w at p) (set (w .logs) (at .coordinator) fed) ≡ putBack w at p b
+  log-fed l fed long here is =
+      ap (λ (x : Log). withLogs (partsStored w at p) (set (w .logs) (at .coordinator) x))
+      (is ∙ ap (λ (x : Log). feed x (entriesOf b)) (in-list (w .logs) (at .coordinator) l emptyLog (omega (arith, long .2, here .0))))
+
+-- ---- messages sent one after the other
+
+module _ (w₀ : World) (m₀ : Message) where
+  pub copies-none : w₀ ≡ sendToAll w₀ 0 (copyOf m₀)
+  unfolding sendToAll
+  copies-none = refl
+
+  pub copies-next : (w : World) (m : Message) (i : ℕ) → w ≡ sendToAll w₀ i (copyOf m₀) → m ≡ copyOf m₀ i
+      → withMessage w m ≡ sendToAll w₀ (i + 1) (copyOf m₀)
+  unfolding sendToAll
+  copies-next w m i is same =
+      ap (λ (x : Message). withMessage w x) same
+      ∙ ap (λ (v : World). withMessage v (copyOf m₀ i)) is
+      ∙ ap (λ (k : ℕ). sendToAll w₀ k (copyOf m₀)) (sym (add-one i))
+
+module _ (m₀ : Message) where
+  pub first-copy : m₀ ≡ copyOf m₀ 0
+  unfolding copyOf
+  first-copy = refl
+
+  readdressed : (i k : ℕ) → addressed (copyOf m₀ i) k ≡ addressed m₀ k
+  unfolding copyOf
+  readdressed ℕ.zero k = refl
+  readdressed (suc i) k = refl
+
+  next-copy-suc : (i : ℕ) → addressed m₀ (suc i) ≡ copyOf m₀ (suc i)
+  unfolding copyOf
+  next-copy-suc i = refl
+
+  pub next-copy : (m : Message) (i : ℕ) → m ≡ copyOf m₀ i → addressed m (i + 1) ≡ copyOf m₀ (i + 1)
+  next-copy m i same =
+      ap (λ (x : Message). addressed x (i + 1)) same
+      ∙ readdressed i (i + 1)
+      ∙ ap (λ (k : ℕ). addressed m₀ k) (add-one i)
+      ∙ next-copy-suc i
+      ∙ ap (λ (k : ℕ). copyOf m₀ k) (sym (add-one i))
+
+-- ---- one order
+
+module _ (w : World) (o : Order) (d m : Message) (at : Places) (p : Parts) where
+  read-order : d ≡ deliveredIn w (o .step) → at ≡ placesOf (o .step) d
+      → m ≡ messageFor (o .step) d (logOf w (at .coordinator)) (coordinatorOf w (at .coordinator) .applied)
+      → p ≡ partsAt w at m → stored w at (changeIn o p) ≡ ordered w o
+  read-order ed ea em ep = rw (ep, em, ea, ed) (order-is w o)
+
+  pub order-taken : (ch : Change) (i : ℕ) (v : World) → d ≡ deliveredIn w (o .step) → at ≡ placesOf (o .step) d
+      → m ≡ messageFor (o .step) d (logOf w (at .coordinator)) (coordinatorOf w (at .coordinator) .applied)
+      → p ≡ partsAt w at m → ch ≡ changeIn o p → i ≡ ch .count
+      → v ≡ sendToAll (putBack w at (ch .parts) (ch .learned)) i (copyOf (ch .message))
+      → answered v (ch .answer) ≡ ordered w o
+  order-taken ch i v ed ea em ep ec ei ev =
+      ap (λ (x : World). answered x (ch .answer)) (ev ∙ ap (λ (k : ℕ). sendToAll (putBack w at (ch .parts) (ch .learned)) k (copyOf (ch .message))) ei)
+      ∙ ap (λ (x : Change). stored w at x) ec
+      ∙ read-order ed ea em ep
+
+-- ---- the orders of a block
+
+module _ (xs : List Order) (n k : ℕ) (hn : k < n) (hx : k < length xs) (d : Order) (w v : World) (a : ℕ) (is : answered v a ≡ ordered w (getD xs k d)) where
+  pub world-turn : worldAfter w (drop k (take n xs)) ≡ worldAfter v (drop (k + 1) (take n xs))
+  unfolding worldAfter
+  world-turn =
+      rw (front-step xs n k d hn hx) (ap (λ (s : Stepped). worldAfter (s .world) (drop (k + 1) (take n xs))) (sym is))
+
+  answers-turn : answersTo w (drop k (take n xs)) ≡ a ∷ answersTo v (drop (k + 1) (take n xs))
+  unfolding answersTo
+  answers-turn =
+      rw (front-step xs n k d hn hx) (ap (λ (s : Stepped). s .answer ∷ answersTo (s .world) (drop (k + 1) (take n xs))) (sym is))
+
+  pub stored-turn : (answers all : List ℕ) → sets answers k (answersTo w (drop k (take n xs))) ≡ all
+      → sets (set answers k a) (k + 1) (answersTo v (drop (k + 1) (take n xs))) ≡ all
+  stored-turn answers all inv = rw (add-one k) (rw (answers-turn, add-one k) at inv)
+
+-- ---- what the loops keep
+
+pub message-small : (n : ℕ) (s : Step) → n ≡ messageAt s → n < messages
+message-small n s e = let h = message-inside s in omega (arith, e, h)
+
+pub put-lengths : (w : World) (at : Places) (p : Parts) (b : Batch) → Lengths w → Lengths (putBack w at p b)
+put-lengths w at p b long = (rw length-set (long .0), rw length-set (long .1), rw length-set (long .2), rw length-set (long .3), long .4)
+
+pub sent-lengths : (w : World) (m : Message) → Lengths w → Lengths (withMessage w m)
+sent-lengths w m long = (long .0, long .1, long .2, long .3, rw length-set (long .4))
+
+pub count-fits : (ch : Change) (o : Order) (p : Parts) → ch ≡ changeIn o p → ch .count ≤ messages - p .sent
+count-fits ch o p e = rw e (order-fits o p)
+
+-- at the end of the loop all orders of the block are taken
+pub block-done : (w₀ w : World) (b : Block) (answers : List ℕ) (n k : ℕ) → length (b .orders) ≡ blockOrders → n ≡ min (b .count) blockOrders → n ≤ k
+    → worldAfter w (drop k (ordersOf b)) ≡ worldAfter w₀ (ordersOf b)
+    → sets answers k (answersTo w (drop k (ordersOf b))) ≡ sets (replicate blockOrders 0) 0 (answersTo w₀ (ordersOf b))
+    → _≡_ {A = Advanced} (record { world = w; answers = answers }) (advanced w₀ b)
+unfolding advanced worldAfter answersTo
+block-done w₀ w b answers n k hl hn hk hw ha =
+    let rest : drop k (ordersOf b) ≡ [] = front-end (b .orders) (b .count) k (omega (arith, hl, hn, hk)) in
+    let world : w ≡ worldAfter w₀ (ordersOf b) = rw rest at hw in
+    let answered : answers ≡ sets (replicate blockOrders 0) 0 (answersTo w₀ (ordersOf b)) = rw rest at ha in
+    λ i. record { world = world i; answers = answered i }
+
+-- a block of one step
+pub one-step : (w : World) (s : Step) (after : Advanced)
+    → after ≡ advanced w (record { orders = replicate blockOrders (record { refused = 0; step = s }); count = 1 })
+    → _≡_ {A = Stepped} (record { world = after .world; answer = getD (after .answers) 0 0 }) (stepOf w s)
+unfolding advanced worldAfter answersTo
+one-step w s after is = ap (λ (x : Advanced). answered (x .world) (getD (x .answers) 0 0)) is

@@ -1,0 +1,27 @@
+-- What an order does, by its tests.
+use mathlib.Core.Bool.{Bool, cond, false, true}
+use mathlib.Core.Path.{_≡_, refl}
+use borrow.Author.Tests.{eq-eqb, ne-eqb}
+use lib.Dec.{eqb}
+use Rattle.log_entry.specs.Refusal.{firstRefusal, outsideLimits}
+use Rattle.model_steps.specs.Limits.{outsideStep}
+use Rattle.model_protocol.specs.declared.Parts.{Parts}
+use Rattle.model_protocol.specs.Change.{still}
+use Rattle.model_protocol.specs.Step.{acceptorsCounted, stepRefusal}
+use Rattle.world_parts.specs.Plan.{planOf}
+use Rattle.world_engine.specs.declared.Order.{Order}
+use Rattle.world_engine.specs.Changed.{changeIn}
+
+module _ (o : Order) (p : Parts) where
+  pub order-refused : (o .refused ≡ 0 → ⊥) → still p (o .refused) ≡ changeIn o p
+  unfolding changeIn
+  order-refused h = rw (ne-eqb (o .refused) 0 h)
+
+  module _ (step : o .refused ≡ 0) where
+    pub order-outside : outsideStep (acceptorsCounted (p .acceptors)) (o .step) ≡ true → still p outsideLimits ≡ changeIn o p
+    unfolding changeIn stepRefusal firstRefusal
+    order-outside out = rw (eq-eqb (o .refused) 0 step, out)
+
+    pub order-planned : outsideStep (acceptorsCounted (p .acceptors)) (o .step) ≡ false → planOf p (o .step) ≡ changeIn o p
+    unfolding changeIn stepRefusal firstRefusal planOf
+    order-planned inside = rw (eq-eqb (o .refused) 0 step, inside)

@@ -1,0 +1,104 @@
+-- A step sends no more messages than there are numbers left.
+use Prim.Native.Nat.{ℕ, _≤_, _-_}
+use mathlib.Core.Bool.{Bool, cond, false, true, not, _&&_, _||_}
+use mathlib.Core.Path.{_≡_, refl}
+use native.Mathlib.Omega.{arith}
+use borrow.Author.Tests.{eqb-true, ltb-false}
+use lib.Dec.{eqb, leb, ltb}
+use Rattle.log_entry.specs.Limits.{stores}
+use Rattle.log_entry.specs.Refusal.{firstRefusal, outsideLimits}
+use Rattle.log_entry.specs.Entry.{illFormed}
+use Rattle.log_core.specs.Outcome.{isOpen}
+use Rattle.model_steps.specs.declared.Role.the-variants.{Coord, Proc}
+use Rattle.model_steps.specs.declared.Step.{Step}
+use Rattle.model_steps.specs.declared.Step.the-variants.{Setup, Request, Open, Propose, Deliver, Tell, Restore, Crash}
+use Rattle.model_steps.specs.Limits.{messages, outsideStep}
+use Rattle.model_protocol.specs.declared.Kind.{Kind}
+use Rattle.model_protocol.specs.declared.Kind.the-variants as kind
+use Rattle.model_protocol.specs.Acceptor.{accepts, promises}
+use Rattle.model_protocol.specs.Ballot.{majority}
+use Rattle.model_protocol.specs.Coordinator.{counting, isHeard}
+use Rattle.model_protocol.specs.declared.Change.{Change}
+use Rattle.model_protocol.specs.declared.Parts.{Parts}
+use Rattle.model_protocol.specs.Deliver.{handed, noPlaceFor, receiverDown}
+use Rattle.model_protocol.specs.Send.{lacksNumbers}
+use Rattle.model_protocol.specs.Step.{acceptorsCounted, cannotOpen, cannotPropose, changeOf, noSetup, stepChecks, stepRefusal, unbelieved}
+use Rattle.model_protocol.specs.World.{isDown}
+use Rattle.world_parts.specs.Plan.{refusalIn}
+use Rattle.world_parts.specs.Refusal.{firstOf}
+use Rattle.world_engine.specs.declared.Order.{Order}
+use Rattle.world_engine.specs.Changed.{changeIn}
+
+first-roomy : (unsent down unmet full ill : Bool) → firstOf unsent down unmet full ill ≡ 0 → full ≡ false
+unfolding firstRefusal
+first-roomy unsent down unmet false ill h = refl
+first-roomy true down unmet true ill h = absurd (omega (arith, h))
+first-roomy false true unmet true ill h = absurd (omega (arith, h))
+first-roomy false false true true ill h = absurd (omega (arith, h))
+first-roomy false false false true ill h = absurd (omega (arith, h))
+
+-- of two changes, neither of which sends too many
+either-fits : (t : Bool) (x y : Change) (k : ℕ) → (t ≡ true → x .count ≤ k) → y .count ≤ k → cond t x y .count ≤ k
+either-fits true x y k hx hy = hx refl
+either-fits false x y k hx hy = hy
+
+-- an acceptor that answers has a number for it
+answer-fits : (t : Bool) (sent : ℕ) → (t && lacksNumbers sent 1) ≡ false → t ≡ true → 1 ≤ messages - sent
+answer-fits t sent room answers = ltb-false (messages - sent) 1 (rw answers at room)
+
+handed-fits : (p : Parts) (k : Kind) → noPlaceFor p k ≡ false → handed p k .count ≤ messages - p .sent
+unfolding handed
+handed-fits p kind.Request room = omega arith
+handed-fits p kind.Prepare room =
+    either-fits (promises (p .cell) (p .message .ballot)) _ _ (messages - p .sent) (answer-fits (promises (p .cell) (p .message .ballot)) (p .sent) room) (omega arith)
+handed-fits p kind.Accept room =
+    either-fits (accepts (p .cell) (p .message .ballot)) _ _ (messages - p .sent) (answer-fits (accepts (p .cell) (p .message .ballot)) (p .sent) room) (omega arith)
+handed-fits p kind.Promise room =
+    either-fits (isHeard (p .coordinator) (p .message .inst) (p .message .ballot) (p .message .acceptor)) _ _ (messages - p .sent) (λ _. omega arith) (omega arith)
+handed-fits p kind.Accepted room =
+    either-fits (isHeard (p .coordinator) (p .message .inst) (p .message .ballot) (p .message .acceptor)) _ _ (messages - p .sent)
+    (λ _. either-fits (majority (p .acceptors) (counting (p .coordinator .round) (p .message .acceptor) .acceptances)) _ _ (messages - p .sent) (λ _. omega arith) (omega arith))
+    (omega arith)
+handed-fits p kind.Tell room = omega arith
+handed-fits p kind.Restore room =
+    either-fits (ltb (p .process .position) (p .message .position)) _ _ (messages - p .sent) (λ _. omega arith) (omega arith)
+
+change-fits : (p : Parts) (s : Step) → refusalIn p s ≡ 0 → changeOf p s .count ≤ messages - p .sent
+unfolding changeOf stepChecks firstRefusal
+change-fits p (Setup n) h = omega arith
+change-fits p (Request e to) h =
+    ltb-false (messages - p .sent) 1
+    (first-roomy false (isDown (p .down) Proc (e .process) || isDown (p .down) Coord to) (noSetup p || unbelieved e (p .process)) (lacksNumbers (p .sent) 1) (not (e .take) && illFormed e) h)
+change-fits p (Open c i b) h =
+    ltb-false (messages - p .sent) (p .acceptors)
+    (first-roomy false (isDown (p .down) Coord c) (noSetup p || cannotOpen (p .coordinator) c i b) (lacksNumbers (p .sent) (p .acceptors)) false h)
+change-fits p (Propose c i b) h =
+    ltb-false (messages - p .sent) (p .acceptors)
+    (first-roomy false (isDown (p .down) Coord c) (noSetup p || cannotPropose (p .acceptors) (p .coordinator) i b) (lacksNumbers (p .sent) (p .acceptors)) false h)
+change-fits p (Deliver m) h =
+    let k = p .message .kind in
+    handed-fits p k (first-roomy (leb (p .sent) m) (receiverDown (p .down) (p .message) k) (noSetup p) (noPlaceFor p k) false h)
+change-fits p (Tell c process tx) h =
+    ltb-false (messages - p .sent) 1
+    (first-roomy false (isDown (p .down) Coord c || isDown (p .down) Proc process) (noSetup p || isOpen (p .message .outcome)) (lacksNumbers (p .sent) 1) false h)
+change-fits p (Restore c process) h =
+    ltb-false (messages - p .sent) 1
+    (first-roomy false (isDown (p .down) Coord c || isDown (p .down) Proc process) (noSetup p || leb stores (p .message .store)) (lacksNumbers (p .sent) 1) false h)
+change-fits p (Crash role id) h = omega arith
+
+-- so does an order
+within : (p : Parts) (s : Step) → stepRefusal p s ≡ 0 → refusalIn p s ≡ 0
+unfolding stepRefusal firstRefusal
+within p s = by (outsideStep (acceptorsCounted (p .acceptors)) s)
+  where
+    by : (t : Bool) → cond t outsideLimits (refusalIn p s) ≡ 0 → refusalIn p s ≡ 0
+    by true h = absurd (omega (arith, h))
+    by false h = h
+
+pub order-fits : (o : Order) (p : Parts) → changeIn o p .count ≤ messages - p .sent
+unfolding changeIn
+order-fits o p =
+    let s = o .step in
+    either-fits (eqb (o .refused) 0) _ _ (messages - p .sent)
+    (λ _. either-fits (eqb (stepRefusal p s) 0) (changeOf p s) _ (messages - p .sent) (λ h. change-fits p s (within p s (eqb-true (stepRefusal p s) 0 h))) (omega arith))
+    (omega arith)

@@ -1,0 +1,91 @@
+-- What an order does to the parts of its step, put back, is the order taken.
+use Prim.Native.Nat.{ℕ}
+use mathlib.Core.Bool.{Bool, cond, false, true}
+use mathlib.Core.Path.{_≡_, ap, refl}
+use lib.Dec.{eqb, ltb}
+use Rattle.log_entry.specs.Refusal.{accepted}
+use Rattle.model_steps.specs.declared.Step.{Step}
+use Rattle.model_steps.specs.declared.Step.the-variants.{Setup, Request, Open, Propose, Deliver, Tell, Restore, Crash}
+use Rattle.model_protocol.specs.declared.Change.{Change}
+use Rattle.model_protocol.specs.declared.Kind.{Kind}
+use Rattle.model_protocol.specs.declared.Kind.the-variants as kind
+use Rattle.model_protocol.specs.declared.Parts.{Parts}
+use Rattle.model_protocol.specs.declared.Places.{Places}
+use Rattle.model_protocol.specs.declared.Stepped.{Stepped}
+use Rattle.model_protocol.specs.declared.World.{World}
+use Rattle.model_protocol.specs.Acceptor.{accepts, promises}
+use Rattle.model_protocol.specs.Change.{still}
+use Rattle.model_protocol.specs.Ballot.{majority}
+use Rattle.model_protocol.specs.Coordinator.{counting, isHeard}
+use Rattle.model_protocol.specs.Deliver.{handed}
+use Rattle.model_protocol.specs.Step.{answered, changed, changeOf, messageIn, partsOf, placesIn, stepOf, stepRefusal}
+use Rattle.model_protocol.proofs.PutBack.{nothing-changed}
+use Rattle.world_parts.specs.Plan.{decided}
+use Rattle.world_engine.specs.declared.Order.{Order}
+use Rattle.world_engine.specs.Changed.{changeIn}
+use Rattle.world_engine.specs.Orders.{ordered}
+
+-- ---- what is not refused is answered 0
+
+either-accepted : (t : Bool) (x y : Change) → x .answer ≡ accepted → y .answer ≡ accepted → cond t x y .answer ≡ accepted
+either-accepted true x y hx hy = hx
+either-accepted false x y hx hy = hy
+
+handed-accepted : (p : Parts) (k : Kind) → handed p k .answer ≡ accepted
+unfolding handed
+handed-accepted p kind.Request = refl
+handed-accepted p kind.Prepare = either-accepted (promises (p .cell) (p .message .ballot)) _ _ refl refl
+handed-accepted p kind.Accept = either-accepted (accepts (p .cell) (p .message .ballot)) _ _ refl refl
+handed-accepted p kind.Promise = either-accepted (isHeard (p .coordinator) (p .message .inst) (p .message .ballot) (p .message .acceptor)) _ _ refl refl
+handed-accepted p kind.Accepted =
+    either-accepted (isHeard (p .coordinator) (p .message .inst) (p .message .ballot) (p .message .acceptor)) _ _
+    (either-accepted (majority (p .acceptors) (counting (p .coordinator .round) (p .message .acceptor) .acceptances)) _ _ refl refl)
+    refl
+handed-accepted p kind.Tell = refl
+handed-accepted p kind.Restore = either-accepted (ltb (p .process .position) (p .message .position)) _ _ refl refl
+
+change-accepted : (p : Parts) (s : Step) → changeOf p s .answer ≡ accepted
+unfolding changeOf
+change-accepted p (Setup n) = refl
+change-accepted p (Request e to) = refl
+change-accepted p (Open c i b) = refl
+change-accepted p (Propose c i b) = refl
+change-accepted p (Deliver m) = handed-accepted p (p .message .kind)
+change-accepted p (Tell c process tx) = refl
+change-accepted p (Restore c process) = refl
+change-accepted p (Crash role id) = refl
+
+-- ---- the order
+
+-- the world after the change, and the answer
+abbrev pub stored : World → Places → Change → Stepped
+stored w at ch = answered (changed w at ch) (ch .answer)
+
+module _ (w : World) (o : Order) where
+  abbrev s : Step
+  s = o .step
+
+  abbrev p : Parts
+  p = partsOf w s
+
+  abbrev at : Places
+  at = placesIn w s
+
+  unchanged : (n : ℕ) → stored w at (still p n) ≡ answered w n
+  unchanged n = ap (λ (v : World). answered v n) (nothing-changed w at (messageIn w s) n)
+
+  by-refusal : (t : Bool)
+      → stored w at (cond t (changeOf p s) (still p (stepRefusal p s)))
+      ≡ cond t (answered (changed w at (changeOf p s)) accepted) (answered w (stepRefusal p s))
+  by-refusal true = ap (λ (n : ℕ). answered (changed w at (changeOf p s)) n) (change-accepted p s)
+  by-refusal false = unchanged (stepRefusal p s)
+
+  by-order : (t : Bool)
+      → stored w at (cond t (decided p (stepRefusal p s) (changeOf p s)) (still p (o .refused))) ≡ cond t (stepOf w s) (answered w (o .refused))
+  unfolding stepOf
+  by-order true = by-refusal (eqb (stepRefusal p s) accepted)
+  by-order false = unchanged (o .refused)
+
+  pub order-is : stored w at (changeIn o p) ≡ ordered w o
+  unfolding changeIn
+  order-is = by-order (eqb (o .refused) accepted)

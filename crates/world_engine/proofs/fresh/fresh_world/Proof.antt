@@ -1,0 +1,42 @@
+use borrow.Author.Needs.{needs}
+use Rattle.model_protocol.specs.World.{freshWorld}
+use Rattle.world_engine.proofs.fresh.fresh_world.Statement.{statement}
+use Rattle.world_engine.proofs.fresh.fresh_world.Tie as tie
+
+empty-cell-requires : tie.Need-empty-cell-requires
+empty-cell-requires c κs = search needs
+
+fresh-coordinator-requires : tie.Need-fresh-coordinator-requires
+fresh-coordinator-requires c κs = search needs
+
+empty-requires : tie.Need-empty-requires
+empty-requires c κs = search needs
+
+fresh-process-requires : tie.Need-fresh-process-requires
+fresh-process-requires c κs = search needs
+
+no-entry-requires : tie.Need-no-entry-requires
+no-entry-requires c κs = search needs
+
+request-to-requires : tie.Need-request-to-requires
+request-to-requires c κs = search needs
+
+all-up-requires : tie.Need-all-up-requires
+all-up-requires c κs = search needs
+
+returns : tie.Need-returns
+unfolding freshWorld
+returns c = cc
+
+pub fresh-world-spec : {M : Type 1} → statement M
+fresh-world-spec =
+    tie.close
+    (tie.spec
+    empty-cell-requires
+    fresh-coordinator-requires
+    empty-requires
+    fresh-process-requires
+    no-entry-requires
+    request-to-requires
+    all-up-requires
+    returns)

@@ -1,0 +1,50 @@
+use borrow.Author.Needs.{needs}
+use Prim.Native.Nat.{ℕ}
+use mathlib.Core.Path.{ap, sym, _∙_}
+use Rattle.model_steps.specs.Limits.{outsideStep}
+use Rattle.world_engine.proofs.ChangeLaws.{order-outside, order-planned, order-refused}
+use Rattle.world_engine.proofs.plan.change.Statement.{statement}
+use Rattle.world_engine.proofs.plan.change.Tie as tie
+
+still-requires : tie.Need-still-requires
+still-requires c κs = search needs
+
+returns : tie.Need-returns
+returns c = let a = c .before .before .before .args in c .still .ensures ∙ order-refused (a .o) (a .p) (c .before .if1 .taken)
+
+counted-requires : tie.Need-counted-requires
+counted-requires c κs = search needs
+
+outside-requires : tie.Need-outside-requires
+outside-requires c κs = search needs
+
+still-requires-2 : tie.Need-still-requires-2
+still-requires-2 c κs = search needs
+
+returns-2 : tie.Need-returns-2
+returns-2 c =
+    let a = c .before .before .before .before .before .before .args in
+    c .still2 .ensures
+    ∙ order-outside (a .o) (a .p) (c .before .before .before .before .if1 .left) (ap (λ (n : ℕ). outsideStep n (a .o .step)) (sym (c .before .before .before .counted .ensures)) ∙ sym (c .before .before .outside .ensures) ∙ c .before .if2 .taken)
+
+plan-requires : tie.Need-plan-requires
+plan-requires c κs = search needs
+
+returns-3 : tie.Need-returns-3
+returns-3 c =
+    let a = c .before .before .before .before .before .before .args in
+    c .plan .ensures
+    ∙ order-planned (a .o) (a .p) (c .before .before .before .before .if1 .left) (ap (λ (n : ℕ). outsideStep n (a .o .step)) (sym (c .before .before .before .counted .ensures)) ∙ sym (c .before .before .outside .ensures) ∙ c .before .if2 .left)
+
+pub change-spec : {M : Type 1} → statement M
+change-spec =
+    tie.close
+    (tie.spec
+    still-requires
+    returns
+    counted-requires
+    outside-requires
+    still-requires-2
+    returns-2
+    plan-requires
+    returns-3)

@@ -1,0 +1,108 @@
+// The world's steps, taken in place.
+ghost use mathlib.Core.Path.{_≡_};
+ghost use Rattle.model_protocol.specs.Step.{stepOf};
+ghost use Prim.Native.Nat.{min};
+ghost use Rattle.world_engine.specs.Orders.{advanced, blockOrders};
+use crate::Advanced;
+use crate::Block;
+use crate::Order;
+use crate::plan;
+use model_protocol::Parts;
+use model_protocol::Stepped;
+use model_protocol::World;
+use model_steps::Step;
+use world_coordinator::learn;
+use world_parts::place;
+
+fn at_most(count: u8) -> u8
+    ensures { λ r. ⌜ r ≡ min count blockOrders ⌝ }
+{
+    if count < 32 {
+        return count;
+    }
+    32
+}
+
+// The orders of the block, one after the other.
+pub fn advance(mut w: World, block: Block) -> Advanced
+    ensures { λ r. ⌜ r ≡ advanced w block ⌝ }
+{
+    let mut answers = [0u8; 32];
+    let count = at_most(block.count);
+    let mut k: u8 = 0;
+    while k < count {
+        let o = block.orders[k as usize];
+        let s = o.step;
+        let delivered = w.messages[place::message_at(s) as usize];
+        let at = place::places(s, delivered);
+        let c = at.coordinator as usize;
+        let x = at.cell;
+        let h = at.process as usize;
+        let coordinator = w.coordinators[c];
+        let mut message = delivered;
+        if place::asks_log(s) {
+            let log = w.logs[c];
+            message = world_requests::said(s, delivered, log, coordinator.applied);
+        }
+        let p = Parts {
+            acceptors: w.acceptors,
+            sent: w.sent,
+            down: w.down,
+            coordinator: coordinator,
+            cell: w.cells[x],
+            process: w.processes[h],
+            message: message,
+        };
+        let change = plan::change(o, p);
+        let after = change.parts;
+        w.acceptors = after.acceptors;
+        let down = after.down;
+        w.down = down;
+        let coordinator = after.coordinator;
+        w.coordinators[c] = coordinator;
+        let cell = after.cell;
+        w.cells[x] = cell;
+        let process = after.process;
+        w.processes[h] = process;
+        let learned = change.learned;
+        if learned.count != 0 {
+            let log = w.logs[c];
+            w.logs[c] = learn::fed(log, learned);
+        }
+        let mut m = change.message;
+        let mut i: u8 = 0;
+        while i < change.count {
+            let n = w.sent;
+            w.messages[n as usize] = m;
+            w.sent = n + 1;
+            i += 1;
+            m.acceptor = i;
+        }
+        answers[k as usize] = change.answer;
+        k += 1;
+    }
+    Advanced {
+        world: w,
+        answers: answers,
+    }
+}
+
+pub fn step(w: World, s: Step) -> Stepped
+    ensures { λ r. ⌜ r ≡ stepOf w s ⌝ }
+{
+    let o = Order {
+        refused: 0,
+        step: s,
+    };
+    let block = Block {
+        orders: [o; 32],
+        count: 1,
+    };
+    let after = advance(w, block);
+    let answers = after.answers;
+    let world = after.world;
+    Stepped {
+        world: world,
+        answer: answers[0],
+    }
+}

@@ -1,0 +1,11 @@
+use mathlib.Core.Path.{refl}
+use Rattle.model_protocol.specs.Message.{noReplay}
+use Rattle.world_messages.proofs.message.no_replay.Statement.{statement}
+use Rattle.world_messages.proofs.message.no_replay.Tie as tie
+
+returns : tie.Need-returns
+unfolding noReplay
+returns c = refl
+
+pub no-replay-spec : {M : Type 1} → statement M
+no-replay-spec = tie.close (tie.spec returns)

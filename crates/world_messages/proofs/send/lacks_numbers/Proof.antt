@@ -1,0 +1,20 @@
+use borrow.Author.Needs.{needs}
+use native.Mathlib.Omega.{arith}
+use Prim.Native.Nat.{ℕ, _-_}
+use mathlib.Core.Path.{_≡_, ap}
+use lib.Dec.{ltb}
+use Rattle.model_steps.specs.Limits.{messages}
+use Rattle.world_messages.proofs.send.lacks_numbers.Statement.{statement}
+use Rattle.world_messages.proofs.send.lacks_numbers.Tie as tie
+
+returns : tie.Need-returns
+returns c = let a = c .before .args in let none : 0 ≡ messages - a .sent = omega arith in ap (λ (k : ℕ). ltb k (a .n)) none
+
+sub-result : tie.Need-sub-result
+sub-result c = search needs
+
+returns-2 : tie.Need-returns-2
+returns-2 c = search needs
+
+pub lacks-numbers-spec : {M : Type 1} → statement M
+lacks-numbers-spec = tie.close (tie.spec returns sub-result returns-2)

@@ -1,0 +1,144 @@
+// The messages of each kind. What a kind does not use is 0.
+ghost use mathlib.Core.Path.{_≡_};
+ghost use Rattle.model_protocol.specs.Message.{acceptTo, acceptedFrom, balloting, mail, noReplay, prepareTo, promiseFrom, requestTo, restoreTo, tellTo};
+use log_core::Outcome;
+use log_core::Replay;
+use log_core::Replayed;
+use log_entry::Entry;
+use model_protocol::Batch;
+use model_protocol::Kind;
+use model_protocol::Message;
+use world_coordinator::fresh::no_batch;
+use world_coordinator::fresh::no_entry;
+
+pub fn no_replay() -> Replay
+    ensures { λ r. ⌜ r ≡ noReplay ⌝ }
+{
+    let none = Replayed {
+        group: 0,
+        tx: 0,
+        update: 0,
+    };
+    Replay {
+        count: 0,
+        rows: [none; 32],
+    }
+}
+
+fn balloting(kind: Kind, inst: u8, ballot: u8, acceptor: u8, held: u8, batch: Batch) -> Message
+    ensures { λ r. ⌜ r ≡ balloting kind inst ballot acceptor held batch ⌝ }
+{
+    Message {
+        kind: kind,
+        to: 0,
+        acceptor: acceptor,
+        inst: inst,
+        ballot: ballot,
+        held: held,
+        batch: batch,
+        entry: no_entry(),
+        tx: 0,
+        outcome: Outcome::Open,
+        store: 0,
+        position: 0,
+        replay: no_replay(),
+    }
+}
+
+fn mail(
+    kind: Kind,
+    to: u8,
+    entry: Entry,
+    tx: u8,
+    outcome: Outcome,
+    store: u8,
+    position: u8,
+    replay: Replay,
+) -> Message
+    ensures { λ r. ⌜ r ≡ mail kind to entry tx outcome store position replay ⌝ }
+{
+    Message {
+        kind: kind,
+        to: to,
+        acceptor: 0,
+        inst: 0,
+        ballot: 0,
+        held: 0,
+        batch: no_batch(),
+        entry: entry,
+        tx: tx,
+        outcome: outcome,
+        store: store,
+        position: position,
+        replay: replay,
+    }
+}
+
+pub fn prepare_to(inst: u8, ballot: u8, acceptor: u8) -> Message
+    ensures { λ r. ⌜ r ≡ prepareTo inst ballot acceptor ⌝ }
+{
+    balloting(Kind::Prepare, inst, ballot, acceptor, 0, no_batch())
+}
+
+pub fn accept_to(inst: u8, ballot: u8, batch: Batch, acceptor: u8) -> Message
+    ensures { λ r. ⌜ r ≡ acceptTo inst ballot batch acceptor ⌝ }
+{
+    balloting(Kind::Accept, inst, ballot, acceptor, 0, batch)
+}
+
+pub fn promise_from(inst: u8, ballot: u8, acceptor: u8, held: u8, batch: Batch) -> Message
+    ensures { λ r. ⌜ r ≡ promiseFrom inst ballot acceptor held batch ⌝ }
+{
+    balloting(Kind::Promise, inst, ballot, acceptor, held, batch)
+}
+
+pub fn accepted_from(inst: u8, ballot: u8, acceptor: u8) -> Message
+    ensures { λ r. ⌜ r ≡ acceptedFrom inst ballot acceptor ⌝ }
+{
+    balloting(Kind::Accepted, inst, ballot, acceptor, 0, no_batch())
+}
+
+pub fn request_to(coord: u8, entry: Entry) -> Message
+    ensures { λ r. ⌜ r ≡ requestTo coord entry ⌝ }
+{
+    mail(
+        Kind::Request,
+        coord,
+        entry,
+        0,
+        Outcome::Open,
+        0,
+        0,
+        no_replay(),
+    )
+}
+
+pub fn tell_to(process: u8, tx: u8, outcome: Outcome) -> Message
+    ensures { λ r. ⌜ r ≡ tellTo process tx outcome ⌝ }
+{
+    mail(
+        Kind::Tell,
+        process,
+        no_entry(),
+        tx,
+        outcome,
+        0,
+        0,
+        no_replay(),
+    )
+}
+
+pub fn restore_to(process: u8, store: u8, position: u8, replay: Replay) -> Message
+    ensures { λ r. ⌜ r ≡ restoreTo process store position replay ⌝ }
+{
+    mail(
+        Kind::Restore,
+        process,
+        no_entry(),
+        0,
+        Outcome::Open,
+        store,
+        position,
+        replay,
+    )
+}

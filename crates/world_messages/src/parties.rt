@@ -1,0 +1,83 @@
+// Who is down.
+ghost use mathlib.Core.Path.{_≡_};
+ghost use Rattle.model_protocol.specs.World.{isDown};
+ghost use Rattle.model_protocol.specs.Deliver.{receiverDown};
+ghost use Rattle.model_protocol.specs.Ballot.{owner};
+ghost use Rattle.model_protocol.specs.World.{crashed};
+use model_protocol::Down;
+use model_protocol::Kind;
+use model_protocol::Message;
+use model_steps::Role;
+use model_steps::limits::COORDINATORS;
+use model_steps::limits::MOST_ACCEPTORS;
+
+// The coordinator that the ballot belongs to.
+pub fn owner(ballot: u8) -> u8
+    ensures { λ r. ⌜ r ≡ owner ballot ⌝ }
+{
+    ballot % COORDINATORS
+}
+
+pub fn is_down(d: Down, role: Role, id: u8) -> bool
+    ensures { λ r. ⌜ r ≡ isDown d role id ⌝ }
+{
+    match role {
+        Role::Acceptor => {
+            if MOST_ACCEPTORS <= id {
+                return false;
+            }
+            d.acceptors[id as usize]
+        }
+        Role::Coord => {
+            if COORDINATORS <= id {
+                return false;
+            }
+            d.coordinators[id as usize]
+        }
+        Role::Proc => {
+            if 16 <= id {
+                return false;
+            }
+            d.processes[id as usize]
+        }
+    }
+}
+
+pub fn receiver_down(d: Down, m: Message) -> bool
+    ensures { λ r. ⌜ r ≡ receiverDown d m (m .kind) ⌝ }
+{
+    let k = m.kind;
+    match k {
+        Kind::Request => is_down(d, Role::Coord, m.to),
+        Kind::Prepare => is_down(d, Role::Acceptor, m.acceptor),
+        Kind::Accept => is_down(d, Role::Acceptor, m.acceptor),
+        Kind::Promise => is_down(d, Role::Coord, owner(m.ballot)),
+        Kind::Accepted => is_down(d, Role::Coord, owner(m.ballot)),
+        Kind::Tell => is_down(d, Role::Proc, m.to),
+        Kind::Restore => is_down(d, Role::Proc, m.to),
+    }
+}
+
+// The party is down from now on.
+pub fn crashed(mut d: Down, role: Role, id: u8) -> Down
+    ensures { λ r. ⌜ r ≡ crashed d role id ⌝ }
+{
+    match role {
+        Role::Acceptor => {
+            if id < MOST_ACCEPTORS {
+                d.acceptors[id as usize] = true;
+            }
+        }
+        Role::Coord => {
+            if id < COORDINATORS {
+                d.coordinators[id as usize] = true;
+            }
+        }
+        Role::Proc => {
+            if id < 16 {
+                d.processes[id as usize] = true;
+            }
+        }
+    }
+    d
+}

@@ -1,0 +1,18 @@
+use borrow.Author.Needs.{needs}
+use Rattle.world_parts.proofs.changes.still.Statement.{statement}
+use Rattle.world_parts.proofs.changes.still.Tie as tie
+
+no-entry-requires : tie.Need-no-entry-requires
+no-entry-requires c κs = search needs
+
+request-to-requires : tie.Need-request-to-requires
+request-to-requires c κs = search needs
+
+no-batch-requires : tie.Need-no-batch-requires
+no-batch-requires c κs = search needs
+
+returns : tie.Need-returns
+returns c = cc
+
+pub still-spec : {M : Type 1} → statement M
+still-spec = tie.close (tie.spec no-entry-requires request-to-requires no-batch-requires returns)

@@ -1,0 +1,51 @@
+// Changes of the parts.
+ghost use mathlib.Core.Path.{_≡_};
+ghost use Rattle.model_protocol.specs.Change.{learns, sending, still};
+use model_protocol::Batch;
+use model_protocol::Change;
+use model_protocol::Message;
+use model_protocol::Parts;
+use world_coordinator::fresh::no_batch;
+use world_coordinator::fresh::no_entry;
+use world_messages::message::request_to;
+
+// The parts are these, and nothing is sent.
+pub fn still(p: Parts, answer: u8) -> Change
+    ensures { λ r. ⌜ r ≡ still p answer ⌝ }
+{
+    let none = request_to(0, no_entry());
+    Change {
+        answer: answer,
+        parts: p,
+        count: 0,
+        message: none,
+        learned: no_batch(),
+    }
+}
+
+// The parts are these now, and so many messages are sent.
+pub fn sending(p: Parts, count: u8, m: Message) -> Change
+    ensures { λ r. ⌜ r ≡ sending p count m ⌝ }
+{
+    Change {
+        answer: 0,
+        parts: p,
+        count: count,
+        message: m,
+        learned: no_batch(),
+    }
+}
+
+// The parts are these now, and the coordinator's log is to be fed the batch.
+pub fn learns(p: Parts, batch: Batch) -> Change
+    ensures { λ r. ⌜ r ≡ learns p batch ⌝ }
+{
+    let none = request_to(0, no_entry());
+    Change {
+        answer: 0,
+        parts: p,
+        count: 0,
+        message: none,
+        learned: batch,
+    }
+}

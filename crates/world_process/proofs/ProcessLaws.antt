@@ -1,0 +1,20 @@
+-- A process by value: what it keeps as heard has a place for every transaction, and none beyond.
+use Prim.Native.Nat.{ℕ, _≤_}
+use mathlib.Core.List.{List}
+use mathlib.Core.Path.{_≡_, sym}
+use denote.Laws.{Is}
+use denote.Struct.Declared.{row}
+use lib.ListN.{length, length-map, set}
+use lib.Seq.{set-out}
+use mir.Val.{Val}
+use Rattle.log_core.specs.declared.Outcome.{Outcome}
+use Rattle.model_protocol.proofs.Process.{the-type}
+use Rattle.model_protocol.specs.declared.Process.{Process}
+use Rattle.model_protocol.specs.Process.{hearingOutcome}
+
+pub heard-length : (p : Process) (vs : List Val) → Is (row the-type) p vs → length (p .heard) ≡ 32
+heard-length p vs g = simp length-map at (g .1 .1 .0 .1 .0 .1)
+
+pub not-heard : (p : Process) (tx : ℕ) (outcome : Outcome) → length (p .heard) ≤ tx → p ≡ hearingOutcome p tx outcome
+not-heard p tx outcome h =
+    λ i. record { heard = sym (set-out (p .heard) tx (record { outcome = outcome }) h) i; store = p .store; position = p .position; replay = p .replay }

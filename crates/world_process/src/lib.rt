@@ -1,0 +1,39 @@
+// What a process hears, takes and believes.
+ghost use mathlib.Core.Path.{_≡_};
+ghost use Rattle.model_protocol.specs.Process.{believes, hearingOutcome, taking};
+use log_core::Outcome;
+use log_core::Replay;
+use log_entry::limits::TRANSACTIONS;
+use model_protocol::Heard;
+use model_protocol::Process;
+
+// Whether the process believes that it holds the store.
+pub fn believes(p: Process, store: u8) -> bool
+    ensures { λ r. ⌜ r ≡ believes p store ⌝ }
+{
+    if 0 < p.position {
+        return p.store == store;
+    }
+    false
+}
+
+// It heard the outcome of the transaction.
+pub fn hearing(mut p: Process, tx: u8, outcome: Outcome) -> Process
+    ensures { λ r. ⌜ r ≡ hearingOutcome p tx outcome ⌝ }
+{
+    if TRANSACTIONS <= tx {
+        return p;
+    }
+    p.heard[tx as usize] = Heard { outcome: outcome };
+    p
+}
+
+// It takes the restore.
+pub fn taking(mut p: Process, store: u8, position: u8, replay: Replay) -> Process
+    ensures { λ r. ⌜ r ≡ taking p store position replay ⌝ }
+{
+    p.store = store;
+    p.position = position;
+    p.replay = replay;
+    p
+}

@@ -1,0 +1,56 @@
+use mathlib.Core.Path.{ap, refl, _∙_, _≡_}
+use mathlib.Core.Bool.{false}
+use borrow.Author.Needs.{needs}
+use lib.Dec.{eqb}
+use Rattle.log_entry.specs.Refusal.{firstRefusal}
+use Rattle.model_steps.specs.declared.Step.the-variants.{Crash}
+use Rattle.model_protocol.specs.declared.Down.{Down}
+use Rattle.model_protocol.specs.Step.{changeOf, stepChecks}
+use Rattle.world_parts.specs.Plan.{planOf, refusalIn}
+use Rattle.model_protocol.specs.Change.{downNow, still}
+use Rattle.world_parts.proofs.PlanLaws.{done-is, refused-is, same-first}
+use Rattle.world_requests.proofs.crash.Statement.{statement}
+use Rattle.world_requests.proofs.crash.Tie as tie
+
+answer-is : (c : tie.After-first-of) → c .first-of .result ≡ refusalIn (c .before .before .before .args .p) (Crash (c .before .before .before .args .role) (c .before .before .before .args .id))
+unfolding stepChecks firstRefusal
+answer-is c =
+    let unmet = eqb (c .before .before .before .args .p .acceptors) 0 in
+    c .first-of .ensures ∙ same-first false false _ _ unmet unmet false false false false refl (c .before .before .is-down .ensures) refl refl refl
+
+is-down-requires : tie.Need-is-down-requires
+is-down-requires c κs = search needs
+
+first-of-requires : tie.Need-first-of-requires
+first-of-requires c κs = search needs
+
+still-requires : tie.Need-still-requires
+still-requires c κs = search needs
+
+returns : tie.Need-returns
+unfolding planOf
+returns c = let a = c .before .before .before .before .before .args in c .still .ensures ∙ refused-is _ _ _ (changeOf (a .p) (Crash (a .role) (a .id))) (answer-is (c .before .before)) (c .before .if1 .taken)
+
+crashed-requires : tie.Need-crashed-requires
+crashed-requires c κs = search needs
+
+still-requires-2 : tie.Need-still-requires-2
+still-requires-2 c κs = search needs
+
+returns-2 : tie.Need-returns-2
+unfolding planOf changeOf
+returns-2 c =
+    let a = c .before .before .before .before .before .before .args in
+    c .still2 .ensures ∙ ap (λ (d : Down). still (downNow (a .p) d) 0) (c .before .crashed .ensures) ∙ done-is (a .p) _ _ _ (answer-is (c .before .before .before)) (c .before .before .if1 .left)
+
+pub crash-spec : {M : Type 1} → statement M
+crash-spec =
+    tie.close
+    (tie.spec
+    is-down-requires
+    first-of-requires
+    still-requires
+    returns
+    crashed-requires
+    still-requires-2
+    returns-2)

@@ -1,0 +1,54 @@
+use mathlib.Core.Bool.{false}
+use mathlib.Core.Path.{refl, _∙_, _≡_}
+use borrow.Author.Needs.{needs}
+use Rattle.log_entry.specs.Refusal.{firstRefusal}
+use Rattle.model_steps.specs.declared.Step.the-variants.{Restore}
+use Rattle.model_protocol.specs.Step.{changeOf, stepChecks}
+use Rattle.world_parts.specs.Plan.{planOf, refusalIn}
+use Rattle.world_parts.proofs.PlanLaws.{done-is, refused-is, same-first}
+use Rattle.world_requests.proofs.restore.Statement.{statement}
+use Rattle.world_requests.proofs.restore.Tie as tie
+
+answer-is : (c : tie.After-first-of) → c .first-of .result ≡ refusalIn (c .before .before .before .before .before .before .before .args .p) (Restore (c .before .before .before .before .before .before .before .args .coord) (c .before .before .before .before .before .before .before .args .process))
+unfolding stepChecks firstRefusal
+answer-is c =
+    c .first-of .ensures ∙ same-first false false _ _ _ _ _ _ false false refl (c .before .before .deaf .ensures) (c .before .before .before .either .ensures) (c .before .lacks-numbers .ensures) refl
+
+either-requires : tie.Need-either-requires
+either-requires c κs = search needs
+
+deaf-requires : tie.Need-deaf-requires
+deaf-requires c κs = search needs
+
+lacks-numbers-requires : tie.Need-lacks-numbers-requires
+lacks-numbers-requires c κs = search needs
+
+first-of-requires : tie.Need-first-of-requires
+first-of-requires c κs = search needs
+
+still-requires : tie.Need-still-requires
+still-requires c κs = search needs
+
+returns : tie.Need-returns
+unfolding planOf
+returns c = let a = c .before .before .before .before .before .before .before .before .before .args in c .still .ensures ∙ refused-is _ _ _ (changeOf (a .p) (Restore (a .coord) (a .process))) (answer-is (c .before .before)) (c .before .if1 .taken)
+
+sending-requires : tie.Need-sending-requires
+sending-requires c κs = search needs
+
+returns-2 : tie.Need-returns-2
+unfolding planOf changeOf
+returns-2 c = let a = c .before .before .before .before .before .before .before .before .before .args in c .sending .ensures ∙ done-is (a .p) _ _ _ (answer-is (c .before .before)) (c .before .if1 .left)
+
+pub restore-spec : {M : Type 1} → statement M
+restore-spec =
+    tie.close
+    (tie.spec
+    either-requires
+    deaf-requires
+    lacks-numbers-requires
+    first-of-requires
+    still-requires
+    returns
+    sending-requires
+    returns-2)
