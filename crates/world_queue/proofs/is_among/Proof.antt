@@ -257,4 +257,4 @@ is-among-spec 𝓤 H 𝓜 𝓖 𝓡 =
     entered 𝓤 H (tripleOf 𝓤 H (𝓖 .A) is-among.signature (is-among.spec 𝓤 H (𝓖 .A) (𝓜 .mem) (𝓡 .run)))
     (tables 𝓤 H 𝓜 𝓡 code.env .C) (tables 𝓤 H 𝓜 𝓡 code.env .Λ) #lent-queue·is-among code.function (code.unfolded 𝓤 H 𝓜 𝓡)
     (is-among-meets 𝓤 H (𝓖 .A) (givenOf 𝓤 H 𝓜 𝓖) (𝓜 .mem) (𝓡 .run) (tablesOf 𝓤 H 𝓜 (tables 𝓤 H 𝓜 𝓡 code.env))
-    (cited 𝓤 H (SameAt 𝓤 H (𝓖 .A) (𝓜 .mem) (𝓡 .run)) 𝓜 𝓡 code.env #entry·Entry·same same-def.routine code.calls-entry·Entry·same (same-thm.met 𝓤 H 𝓜 𝓖 𝓡)))
+    (cited 𝓤 H (SameAt 𝓤 H (𝓖 .A) (𝓜 .mem) (𝓡 .run)) 𝓜 𝓡 code.env #entry·Entry·same same-def.routine code.calls-log-entry·Entry·same (same-thm.met 𝓤 H 𝓜 𝓖 𝓡)))
