@@ -1,9 +1,12 @@
 #!/usr/bin/env python3
-"""Writes the cases of crates/log_cases/stdin: `python3 tests/make_log_cases.py > crates/log_cases/stdin`.
+"""Writes the cases of crates/log_cases, stdin and stdout: `make_log_cases.py crates/log_cases`.
 
-A line is 27 bytes: `n CC` begins case CC with an empty log; `e` is one in which process s + 1 took store s first; `t` is a take and `v` a
-vote: process, by, store, tx, list (two hexadecimal digits each), say (c or a), update (eight digits). The expected output is not made
-here but by tests/log_reference.py, from document 01."""
+A line is 27 bytes: `n CC` begins case CC with an empty log; `e` is one in which process s + 1 took
+store s first; `t` is a take and `v` a vote: process, by, store, tx, list (two hexadecimal digits
+each), say (c or a), update (eight digits). The expected output is what log_reference.py prints,
+from document 01."""
+import case_files
+import log_reference as reference
 
 lines = []
 
@@ -65,12 +68,14 @@ vote(1, 0, 0, 0, 0x01, "a", 0); vote(1, 0, 1, 0, 0x03, "a", 0)
 case(15)
 commit(0, 0, 0x01); vote(2, 0, 0, 0, 0x02, "c"); vote(1, 0, 0, 0, 0x02, "c")
 
-# 8: no holder, another holder, holder of another store, on behalf by one who does not hold by; 8 before 9 and 10
+# 8: no holder, another holder, holder of another store, on behalf by one who does not hold by;
+# 8 before 9 and 10
 case(16, holders=False)
 vote(1, 0, 0, 0, 0x01, "c"); take(1, 0); vote(2, 0, 0, 0, 0x01, "c"); vote(1, 1, 1, 0, 0x02, "c"); vote(1, 1, 0, 0, 0x03, "a"); vote(1, 0, 0, 0, 0x01, "c")
 vote(2, 0, 0, 0, 0x01, "c"); vote(2, 0, 0, 0, 0x03, "c"); vote(1, 0, 3, 1, 0x09, "a")
 
-# 9: a commit with another list (wider, narrower, beside); an abort not within, within, equal; a kept abort never causes 9; 9 before 10
+# 9: a commit with another list (wider, narrower, beside); an abort not within, within, equal;
+# a kept abort never causes 9; 9 before 10
 case(17)
 commit(0, 0, 0x03); commit(1, 0, 0x07); commit(1, 0, 0x02); commit(1, 0, 0x06); commit(0, 0, 0x01); commit(0, 0, 0x03)
 abort(2, 0, 0x04); abort(1, 0, 0x07); abort(1, 0, 0x02)
@@ -133,4 +138,11 @@ for r in range(16):
     for s in range(8):
         take((r + s) % 15 + 1, s)
 
-print("\n".join(lines))
+
+def files(_):
+    stdin = "".join(line + "\n" for line in lines).encode()
+    return {"stdin": stdin, "stdout": reference.run(stdin)}
+
+
+if __name__ == "__main__":
+    case_files.main(files)

@@ -1,17 +1,16 @@
 #!/usr/bin/env python3
-"""Writes the cases of crates/world_cases: `python3 tests/make_world_cases.py crates/world_cases`.
+"""Writes the cases of crates/world_cases: `make_world_cases.py crates/world_cases`.
 
-Files of data/ that end in .steps stand there already (shared vectors); all others are made here, with args (the names) and stdout
-(each name, then what world_reference.py prints). The files of world_by_hand.py have their output reasoned by hand: where the
-reference differs from it, nothing is written."""
-import os
-import sys
-
+Files of data/ that end in .steps stand there already (shared vectors); all others are made here,
+with args (the names) and stdout (each name, then what world_reference.py prints). The files of
+world_by_hand.py have their output reasoned by hand: where the reference differs from it, nothing is
+written."""
+import case_files
 import world_reference as reference
+from plain_log import FORMS, joined as lines
 from world_by_hand import BY_HAND, parts
 from world_random import guided_script, random_script
-from world_script import Script, lines, step
-
+from world_script import Script, step
 
 GOOD = {
     "setup": (3,), "take": (1, 0, 0), "vote": (1, 0, 0, 4, "01", "commit", "0000000a", 0), "open": (1, 0, 25), "propose": (1, 0, 25),
@@ -93,7 +92,7 @@ def number_cases():
     for name, values in GOOD.items():
         script = Script(0 if name == "setup" else 5)
         for place, key in enumerate(reference.FIELDS[name].split()):
-            if key not in reference.FORMS:
+            if key not in FORMS:
                 for number in NUMBERS:
                     if name == "crash":
                         for role in ("acceptor", "coord", "proc"):
@@ -104,7 +103,7 @@ def number_cases():
     script = Script()
     for name, values in GOOD.items():
         for place, key in enumerate(reference.FIELDS[name].split()):
-            if key not in reference.FORMS:
+            if key not in FORMS:
                 for first in "1", "9", "0":
                     room = 100 - len(step(name, *values[:place], "", *values[place + 1:]))
                     for length in min(room, 90) - 1, min(room, 90), room, room + 1:
@@ -416,19 +415,9 @@ def cases():
         yield from group()
 
 
-def main(where):
-    data = os.path.join(where, "data")
-    made = dict(cases())
-    names = sorted(name for name in os.listdir(data) if name.endswith(".steps"))
-    for name, steps in made.items():
-        with open(os.path.join(data, name), "wb") as f:
-            f.write(steps)
-    with open(os.path.join(where, "args"), "w") as args, open(os.path.join(where, "stdout"), "wb") as out:
-        for name in names + list(made):
-            args.write(name + "\n")
-            with open(os.path.join(data, name), "rb") as f:
-                out.write(name.encode() + b"\n" + reference.run(f.read()))
+def files(where):
+    return case_files.step_files(where, dict(cases()), reference.run)
 
 
 if __name__ == "__main__":
-    main(sys.argv[1])
+    case_files.main(files)

@@ -4,96 +4,14 @@
     world_reference.py < STEPS          prints what `world` prints
     world_reference.py check DIR        compares each DIR/NAME.steps with DIR/NAME.out
 """
-import os
-import re
-import sys
 from collections import namedtuple
 
-LINES, BYTES, MESSAGES, QUEUE, BATCH = 1000, 100, 128, 8, 4
-TXS, STORES, PROCESSES, COORDINATORS, INSTANCES, BALLOTS = 32, 8, 15, 3, 16, 255
+from plain_log import LIMITS, PROCESSES, Log, Reader, Take, Vote, lowest, malformed, printed, reference_main, replay_lines
 
-Take = namedtuple("Take", "process store")
-Vote = namedtuple("Vote", "process by store tx stores commit update")
+MESSAGES, QUEUE, BATCH = 128, 8, 4
+COORDINATORS, INSTANCES, BALLOTS = 3, 16, 255
+
 Message = namedtuple("Message", "kind role id values")
-
-
-# The plain log
-
-class Log:
-    def __init__(self):
-        self.kept = {}  # (tx, store): Vote
-        self.holders = [[] for _ in range(STORES)]  # by store, the last one is the holder
-        self.groups = []  # for each, its transactions and those running just before its first commit
-
-    def holder(self, store):
-        return self.holders[store][-1] if self.holders[store] else 0
-
-    def held_by(self, process):
-        return [s for s in range(STORES) if self.holder(s) == process]
-
-    def votes(self, tx):
-        return [self.kept[t, s] for t, s in sorted(self.kept) if t == tx]
-
-    def outcome(self, tx):
-        votes = self.votes(tx)
-        if not all(v.commit for v in votes):
-            return "abort"
-        if any(v.stores <= {w.store for w in votes} for v in votes):
-            return "commit"
-        return "open"
-
-    def group(self, tx):
-        return next((i for i, (members, _) in enumerate(self.groups, 1) if tx in members), 0)
-
-    def refusal(self, entry):
-        if isinstance(entry, Take):
-            return lowest((11, self.held_by(entry.process) or entry.process in self.holders[entry.store]))
-        lists = [v.stores for v in self.votes(entry.tx) if v.commit]
-        return lowest(
-            (7, malformed(entry)),
-            (8, self.holder(entry.by) != entry.process),
-            (9, any(entry.stores != l if entry.commit else not entry.stores <= l for l in lists)),
-            (10, (entry.tx, entry.store) in self.kept))
-
-    def enter(self, entry):
-        if self.refusal(entry):
-            return
-        if isinstance(entry, Take):
-            self.holders[entry.store].append(entry.process)
-            return
-        running = {t for t, _ in self.kept if self.outcome(t) == "open"}
-        self.kept[entry.tx, entry.store] = entry
-        if self.outcome(entry.tx) == "commit":
-            if self.groups and entry.tx in self.groups[-1][1]:
-                self.groups[-1][0].add(entry.tx)
-            else:
-                self.groups.append(({entry.tx}, running))
-
-    def replay(self, store):
-        return [(g, tx, self.kept[tx, store].update) for g, (members, _) in enumerate(self.groups, 1)
-                for tx in sorted(members) if (tx, store) in self.kept]
-
-    def lines(self):
-        for tx in sorted({t for t, _ in self.kept}):
-            yield "tx=%d outcome=%s group=%d" % (tx, self.outcome(tx), self.group(tx))
-        for store in range(STORES):
-            if self.holder(store):
-                yield "store=%d holder=%d" % (store, self.holder(store))
-        for store in range(STORES):
-            yield from replay_lines(store, self.replay(store))
-
-
-def replay_lines(store, rows):
-    return ["store=%d group=%d tx=%d upd=%08x" % ((store,) + row) for row in rows]
-
-
-def malformed(vote):
-    return (not {vote.store, vote.by} <= vote.stores or (vote.commit and vote.by != vote.store)
-            or (not vote.commit and vote.update != 0))
-
-
-def lowest(*conditions):
-    return min((number for number, applies in conditions if applies), default=0)
 
 
 # The world
@@ -317,75 +235,33 @@ FIELDS = {
     "setup": "acceptors", "take": "proc store to", "vote": "proc by store tx list say upd to", "open": "coord inst ballot",
     "propose": "coord inst ballot", "deliver": "msg", "tell": "coord proc tx", "restore": "coord proc", "crash": "role id",
 }
-FORMS = {"list": "[0-9a-f]{2}", "upd": "[0-9a-f]{8}", "say": "commit|abort", "role": "acceptor|coord|proc"}
-LIMITS = {
-    "proc": range(1, PROCESSES + 1), "store": range(STORES), "by": range(STORES), "tx": range(TXS), "to": range(COORDINATORS),
-    "coord": range(COORDINATORS), "inst": range(INSTANCES), "ballot": range(1, BALLOTS + 1), "msg": range(MESSAGES), "acceptors": (3, 5),
-}
-STEPS = {
-    name: re.compile("".join(["do=" + name] + [" %s=(%s)" % (key, FORMS.get(key, "0|[1-9][0-9]*")) for key in keys.split()]).encode())
-    for name, keys in FIELDS.items()
+STEPS = Reader(FIELDS)
+WORLD_LIMITS = {
+    **LIMITS, "to": range(COORDINATORS), "coord": range(COORDINATORS), "inst": range(INSTANCES), "ballot": range(1, BALLOTS + 1),
+    "msg": range(MESSAGES), "acceptors": (3, 5),
 }
 
 
-def value(key, text):
-    if key == "list":
-        return frozenset(s for s in range(STORES) if int(text, 16) >> s & 1)
-    if key == "upd":
-        return int(text, 16)
-    if key == "say":
-        return text == b"commit"
-    return text.decode() if key == "role" else int(text)
-
-
-def read(line):
-    """The step's name and values by key, or None."""
-    for name, form in STEPS.items():
-        match = form.fullmatch(line)
-        if match and len(line) <= BYTES:
-            return name, {key: value(key, text) for key, text in zip(FIELDS[name].split(), match.groups())}
-    return None
+def limits(world, values):
+    """Of each number of a step; a crash's depends on the role."""
+    roles = {"acceptor": range(world.acceptor_count()), "coord": WORLD_LIMITS["coord"], "proc": WORLD_LIMITS["proc"]}
+    return {**WORLD_LIMITS, "id": roles.get(values.get("role"))}
 
 
 def answer(world, line):
-    step = read(line)
+    step = STEPS.read(line)
     if step is None:
         return 1
     name, values = step
-    limits = dict(LIMITS)
-    if name == "crash":
-        limits["id"] = {"acceptor": range(world.acceptor_count()), "coord": LIMITS["coord"], "proc": LIMITS["proc"]}[values["role"]]
-    if any(values[key] not in limits[key] for key in values if key in limits):
+    within = limits(world, values)
+    if any(values[key] not in within[key] for key in values if key in within):
         return 2
     return getattr(world, name)(*values.values())
 
 
-def lines_of(data):
-    lines = data.split(b"\n")
-    return lines if lines[-1] else lines[:-1]
-
-
 def run(data):
-    world, out = World(), []
-    for number, line in enumerate(lines_of(data)[:LINES + 1], 1):
-        out.append("step=%d answer=%d" % (number, 6 if number > LINES else answer(world, line)))
-    return "".join(line + "\n" for line in out + list(world.lines())).encode()
-
-
-def check(where):
-    names = sorted(name[:-6] for name in os.listdir(where) if name.endswith(".steps"))
-    bad = 0
-    for name in names:
-        given, want = (open(os.path.join(where, name + end), "rb").read() for end in (".steps", ".out"))
-        if run(given) != want:
-            bad += 1
-            print("differs:", name)
-    print("%d files, %d differ" % (len(names), bad))
-    return bad != 0
+    return printed(World(), answer, data)
 
 
 if __name__ == "__main__":
-    if len(sys.argv) == 1:
-        sys.stdout.buffer.write(run(sys.stdin.buffer.read()))
-    else:
-        sys.exit(check(sys.argv[2]))
+    reference_main(run)

@@ -1,5 +1,8 @@
 """Step files for `world`, built step by step."""
 import world_reference as reference
+from plain_log import joined
+
+step = reference.STEPS.text  # a step's text from its name and values
 
 
 class Script:
@@ -62,13 +65,4 @@ class Script:
             self.take(15, 7, spare)
 
     def data(self):
-        return lines(self.rows)
-
-
-def step(name, *values):
-    keys = reference.FIELDS[name].split()
-    return "do=" + name + "".join(" %s=%s" % pair for pair in zip(keys, values))
-
-
-def lines(rows):
-    return b"".join(row + b"\n" for row in rows)
+        return joined(self.rows)

@@ -1,0 +1,207 @@
+"""The plain log of document 01, and how step files are read and answered: what the references
+share.
+
+It is written from the document's sentences alone and shares no code, table or layout with the
+crates."""
+import os
+import re
+import sys
+from collections import namedtuple
+
+LINES, BYTES = 1000, 100
+TXS, STORES, PROCESSES = 32, 8, 15
+
+Take = namedtuple("Take", "process store")
+Vote = namedtuple("Vote", "process by store tx stores commit update")
+
+LIMITS = {"proc": range(1, PROCESSES + 1), "store": range(STORES), "by": range(STORES), "tx": range(TXS)}
+
+
+def lowest(*conditions):
+    return min((number for number, applies in conditions if applies), default=0)
+
+
+def stores_of(bits):
+    """The stores of a list, which has bit s for store s."""
+    return frozenset(s for s in range(STORES) if bits >> s & 1)
+
+
+# Entries and the log
+
+def outside(entry):
+    """A number is outside its limits."""
+    values = {"proc": entry.process, "store": entry.store}
+    if isinstance(entry, Vote):
+        values.update(by=entry.by, tx=entry.tx)
+    return any(number not in LIMITS[key] for key, number in values.items())
+
+
+def malformed(vote):
+    return (not {vote.store, vote.by} <= vote.stores or (vote.commit and vote.by != vote.store)
+            or (not vote.commit and vote.update != 0))
+
+
+class Log:
+    def __init__(self):
+        self.kept = {}  # (tx, store): Vote
+        self.holders = [[] for _ in range(STORES)]  # by store, the last one is the holder
+        self.groups = []  # for each, its transactions and those running just before its first commit
+
+    def holder(self, store):
+        return self.holders[store][-1] if self.holders[store] else 0
+
+    def held_by(self, process):
+        return [s for s in range(STORES) if self.holder(s) == process]
+
+    def txs(self):
+        """The transactions with a kept vote."""
+        return sorted({tx for tx, _ in self.kept})
+
+    def votes(self, tx):
+        return [self.kept[t, s] for t, s in sorted(self.kept) if t == tx]
+
+    def outcome(self, tx):
+        votes = self.votes(tx)
+        if not all(v.commit for v in votes):
+            return "abort"
+        if any(v.stores <= {w.store for w in votes} for v in votes):
+            return "commit"
+        return "open"
+
+    def involvement(self, tx, store):
+        votes = self.votes(tx)
+        if any(store in v.stores for v in votes):
+            return "yes"
+        return "no" if any(v.commit for v in votes) else "unknown"
+
+    def group(self, tx):
+        """0 if it has none."""
+        return next((i for i, (members, _) in enumerate(self.groups, 1) if tx in members), 0)
+
+    def refusal(self, entry):
+        if isinstance(entry, Take):
+            return lowest((11, self.held_by(entry.process) or entry.process in self.holders[entry.store]))
+        lists = [v.stores for v in self.votes(entry.tx) if v.commit]
+        return lowest(
+            (7, malformed(entry)),
+            (8, self.holder(entry.by) != entry.process),
+            (9, any(entry.stores != l if entry.commit else not entry.stores <= l for l in lists)),
+            (10, (entry.tx, entry.store) in self.kept))
+
+    def enter(self, entry):
+        """The answer; the log is the one after the entry."""
+        answer = 2 if outside(entry) else self.refusal(entry)
+        if answer:
+            return answer
+        if isinstance(entry, Take):
+            self.holders[entry.store].append(entry.process)
+            return 0
+        running = {tx for tx in self.txs() if self.outcome(tx) == "open"}
+        self.kept[entry.tx, entry.store] = entry
+        if self.outcome(entry.tx) == "commit":
+            if self.groups and entry.tx in self.groups[-1][1]:
+                self.groups[-1][0].add(entry.tx)
+            else:
+                self.groups.append(({entry.tx}, running))
+        return 0
+
+    def replay(self, store):
+        return [(g, tx, self.kept[tx, store].update) for g, (members, _) in enumerate(self.groups, 1)
+                for tx in sorted(members) if (tx, store) in self.kept]
+
+    def lines(self):
+        for tx in self.txs():
+            yield "tx=%d outcome=%s group=%d" % (tx, self.outcome(tx), self.group(tx))
+        yield from self.store_lines()
+
+    def store_lines(self):
+        for store in range(STORES):
+            if self.holder(store):
+                yield "store=%d holder=%d" % (store, self.holder(store))
+        for store in range(STORES):
+            yield from replay_lines(store, self.replay(store))
+
+
+def replay_lines(store, rows):
+    return ["store=%d group=%d tx=%d upd=%08x" % ((store,) + row) for row in rows]
+
+
+# Step files
+
+FORMS = {"list": "[0-9a-f]{2}", "upd": "[0-9a-f]{8}", "say": "commit|abort", "role": "acceptor|coord|proc"}
+VALUES = {
+    "list": lambda text: stores_of(int(text, 16)), "upd": lambda text: int(text, 16), "say": lambda text: text == b"commit",
+    "role": bytes.decode,
+}
+
+
+class Reader:
+    """Reads the lines of a program whose steps have these keys, in this order."""
+
+    def __init__(self, fields):
+        self.keys = {name: keys.split() for name, keys in fields.items()}
+        self.forms = {name: re.compile(self.form(name).encode()) for name in fields}
+
+    def form(self, name):
+        return "do=" + name + "".join(" %s=(%s)" % (key, FORMS.get(key, "0|[1-9][0-9]*")) for key in self.keys[name])
+
+    def read(self, line):
+        """The step's name and values by key, or None."""
+        for name, form in self.forms.items():
+            match = form.fullmatch(line)
+            if match and len(line) <= BYTES:
+                return name, {key: VALUES.get(key, int)(text) for key, text in zip(self.keys[name], match.groups())}
+        return None
+
+    def text(self, name, *values):
+        return "do=" + name + "".join(" %s=%s" % pair for pair in zip(self.keys[name], values))
+
+
+def lines_of(data):
+    lines = data.split(b"\n")
+    return lines if lines[-1] else lines[:-1]
+
+
+def joined(rows):
+    """The rows as the lines of a file, each with its LF."""
+    return b"".join(row + b"\n" for row in rows)
+
+
+def answers(state, answer, data):
+    """Each line's number, bytes and answer, up to the line that ends the reading."""
+    for number, line in enumerate(lines_of(data)[:LINES + 1], 1):
+        yield number, line, 6 if number > LINES else answer(state, line)
+
+
+def printed(state, answer, data):
+    """What a program prints that holds this state and answers each line so."""
+    rows = ["step=%d answer=%d" % (number, given) for number, _, given in answers(state, answer, data)]
+    return joined(row.encode() for row in rows + list(state.lines()))
+
+
+def check(run, where):
+    """Sets what run gives for each NAME.steps beside NAME.out."""
+    names = sorted(name[:-6] for name in os.listdir(where) if name.endswith(".steps"))
+    bad = 0
+    for name in names:
+        given, want = (read_file(os.path.join(where, name + end)) for end in (".steps", ".out"))
+        if run(given) != want:
+            bad += 1
+            print("differs:", name)
+    print("%d files, %d differ" % (len(names), bad))
+    return bad != 0
+
+
+def read_file(name):
+    with open(name, "rb") as file:
+        return file.read()
+
+
+def reference_main(run):
+    """`NAME < STEPS` prints what the program prints; `NAME check DIR` compares."""
+    if len(sys.argv) == 1:
+        sys.stdout.buffer.write(run(sys.stdin.buffer.read()))
+    elif len(sys.argv) == 3 and sys.argv[1] == "check":
+        sys.exit(check(run, sys.argv[2]))
+    else:
+        sys.exit("usage: %s < STEPS, or %s check DIR" % (sys.argv[0], sys.argv[0]))
