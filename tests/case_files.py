@@ -10,7 +10,11 @@ def step_files(where, made, run):
     """Of a crate that runs the step files named in args: those in data/ that end in .steps (shared
     vectors), then the made ones."""
     data = os.path.join(where, "data")
-    shared = {name: read_file(os.path.join(data, name)) for name in sorted(os.listdir(data)) if name.endswith(".steps")}
+    shared = {
+        name: read_file(os.path.join(data, name))
+        for name in sorted(os.listdir(data))
+        if name.endswith(".steps")
+    }
     every = {**shared, **made}
     files = {os.path.join("data", name): steps for name, steps in made.items()}
     files["args"] = "".join(name + "\n" for name in every).encode()
@@ -20,9 +24,11 @@ def step_files(where, made, run):
 
 def differing(where, files):
     """The files that are not in the tree as they were made."""
+
     def same(name, want):
         path = os.path.join(where, name)
         return os.path.isfile(path) and read_file(path) == want
+
     return [name for name, want in files.items() if not same(name, want)]
 
 

@@ -16,12 +16,21 @@ def shown(log):
     for tx in range(TXS):
         if tx == 0 or tx in log.txs():
             involved = "".join(INVOLVED[log.involvement(tx, s)] for s in range(STORES))
-            yield "tx=%d outcome=%s group=%d involvement=%s" % (tx, log.outcome(tx), log.group(tx), involved)
+            yield "tx=%d outcome=%s group=%d involvement=%s" % (
+                tx,
+                log.outcome(tx),
+                log.group(tx),
+                involved,
+            )
     yield from log.store_lines()
 
 
 def entry(kind, process, by, store, tx, bits, say, update):
-    return Take(process, store) if kind == "t" else Vote(process, by, store, tx, stores_of(bits), say == "c", update)
+    return (
+        Take(process, store)
+        if kind == "t"
+        else Vote(process, by, store, tx, stores_of(bits), say == "c", update)
+    )
 
 
 def rows(data):

@@ -14,7 +14,12 @@ TXS, STORES, PROCESSES = 32, 8, 15
 Take = namedtuple("Take", "process store")
 Vote = namedtuple("Vote", "process by store tx stores commit update")
 
-LIMITS = {"proc": range(1, PROCESSES + 1), "store": range(STORES), "by": range(STORES), "tx": range(TXS)}
+LIMITS = {
+    "proc": range(1, PROCESSES + 1),
+    "store": range(STORES),
+    "by": range(STORES),
+    "tx": range(TXS),
+}
 
 
 def lowest(*conditions):
@@ -28,6 +33,7 @@ def stores_of(bits):
 
 # Entries and the log
 
+
 def outside(entry):
     """A number is outside its limits."""
     values = {"proc": entry.process, "store": entry.store}
@@ -37,15 +43,20 @@ def outside(entry):
 
 
 def malformed(vote):
-    return (not {vote.store, vote.by} <= vote.stores or (vote.commit and vote.by != vote.store)
-            or (not vote.commit and vote.update != 0))
+    return (
+        not {vote.store, vote.by} <= vote.stores
+        or (vote.commit and vote.by != vote.store)
+        or (not vote.commit and vote.update != 0)
+    )
 
 
 class Log:
     def __init__(self):
         self.kept = {}  # (tx, store): Vote
         self.holders = [[] for _ in range(STORES)]  # by store, the last one is the holder
-        self.groups = []  # for each, its transactions and those running just before its first commit
+        self.groups = (
+            []
+        )  # for each, its transactions and those running just before its first commit
 
     def holder(self, store):
         return self.holders[store][-1] if self.holders[store] else 0
@@ -80,13 +91,16 @@ class Log:
 
     def refusal(self, entry):
         if isinstance(entry, Take):
-            return lowest((11, self.held_by(entry.process) or entry.process in self.holders[entry.store]))
+            return lowest(
+                (11, self.held_by(entry.process) or entry.process in self.holders[entry.store])
+            )
         lists = [v.stores for v in self.votes(entry.tx) if v.commit]
         return lowest(
             (7, malformed(entry)),
             (8, self.holder(entry.by) != entry.process),
             (9, any(entry.stores != l if entry.commit else not entry.stores <= l for l in lists)),
-            (10, (entry.tx, entry.store) in self.kept))
+            (10, (entry.tx, entry.store) in self.kept),
+        )
 
     def enter(self, entry):
         """The answer; the log is the one after the entry."""
@@ -106,8 +120,12 @@ class Log:
         return 0
 
     def replay(self, store):
-        return [(g, tx, self.kept[tx, store].update) for g, (members, _) in enumerate(self.groups, 1)
-                for tx in sorted(members) if (tx, store) in self.kept]
+        return [
+            (g, tx, self.kept[tx, store].update)
+            for g, (members, _) in enumerate(self.groups, 1)
+            for tx in sorted(members)
+            if (tx, store) in self.kept
+        ]
 
     def lines(self):
         for tx in self.txs():
@@ -128,9 +146,16 @@ def replay_lines(store, rows):
 
 # Step files
 
-FORMS = {"list": "[0-9a-f]{2}", "upd": "[0-9a-f]{8}", "say": "commit|abort", "role": "acceptor|coord|proc"}
+FORMS = {
+    "list": "[0-9a-f]{2}",
+    "upd": "[0-9a-f]{8}",
+    "say": "commit|abort",
+    "role": "acceptor|coord|proc",
+}
 VALUES = {
-    "list": lambda text: stores_of(int(text, 16)), "upd": lambda text: int(text, 16), "say": lambda text: text == b"commit",
+    "list": lambda text: stores_of(int(text, 16)),
+    "upd": lambda text: int(text, 16),
+    "say": lambda text: text == b"commit",
     "role": bytes.decode,
 }
 
@@ -143,14 +168,23 @@ class Reader:
         self.forms = {name: re.compile(self.form(name).encode()) for name in fields}
 
     def form(self, name):
-        return "do=" + name + "".join(" %s=(%s)" % (key, FORMS.get(key, "0|[1-9][0-9]*")) for key in self.keys[name])
+        return (
+            "do="
+            + name
+            + "".join(
+                " %s=(%s)" % (key, FORMS.get(key, "0|[1-9][0-9]*")) for key in self.keys[name]
+            )
+        )
 
     def read(self, line):
         """The step's name and values by key, or None."""
         for name, form in self.forms.items():
             match = form.fullmatch(line)
             if match and len(line) <= BYTES:
-                return name, {key: VALUES.get(key, int)(text) for key, text in zip(self.keys[name], match.groups())}
+                return name, {
+                    key: VALUES.get(key, int)(text)
+                    for key, text in zip(self.keys[name], match.groups())
+                }
         return None
 
     def text(self, name, *values):
@@ -169,13 +203,15 @@ def joined(rows):
 
 def answers(state, answer, data):
     """Each line's number, bytes and answer, up to the line that ends the reading."""
-    for number, line in enumerate(lines_of(data)[:LINES + 1], 1):
+    for number, line in enumerate(lines_of(data)[: LINES + 1], 1):
         yield number, line, 6 if number > LINES else answer(state, line)
 
 
 def printed(state, answer, data):
     """What a program prints that holds this state and answers each line so."""
-    rows = ["step=%d answer=%d" % (number, given) for number, _, given in answers(state, answer, data)]
+    rows = [
+        "step=%d answer=%d" % (number, given) for number, _, given in answers(state, answer, data)
+    ]
     return joined(row.encode() for row in rows + list(state.lines()))
 
 

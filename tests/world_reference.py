@@ -6,7 +6,19 @@
 """
 from collections import namedtuple
 
-from plain_log import LIMITS, PROCESSES, Log, Reader, Take, Vote, lowest, malformed, printed, reference_main, replay_lines
+from plain_log import (
+    LIMITS,
+    PROCESSES,
+    Log,
+    Reader,
+    Take,
+    Vote,
+    lowest,
+    malformed,
+    printed,
+    reference_main,
+    replay_lines,
+)
 
 MESSAGES, QUEUE, BATCH = 128, 8, 4
 COORDINATORS, INSTANCES, BALLOTS = 3, 16, 255
@@ -15,6 +27,7 @@ Message = namedtuple("Message", "kind role id values")
 
 
 # The world
+
 
 class Acceptor:
     def __init__(self):
@@ -89,7 +102,8 @@ class World:
             self.crashed(("proc", vote.process), ("coord", to)),
             (5, self.processes[vote.process].store != vote.by),
             (6, self.left() < 1),
-            (7, malformed(vote)))
+            (7, malformed(vote)),
+        )
         if not answer:
             self.send("request", "coord", to, vote)
         return answer
@@ -99,7 +113,8 @@ class World:
         answer = self.refusal(
             self.crashed(("coord", coord)),
             (5, instance != c.applied or ballot % COORDINATORS != coord or ballot <= c.opened),
-            (6, self.left() < len(self.acceptors or ())))
+            (6, self.left() < len(self.acceptors or ())),
+        )
         if not answer:
             c.begin(ballot)
             for a in range(len(self.acceptors)):
@@ -110,8 +125,16 @@ class World:
         c = self.coordinators[coord]
         answer = self.refusal(
             self.crashed(("coord", coord)),
-            (5, instance != c.applied or ballot != c.opened or not self.majority(c.promises) or c.proposed or not c.batch()),
-            (6, self.left() < len(self.acceptors or ())))
+            (
+                5,
+                instance != c.applied
+                or ballot != c.opened
+                or not self.majority(c.promises)
+                or c.proposed
+                or not c.batch(),
+            ),
+            (6, self.left() < len(self.acceptors or ())),
+        )
         if not answer:
             c.proposed = c.batch()
             for a in range(len(self.acceptors)):
@@ -143,7 +166,12 @@ class World:
         if self.left() < 1:
             return 6
         acceptor.promised[instance] = ballot
-        self.send("promise", "coord", ballot % COORDINATORS, (instance, ballot, id, acceptor.accepted[instance]))
+        self.send(
+            "promise",
+            "coord",
+            ballot % COORDINATORS,
+            (instance, ballot, id, acceptor.accepted[instance]),
+        )
         return 0
 
     def deliver_accept(self, id, values):
@@ -193,7 +221,10 @@ class World:
     def tell(self, coord, process, tx):
         outcome = self.coordinators[coord].log.outcome(tx)
         answer = self.refusal(
-            self.crashed(("coord", coord), ("proc", process)), (5, outcome == "open"), (6, self.left() < 1))
+            self.crashed(("coord", coord), ("proc", process)),
+            (5, outcome == "open"),
+            (6, self.left() < 1),
+        )
         if not answer:
             self.send("outcome", "proc", process, (tx, outcome))
         return answer
@@ -202,7 +233,8 @@ class World:
         c = self.coordinators[coord]
         stores = c.log.held_by(process)
         answer = self.refusal(
-            self.crashed(("coord", coord), ("proc", process)), (5, not stores), (6, self.left() < 1))
+            self.crashed(("coord", coord), ("proc", process)), (5, not stores), (6, self.left() < 1)
+        )
         if not answer:
             self.send("restore", "proc", process, (stores[0], c.applied, c.log.replay(stores[0])))
         return answer
@@ -232,19 +264,35 @@ class World:
 # Step files
 
 FIELDS = {
-    "setup": "acceptors", "take": "proc store to", "vote": "proc by store tx list say upd to", "open": "coord inst ballot",
-    "propose": "coord inst ballot", "deliver": "msg", "tell": "coord proc tx", "restore": "coord proc", "crash": "role id",
+    "setup": "acceptors",
+    "take": "proc store to",
+    "vote": "proc by store tx list say upd to",
+    "open": "coord inst ballot",
+    "propose": "coord inst ballot",
+    "deliver": "msg",
+    "tell": "coord proc tx",
+    "restore": "coord proc",
+    "crash": "role id",
 }
 STEPS = Reader(FIELDS)
 WORLD_LIMITS = {
-    **LIMITS, "to": range(COORDINATORS), "coord": range(COORDINATORS), "inst": range(INSTANCES), "ballot": range(1, BALLOTS + 1),
-    "msg": range(MESSAGES), "acceptors": (3, 5),
+    **LIMITS,
+    "to": range(COORDINATORS),
+    "coord": range(COORDINATORS),
+    "inst": range(INSTANCES),
+    "ballot": range(1, BALLOTS + 1),
+    "msg": range(MESSAGES),
+    "acceptors": (3, 5),
 }
 
 
 def limits(world, values):
     """Of each number of a step; a crash's depends on the role."""
-    roles = {"acceptor": range(world.acceptor_count()), "coord": WORLD_LIMITS["coord"], "proc": WORLD_LIMITS["proc"]}
+    roles = {
+        "acceptor": range(world.acceptor_count()),
+        "coord": WORLD_LIMITS["coord"],
+        "proc": WORLD_LIMITS["proc"],
+    }
     return {**WORLD_LIMITS, "id": roles.get(values.get("role"))}
 
 

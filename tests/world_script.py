@@ -6,7 +6,7 @@ step = reference.STEPS.text  # a step's text from its name and values
 
 
 class Script:
-    """A step file that grows with a world beside it, so that a step knows the numbers that it sends."""
+    """A step file that grows with a world beside it, so that a step knows the numbers it sends."""
 
     def __init__(self, acceptors=3):
         self.world, self.rows = reference.World(), []
@@ -23,15 +23,32 @@ class Script:
     def step(self, name, *values):
         return self.row(step(name, *values))
 
-    def setup(self, acceptors): return self.step("setup", acceptors)
-    def take(self, p, s, to=0): return self.step("take", p, s, to)
-    def commit(self, p, s, tx, stores, update=1, to=0): return self.step("vote", p, s, s, tx, stores, "commit", "%08x" % update, to)
-    def abort(self, p, by, s, tx, stores, to=0): return self.step("vote", p, by, s, tx, stores, "abort", "0" * 8, to)
-    def open(self, c, i, b): return self.step("open", c, i, b)
-    def propose(self, c, i, b): return self.step("propose", c, i, b)
-    def tell(self, c, p, tx): return self.step("tell", c, p, tx)
-    def restore(self, c, p): return self.step("restore", c, p)
-    def crash(self, role, i): return self.step("crash", role, i)
+    def setup(self, acceptors):
+        return self.step("setup", acceptors)
+
+    def take(self, p, s, to=0):
+        return self.step("take", p, s, to)
+
+    def commit(self, p, s, tx, stores, update=1, to=0):
+        return self.step("vote", p, s, s, tx, stores, "commit", "%08x" % update, to)
+
+    def abort(self, p, by, s, tx, stores, to=0):
+        return self.step("vote", p, by, s, tx, stores, "abort", "0" * 8, to)
+
+    def open(self, c, i, b):
+        return self.step("open", c, i, b)
+
+    def propose(self, c, i, b):
+        return self.step("propose", c, i, b)
+
+    def tell(self, c, p, tx):
+        return self.step("tell", c, p, tx)
+
+    def restore(self, c, p):
+        return self.step("restore", c, p)
+
+    def crash(self, role, i):
+        return self.step("crash", role, i)
 
     def deliver(self, *numbers):
         return [sent for number in numbers for sent in self.step("deliver", number)]
@@ -56,7 +73,7 @@ class Script:
         self.deliver(*(n for p, _ in pairs for n in self.restore(coord, p)))
 
     def leave(self, left, spare=2):
-        """Opens of a coordinator that does nothing else, then takes, until so many numbers are left."""
+        """Opens of a coordinator that does nothing else, then takes, until `left` numbers are left."""
         ballot, count = spare or 3, self.world.acceptor_count()
         while self.world.left() - left >= count:
             self.open(spare, 0, ballot)
