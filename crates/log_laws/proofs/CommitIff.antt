@@ -13,7 +13,7 @@ use Rattle.log_laws.proofs.Outcomes.{committed-by, committed-covered, c
 use Rattle.log_laws.proofs.Rows.{listed-commits}
 use Rattle.log_laws.proofs.Scans.{none-found, none-here}
 use Rattle.log_laws.proofs.Tests.{and-left, and-right, both, opposed}
-use Rattle.log_laws.proofs.Wf.{Wf}
+use Rattle.log_laws.proofs.WellFormed.{Wf}
 
 module _ (l : Log) (w : Wf l) (tx : ℕ) where
   all-commit : isCommitted (outcomeOf l tx) ≡ true → AllCommit l tx

@@ -6,7 +6,7 @@ use Rattle.log_core.specs.declared.Log.{Log}
 use Rattle.log_core.specs.Enter.{enter, feed}
 use Rattle.log_core.specs.Log.{emptyLog}
 use Rattle.log_laws.specs.Reached.{reached}
-use Rattle.log_laws.proofs.Wf.{Wf, feed-keeps, wf-empty, wf-feed}
+use Rattle.log_laws.proofs.WellFormed.{Wf, feed-keeps, wf-empty, wf-feed}
 
 pub feed-append : (l : Log) (es fs : List Entry) → feed l (es ++ fs) ≡ feed (feed l es) fs
 unfolding feed

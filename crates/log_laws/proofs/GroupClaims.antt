@@ -28,7 +28,7 @@ use Rattle.log_laws.proofs.Rows.{committed}
 use Rattle.log_laws.proofs.Stays.{row-stays}
 use Rattle.log_laws.proofs.Steps.{answer-cases, answer-is, groupAfter, groupsAfter, joins, vote-entered, voted-groups}
 use Rattle.log_laws.proofs.Tests.{by-test, either, opposed}
-use Rattle.log_laws.proofs.Wf.{Wf}
+use Rattle.log_laws.proofs.WellFormed.{Wf}
 
 pub iff-committed : GroupIffCommitted
 iff-committed es tx = (

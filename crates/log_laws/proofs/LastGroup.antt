@@ -9,7 +9,7 @@ use Rattle.log_core.specs.Log.{emptyLog}
 use Rattle.log_laws.specs.Groups.{Begins, LastGroupWasBegun}
 use Rattle.log_laws.specs.Reached.{reached}
 use Rattle.log_laws.proofs.GroupSteps.{one-group}
-use Rattle.log_laws.proofs.Wf.{Wf, wf-empty, wf-enter}
+use Rattle.log_laws.proofs.WellFormed.{Wf, wf-empty, wf-enter}
 
 -- the same from any log
 record Begun (l : Log) (es : List Entry) : Type 0 where

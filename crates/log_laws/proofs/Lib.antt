@@ -29,4 +29,4 @@ pub mod Stays
 pub mod Steps
 pub mod Tests
 pub mod Theorems
-pub mod Wf
+pub mod WellFormed

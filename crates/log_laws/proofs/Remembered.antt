@@ -14,7 +14,7 @@ use Rattle.log_laws.proofs.Feed.{later, wf-reached}
 use Rattle.log_laws.proofs.GroupSteps.{groups-grow, remembered-begun, remembered-vote}
 use Rattle.log_laws.proofs.Running.{running-has}
 use Rattle.log_laws.proofs.Steps.{enter-cases}
-use Rattle.log_laws.proofs.Wf.{Wf}
+use Rattle.log_laws.proofs.WellFormed.{Wf}
 
 begun-set : (l : Log) (e : Entry) → Wf l → Begins l e → remembered (enter l e .log) (enter l e .log .groups) ≡ runningSet (l .rows)
 begun-set l e w =

@@ -6,11 +6,12 @@ use mathlib.Core.List.{List, [], _∷_, List·Memᴰ, List·Memᴰ·cases-cons, 
 use native.Mathlib.Decide.{ℕ-discrete}
 use native.Mathlib.Omega.{arith}
 use lib.ListN.{getD}
+use Rattle.model_paxos.specs.Messages.{Paxos}
 use Rattle.model_protocol.specs.declared.Batch.{Batch}
 use Rattle.model_protocol.specs.declared.Message.{Message}
 use Rattle.model_protocol.specs.Message.{noMessage}
-use Rattle.model_agreement.specs.Content.{Content, Paxos, contentOf, paxos, request, restore, tell}
-use Rattle.model_agreement.proofs.Inv.{Said, said-at}
+use Rattle.model_agreement.specs.Content.{Content, contentOf, paxos, request, restore, tell}
+use Rattle.model_agreement.proofs.BallotInvariant.{Said, said-at}
 
 abbrev add : Content → List (Paxos Batch) → List (Paxos Batch)
 add (paxos m) l = m ∷ l

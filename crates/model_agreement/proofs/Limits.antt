@@ -6,10 +6,10 @@ use Rattle.model_protocol.specs.World.{freshWorld}
 use Rattle.model_agreement.specs.Bounds.{InBounds, Says}
 use Rattle.model_agreement.specs.Content.{Content}
 use Rattle.model_agreement.specs.History.{history}
-use Rattle.model_agreement.proofs.Good.{Good, good}
-use Rattle.model_agreement.proofs.Inv.{said-at}
-use Rattle.model_agreement.proofs.Rest.{fine-of, given-of}
-use Rattle.model_agreement.proofs.Wire.{At}
+use Rattle.model_agreement.proofs.AllInvariants.{Good, good}
+use Rattle.model_agreement.proofs.BallotInvariant.{said-at}
+use Rattle.model_agreement.proofs.LogsAndProcesses.{fine-of, given-of}
+use Rattle.model_agreement.proofs.SentMessages.{At}
 
 at : {w : World} {j : ℕ} {x : Content} → Says w j x → At (w .messages) (w .sent) j x
 at s = record { below = s .sent; is = s .content }

@@ -6,22 +6,22 @@ use native.Mathlib.Omega.{arith}
 use lib.ListN.{getD, set}
 use lib.Pow.{pow-pos}
 use Rattle.model_steps.specs.Limits.{ballots, coordinators}
+use Rattle.model_paxos.specs.Ballot.{owner}
+use Rattle.model_paxos.proofs.Grow.{New, NewAll, new, newAt}
+use Rattle.model_paxos.proofs.Sets.{with-lt}
 use Rattle.model_protocol.specs.declared.Batch.{Batch}
 use Rattle.model_protocol.specs.declared.Cell.{Cell}
 use Rattle.model_protocol.specs.declared.Coordinator.{Coordinator}
 use Rattle.model_protocol.specs.declared.Message.{Message}
 use Rattle.model_protocol.specs.declared.World.{World}
-use Rattle.model_protocol.specs.Ballot.{owner}
 use Rattle.model_protocol.specs.Coordinator.{hearing, learning}
 use Rattle.model_protocol.specs.World.{coordinatorOf, emptyCell, freshCoordinator}
 use Rattle.model_agreement.specs.Bounds.{CellRange, CoRange, InRange}
 use Rattle.model_agreement.specs.Content.{Content}
 use Rattle.model_agreement.specs.History.{Event}
 use Rattle.model_agreement.proofs.Arrays.{set-all}
-use Rattle.model_agreement.proofs.Grow.{New, NewAll, new, newAt}
-use Rattle.model_agreement.proofs.Sets.{with-lt}
-use Rattle.model_agreement.proofs.Trans.{Higher, Move, asks, counts, crashes, hears, is-told, joins, learns, opens, ours, passes-accept, passes-accepted, passes-prepare, passes-promise, passes-request, passes-restore, promises, proposes, restores, takes, tells, theirs, votes}
-use Rattle.model_agreement.proofs.Wire.{AllNew, At, OneNew, Posts}
+use Rattle.model_agreement.proofs.StepEffects.{Higher, Move, asks, counts, crashes, hears, is-told, joins, learns, opens, ours, passes-accept, passes-accepted, passes-prepare, passes-promise, passes-request, passes-restore, promises, proposes, restores, takes, tells, theirs, votes}
+use Rattle.model_agreement.proofs.SentMessages.{AllNew, At, OneNew, Posts}
 
 pub record Range (w : World) : Type 0 where
   pub sent : {j : ℕ} {x : Content} → At (w .messages) (w .sent) j x → InRange (w .acceptors) x

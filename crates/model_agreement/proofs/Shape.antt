@@ -10,6 +10,7 @@ use lib.Seq.{length-sets}
 use Rattle.log_entry.specs.declared.Entry.{Entry}
 use Rattle.log_entry.specs.Limits.{transactions}
 use Rattle.model_steps.specs.Limits.{coordinators, instances, messages}
+use Rattle.model_paxos.specs.Ballot.{owner}
 use Rattle.model_protocol.specs.declared.Batch.{Batch}
 use Rattle.model_protocol.specs.declared.Cell.{Cell}
 use Rattle.model_protocol.specs.declared.Coordinator.{Coordinator}
@@ -18,7 +19,6 @@ use Rattle.model_protocol.specs.declared.Message.{Message}
 use Rattle.model_protocol.specs.declared.Process.{Process}
 use Rattle.model_protocol.specs.declared.Queue.{Queue}
 use Rattle.model_protocol.specs.declared.World.{World}
-use Rattle.model_protocol.specs.Ballot.{owner}
 use Rattle.model_protocol.specs.Batch.{entriesOf, noEntry}
 use Rattle.model_protocol.specs.Coordinator.{learning}
 use Rattle.model_protocol.specs.Limits.{cellPlaces, processPlaces, queuePlaces}
@@ -28,9 +28,9 @@ use Rattle.model_agreement.specs.Content.{Content}
 use Rattle.model_agreement.specs.History.{Event}
 use Rattle.model_agreement.proofs.Arrays.{set-all}
 use Rattle.model_agreement.proofs.Queue.{without-shorter}
-use Rattle.model_agreement.proofs.Trans.{Move, asks, counts, crashes, hears, is-told, joins, learns, opens, passes-accept, passes-accepted, passes-prepare, passes-promise, passes-request, passes-restore, promises, proposes, restores, takes, tells, votes}
-use Rattle.model_agreement.proofs.Wire.{Posts, posted}
-use Rattle.model_agreement.proofs.With.{withCell, withCoordinator, withDown, withLearned, withProcess}
+use Rattle.model_agreement.proofs.StepEffects.{Move, asks, counts, crashes, hears, is-told, joins, learns, opens, passes-accept, passes-accepted, passes-prepare, passes-promise, passes-request, passes-restore, promises, proposes, restores, takes, tells, votes}
+use Rattle.model_agreement.proofs.SentMessages.{Posts, posted}
+use Rattle.model_agreement.proofs.ChangedWorld.{withCell, withCoordinator, withDown, withLearned, withProcess}
 
 pub record QueueOk (q : Queue) : Type 0 where
   pub places : length (q .entries) ≡ queuePlaces

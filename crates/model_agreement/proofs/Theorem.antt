@@ -20,22 +20,24 @@ use Rattle.log_core.specs.Replay.{replayOf}
 use Rattle.model_steps.specs.declared.Step.{Step}
 use Rattle.model_steps.specs.Limits.{instances}
 use Rattle.log_laws.proofs.Replicated.{decided-stays}
+use Rattle.model_paxos.specs.Ballot.{Majority}
+use Rattle.model_paxos.specs.Messages.{Paxos, accept}
+use Rattle.model_paxos.proofs.Core.{Chosen}
+use Rattle.model_paxos.proofs.Sequence.{all-below, chosen-front, chosen-in, chosen-is, prefix, seq-chosen, seqFrom}
+use Rattle.model_paxos.proofs.Sets.{Has, has←, has→, meet}
 use Rattle.model_protocol.specs.declared.Batch.{Batch}
 use Rattle.model_protocol.specs.declared.World.{World}
 use Rattle.model_protocol.specs.Batch.{entriesOf, noBatch}
 use Rattle.model_protocol.specs.Step.{run}
 use Rattle.model_protocol.specs.World.{coordinatorOf, freshWorld, logOf}
 use Rattle.model_agreement.specs.Claim.{Demand3, IsSequence, RestoredWell, allEntries, batchAt, keptOf, plainLog}
-use Rattle.model_agreement.specs.Content.{Paxos, accept, paxos, request, restore, tell}
-use Rattle.model_agreement.specs.History.{Accepts, Applied, Decided, Event, Got, Happened, Majority, acceptors, asked, delivered, first, heardOf, here, history, later, opened, restoredOf, restoring, setup, there}
+use Rattle.model_agreement.specs.Content.{paxos, request, restore, tell}
+use Rattle.model_agreement.specs.History.{Accepts, Applied, Decided, Event, Got, Happened, acceptors, asked, delivered, first, heardOf, here, history, later, opened, restoredOf, restoring, setup, there}
 use Rattle.model_agreement.proofs.Collected.{collected, is-collected, was-said}
-use Rattle.model_agreement.proofs.Core.{Chosen}
-use Rattle.model_agreement.proofs.Good.{Extends, Good, good, history-extends}
-use Rattle.model_agreement.proofs.Inv.{Said}
+use Rattle.model_agreement.proofs.AllInvariants.{Extends, Good, good, history-extends}
+use Rattle.model_agreement.proofs.BallotInvariant.{Said}
 use Rattle.model_agreement.proofs.Plain.{plain-split}
-use Rattle.model_agreement.proofs.Rest.{Front, Told, fine-of, given-of, told-of}
-use Rattle.model_agreement.proofs.Sequence.{all-below, chosen-front, chosen-in, chosen-is, prefix, seq-chosen, seqFrom}
-use Rattle.model_agreement.proofs.Sets.{Has, has←, has→, meet}
+use Rattle.model_agreement.proofs.LogsAndProcesses.{Front, Told, fine-of, given-of, told-of}
 
 -- ---- sequences of one history, and of a longer one
 

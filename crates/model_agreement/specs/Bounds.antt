@@ -7,6 +7,7 @@ use lib.ListN.{getD}
 use Rattle.log_entry.specs.Limits.{processes, stores, transactions}
 use Rattle.model_steps.specs.declared.Step.{Step}
 use Rattle.model_steps.specs.Limits.{ballots, coordinators, instances, messages, mostAcceptors}
+use Rattle.model_paxos.specs.Messages.{accept, accepted, prepare, promise}
 use Rattle.model_protocol.specs.declared.Batch.{Batch}
 use Rattle.model_protocol.specs.declared.Cell.{Cell}
 use Rattle.model_protocol.specs.declared.Coordinator.{Coordinator}
@@ -14,7 +15,7 @@ use Rattle.model_protocol.specs.declared.World.{World}
 use Rattle.model_protocol.specs.Limits.{batchEntries, queuePlaces}
 use Rattle.model_protocol.specs.Step.{run}
 use Rattle.model_protocol.specs.World.{coordinatorOf, emptyCell, freshWorld, messageOf}
-use Rattle.model_agreement.specs.Content.{Content, accept, accepted, contentOf, paxos, prepare, promise, request, restore, tell}
+use Rattle.model_agreement.specs.Content.{Content, contentOf, paxos, request, restore, tell}
 
 -- instance, ballot and acceptor, where there are n acceptors
 pub record BallotRange (n i b a : ℕ) : Type 0 where

@@ -3,19 +3,11 @@ use Prim.Native.Nat.{ℕ}
 use Rattle.log_entry.specs.declared.Entry.{Entry}
 use Rattle.log_core.specs.declared.Outcome.{Outcome}
 use Rattle.log_core.specs.declared.Replay.{Replay}
+use Rattle.model_paxos.specs.Messages.{Paxos, accept, accepted, prepare, promise}
 use Rattle.model_protocol.specs.declared.Batch.{Batch}
 use Rattle.model_protocol.specs.declared.Kind.{Kind}
 use Rattle.model_protocol.specs.declared.Kind.the-variants.{Request, Prepare, Accept, Promise, Accepted, Tell, Restore}
 use Rattle.model_protocol.specs.declared.Message.{Message}
-
--- the messages of single-decree Paxos about values: each has an instance, a ballot and an acceptor
-pub data Paxos (Value : Type 0) : Type 0 where
-  prepare : ℕ → ℕ → ℕ → Paxos Value
-  -- with the acceptor's accepted pair: the ballot, 0 if none, and the value
-  promise : ℕ → ℕ → ℕ → ℕ → Value → Paxos Value
-  -- with the value proposed
-  accept : ℕ → ℕ → ℕ → Value → Paxos Value
-  accepted : ℕ → ℕ → ℕ → Paxos Value
 
 pub data Content : Type 0 where
   paxos : Paxos Batch → Content

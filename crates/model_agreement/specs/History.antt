@@ -1,10 +1,9 @@
 -- Document 01, "Whole lists of steps": what was opened, sent and delivered, and its words that are defined by that alone. The newest event
 -- stands first.
-use Prim.Native.Nat.{ℕ, _*_, _≤_, _<_}
+use Prim.Native.Nat.{ℕ, _≤_, _<_}
 use mathlib.Core.Bool.{cond, _&&_}
 use mathlib.Core.List.{List, [], _∷_}
 use mathlib.Core.Logic.{_≢_}
-use lib.Count.{onesIn}
 use lib.Dec.{T, eqb, ltb}
 use Rattle.log_entry.specs.declared.Entry.{Entry}
 use Rattle.log_entry.specs.Bits.{has}
@@ -14,12 +13,14 @@ use Rattle.log_core.specs.declared.Outcome.the-variants as outcome
 use Rattle.log_core.specs.declared.Replay.{Replay}
 use Rattle.model_steps.specs.declared.Step.{Step}
 use Rattle.model_steps.specs.declared.Step.the-variants.{Setup, Request, Open, Propose, Deliver, Tell, Restore, Crash}
+use Rattle.model_paxos.specs.Ballot.{Majority}
+use Rattle.model_paxos.specs.Messages.{accept, accepted, prepare}
 use Rattle.model_protocol.specs.declared.Batch.{Batch}
 use Rattle.model_protocol.specs.declared.World.{World}
 use Rattle.model_protocol.specs.Message.{noReplay}
 use Rattle.model_protocol.specs.Step.{stepOf}
 use Rattle.model_protocol.specs.World.{freshWorld, messageOf}
-use Rattle.model_agreement.specs.Content.{Content, accept, accepted, contentOf, paxos, prepare, request, restore, tell}
+use Rattle.model_agreement.specs.Content.{Content, contentOf, paxos, request, restore, tell}
 
 -- ---- "Opened, sent and delivered mean by a step answered 0."
 
@@ -77,10 +78,6 @@ Happened e h = (h₀ : List Event) × Before e h₀ h
 pub data Got (x : Content) : List Event → Type 0 where
   here : {m : ℕ} {h : List Event} → Got x (delivered m x ∷ h)
   there : {e : Event} {h : List Event} → Got x h → Got x (e ∷ h)
-
--- more than half of the acceptors 0 to n - 1 are in the set
-unfoldable pub Majority : ℕ → ℕ → Type 0
-Majority n set = n < 2 * onesIn n set
 
 -- ---- "An acceptor accepts a batch in an instance under b when an accept of all three is delivered to it and no prepare or accept above b
 -- in that instance was delivered to it before."

@@ -1,5 +1,4 @@
 pub mod Acceptor
-pub mod Ballot
 pub mod Batch
 pub mod Change
 pub mod Coordinator

@@ -7,7 +7,7 @@ use Rattle.model_steps.specs.Limits.{coordinators, instances, messages}
 use Rattle.model_protocol.specs.declared.Kind.{Kind}
 use Rattle.model_protocol.specs.declared.Kind.the-variants as kind
 use Rattle.model_protocol.specs.declared.Message.{Message}
-use Rattle.model_protocol.specs.Ballot.{owner}
+use Rattle.model_paxos.specs.Ballot.{owner}
 use Rattle.model_protocol.specs.Limits.{cellPlaces, processPlaces}
 use Rattle.model_protocol.specs.declared.Places.{Places}
 

@@ -26,7 +26,7 @@ use Rattle.model_protocol.specs.declared.Places.{Places}
 use Rattle.model_protocol.specs.declared.Process.{Process}
 use Rattle.model_protocol.specs.declared.Stepped.{Stepped}
 use Rattle.model_protocol.specs.declared.World.{World}
-use Rattle.model_protocol.specs.Ballot.{majority, owner}
+use Rattle.model_paxos.specs.Ballot.{majority, owner}
 use Rattle.model_protocol.specs.Batch.{entriesOf}
 use Rattle.model_protocol.specs.Change.{acceptorsNow, coordinatorNow, done, downNow, parts, sending}
 use Rattle.model_protocol.specs.Coordinator.{batchToPropose, proposing, withRound}

@@ -4,7 +4,7 @@ use mathlib.Core.Bool.{Bool, true, _||_}
 use mathlib.Core.Path.{_≡_}
 use lib.Dec.{eqb, leb}
 use borrow.Author.Tests.{eq-eqb, ne-eqb}
-use Rattle.model_protocol.specs.Ballot.{owner}
+use Rattle.model_paxos.specs.Ballot.{owner}
 use Rattle.model_protocol.specs.declared.Coordinator.{Coordinator}
 use Rattle.model_protocol.specs.Step.{cannotOpen}
 

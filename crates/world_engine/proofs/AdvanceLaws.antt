@@ -29,7 +29,7 @@ use Rattle.model_protocol.specs.declared.Places.{Places}
 use Rattle.model_protocol.specs.declared.Process.{Process}
 use Rattle.model_protocol.specs.declared.Stepped.{Stepped}
 use Rattle.model_protocol.specs.declared.World.{World}
-use Rattle.model_protocol.specs.Ballot.{owner}
+use Rattle.model_paxos.specs.Ballot.{owner}
 use Rattle.model_protocol.specs.Batch.{entriesOf}
 use Rattle.model_protocol.specs.Change.{parts}
 use Rattle.model_protocol.specs.declared.Kind.{Kind}

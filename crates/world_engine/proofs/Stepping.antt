@@ -15,7 +15,7 @@ use Rattle.model_protocol.specs.declared.Stepped.{Stepped}
 use Rattle.model_protocol.specs.declared.World.{World}
 use Rattle.model_protocol.specs.Acceptor.{accepts, promises}
 use Rattle.model_protocol.specs.Change.{still}
-use Rattle.model_protocol.specs.Ballot.{majority}
+use Rattle.model_paxos.specs.Ballot.{majority}
 use Rattle.model_protocol.specs.Coordinator.{counting, isHeard}
 use Rattle.model_protocol.specs.Deliver.{handed}
 use Rattle.model_protocol.specs.Step.{answered, changed, changeOf, messageIn, partsOf, placesIn, stepOf, stepRefusal}

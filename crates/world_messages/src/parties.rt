@@ -2,7 +2,7 @@
 ghost use mathlib.Core.Path.{_≡_};
 ghost use Rattle.model_protocol.specs.World.{isDown};
 ghost use Rattle.model_protocol.specs.Deliver.{receiverDown};
-ghost use Rattle.model_protocol.specs.Ballot.{owner};
+ghost use Rattle.model_paxos.specs.Ballot.{owner};
 ghost use Rattle.model_protocol.specs.World.{crashed};
 use model_protocol::Down;
 use model_protocol::Kind;

@@ -20,6 +20,8 @@ use Rattle.model_steps.specs.declared.Role.{Role}
 use Rattle.model_steps.specs.declared.Step.{Step}
 use Rattle.model_steps.specs.declared.Step.the-variants.{Setup, Request, Open, Propose, Deliver, Tell, Restore, Crash}
 use Rattle.model_steps.specs.Limits.{ballots, coordinators, instances, messages, noBallot, noCoordinator, outsideStep, mostAcceptors}
+use Rattle.model_paxos.specs.Ballot.{majority, owner}
+use Rattle.model_paxos.specs.Messages.{accept, accepted, prepare, promise}
 use Rattle.model_protocol.specs.declared.Batch.{Batch}
 use Rattle.model_protocol.specs.declared.Cell.{Cell}
 use Rattle.model_protocol.specs.declared.Change.{Change}
@@ -35,7 +37,6 @@ use Rattle.model_protocol.specs.declared.Round.{Round}
 use Rattle.model_protocol.specs.declared.World.{World}
 use Rattle.model_protocol.specs.Acceptor as acceptor
 use Rattle.model_protocol.specs.Acceptor.{accepting, promising}
-use Rattle.model_protocol.specs.Ballot.{majority, owner}
 use Rattle.model_protocol.specs.Coordinator.{batchToPropose, counting, hearing, isCurrent, isHeard, learning, promiseHeard, proposing, withQueue, withRound}
 use Rattle.model_protocol.specs.Change.{coordinatorNow, done}
 use Rattle.model_protocol.specs.Deliver.{handed, noPlaceFor}
@@ -48,11 +49,11 @@ use Rattle.model_protocol.specs.Send.{lacksNumbers}
 use Rattle.model_protocol.specs.Step.{acceptorsCounted, cannotOpen, cannotPropose, changed, changeOf, heldStore, messageFor, messageIn, partsAt, partsOf, placesIn, stepChecks, stepOf, stepRefusal, unbelieved}
 use Rattle.model_protocol.specs.World.{cellOf, coordinatorOf, crashed, logOf, messageOf, newRound, processOf, withMessage}
 use Rattle.model_agreement.specs.Bounds.{InRange}
-use Rattle.model_agreement.specs.Content.{Content, accept, accepted, contentAs, paxos, prepare, promise, request, restore, tell}
+use Rattle.model_agreement.specs.Content.{Content, contentAs, paxos, request, restore, tell}
 use Rattle.model_agreement.specs.History.{Event, asked, delivered, note, noted, opened, restoring, setup}
 use Rattle.model_agreement.proofs.Tests.{Passed, Positive, both, is-false, is-true, neither, neqb→ne, none-of-five, none-of-three, not-first, not-not, not-second, passed}
-use Rattle.model_agreement.proofs.With.{accepts-sent, acceptors-changed, cell-answers, cellAt, coordinator-changed, coordinator-learns, down-changed, nothing, only-sends, prepares-sent, process-changed, withAcceptors, withCell, withCoordinator, withDown, withLearned, withProcess}
-use Rattle.model_agreement.proofs.Wire.{AllNew, At, OneNew, Posts, at-new, posted, posts-all, posts-one, send-posts}
+use Rattle.model_agreement.proofs.ChangedWorld.{accepts-sent, acceptors-changed, cell-answers, cellAt, coordinator-changed, coordinator-learns, down-changed, nothing, only-sends, prepares-sent, process-changed, withAcceptors, withCell, withCoordinator, withDown, withLearned, withProcess}
+use Rattle.model_agreement.proofs.SentMessages.{AllNew, At, OneNew, Posts, at-new, posted, posts-all, posts-one, send-posts}
 
 -- the accepted pair that a round keeps after a promise with the pair (d, v)
 pub data Higher (r : Round) (d : ℕ) (v : Batch) : ℕ → Batch → Type 0 where

@@ -13,10 +13,10 @@ use lib.ListN.{getD, length, length-take, take}
 use lib.Seq.{ext-getD, getD-take}
 use Rattle.log_entry.specs.Bits.{with}
 use Rattle.model_steps.specs.Limits.{instances}
-use Rattle.model_agreement.specs.Content.{Paxos, accept, accepted, prepare, promise}
-use Rattle.model_agreement.specs.History.{Majority}
-use Rattle.model_agreement.proofs.Core.{Chosen, Core, chosen-agree}
-use Rattle.model_agreement.proofs.Sets.{Has, has-with, has-zero, most-mono, with-has, with-keeps}
+use Rattle.model_paxos.specs.Ballot.{Majority}
+use Rattle.model_paxos.specs.Messages.{Paxos, accept, accepted, prepare, promise}
+use Rattle.model_paxos.proofs.Core.{Chosen, Core, chosen-agree}
+use Rattle.model_paxos.proofs.Sets.{Has, has-with, has-zero, most-mono, with-has, with-keeps}
 
 abbrev isMost : ℕ → ℕ → Bool
 isMost n q = ltb n (2 * onesIn n q)

@@ -21,12 +21,17 @@ use Rattle.log_core.specs.Outcome.{isOpen, outcomeOf}
 use Rattle.log_core.specs.Replay.{replayOf}
 use Rattle.model_steps.specs.Limits.{coordinators, instances}
 use Rattle.log_laws.proofs.Replicated.{holders-length}
+use Rattle.model_paxos.specs.Ballot.{Majority, owner}
+use Rattle.model_paxos.specs.Messages.{Paxos, accept, accepted}
+use Rattle.model_paxos.proofs.Core.{Chosen}
+use Rattle.model_paxos.proofs.Grow.{Best, New, NewAll, chosen-up, kind, new, newAt}
+use Rattle.model_paxos.proofs.Local.{co-count, learns-chosen}
+use Rattle.model_paxos.proofs.Sets.{majority→, with-lt}
 use Rattle.model_protocol.specs.declared.Batch.{Batch}
 use Rattle.model_protocol.specs.declared.Coordinator.{Coordinator}
 use Rattle.model_protocol.specs.declared.Message.{Message}
 use Rattle.model_protocol.specs.declared.Queue.{Queue}
 use Rattle.model_protocol.specs.declared.World.{World}
-use Rattle.model_protocol.specs.Ballot.{owner}
 use Rattle.model_protocol.specs.Batch.{batchOf, entriesOf, noBatch, noEntry}
 use Rattle.model_protocol.specs.Coordinator.{batchToPropose, counting, learning}
 use Rattle.model_protocol.specs.Limits.{batchEntries, queuePlaces}
@@ -34,22 +39,18 @@ use Rattle.model_protocol.specs.Queue.{firstBatch, leftBy, queueOf, queued, wit
 use Rattle.model_protocol.specs.Step.{heldStore}
 use Rattle.model_protocol.specs.World.{coordinatorOf, freshCoordinator, logOf}
 use Rattle.model_agreement.specs.Claim.{allEntries, plainLog}
-use Rattle.model_agreement.specs.Content.{Content, Paxos, accept, accepted, paxos, request, restore, tell}
-use Rattle.model_agreement.specs.History.{Applied, Before, Event, Happened, Majority, asked, delivered, earlier, now, restoring}
+use Rattle.model_agreement.specs.Content.{Content, paxos, request, restore, tell}
+use Rattle.model_agreement.specs.History.{Applied, Before, Event, Happened, asked, delivered, earlier, now, restoring}
 use Rattle.model_agreement.proofs.Arrays.{set-ind}
-use Rattle.model_agreement.proofs.Core.{Chosen}
-use Rattle.model_agreement.proofs.Grow.{Best, New, NewAll, chosen-up, kind, new, newAt}
-use Rattle.model_agreement.proofs.Hist.{Hist}
-use Rattle.model_agreement.proofs.Inv.{Inv, Said, attempt, said-at, said-up}
-use Rattle.model_agreement.proofs.Local.{co-count, learns-chosen}
+use Rattle.model_agreement.proofs.HistoryKept.{Hist}
+use Rattle.model_agreement.proofs.BallotInvariant.{Inv, Said, attempt, said-at, said-up}
 use Rattle.model_agreement.proofs.Plain.{held-holder, plain-more}
 use Rattle.model_agreement.proofs.Queue.{front-of, in-joined, in-take, in-without, without-shorter}
 use Rattle.model_agreement.proofs.Range.{Range}
-use Rattle.model_agreement.proofs.Sets.{majority→, with-lt}
 use Rattle.model_agreement.proofs.Shape.{QueueOk, Shape}
 use Rattle.model_agreement.proofs.Tests.{neqb→ne}
-use Rattle.model_agreement.proofs.Trans.{Move, asks, counts, crashes, hears, is-told, joins, learns, opens, passes-accept, passes-accepted, passes-prepare, passes-promise, passes-request, passes-restore, promises, proposes, restores, takes, tells, votes}
-use Rattle.model_agreement.proofs.Wire.{AllNew, At, OneNew, Posts}
+use Rattle.model_agreement.proofs.StepEffects.{Move, asks, counts, crashes, hears, is-told, joins, learns, opens, passes-accept, passes-accepted, passes-prepare, passes-promise, passes-request, passes-restore, promises, proposes, restores, takes, tells, votes}
+use Rattle.model_agreement.proofs.SentMessages.{AllNew, At, OneNew, Posts}
 
 -- ---- what is said of a message, a queue and a log, by the number n of acceptors, the history h and the sent messages S of the ballots
 

@@ -6,9 +6,9 @@ use mathlib.Core.Logic.{_⊎_, inl, inr}
 use native.Mathlib.Decide.{decLe, ℕ-discrete}
 use native.Mathlib.Omega.{arith}
 use Rattle.model_steps.specs.Limits.{instances}
-use Rattle.model_agreement.specs.Content.{Paxos, accept, accepted, promise}
-use Rattle.model_agreement.specs.History.{Majority}
-use Rattle.model_agreement.proofs.Sets.{Has, meet}
+use Rattle.model_paxos.specs.Ballot.{Majority}
+use Rattle.model_paxos.specs.Messages.{Paxos, accept, accepted, promise}
+use Rattle.model_paxos.proofs.Sets.{Has, meet}
 
 -- why v may be proposed in i under b: a majority promised b, none of it with an accepted ballot above `from`, and `from` is 0 or has v
 pub record Why {X : Type 0} (n : ℕ) (S : Paxos X → Type 0) (i b : ℕ) (v : X) : Type 0 where

@@ -8,28 +8,29 @@ use native.Mathlib.Omega.{arith}
 use lib.Dec.{T, eqb, eqb→eq}
 use lib.ListN.{getD, length, set}
 use Rattle.model_steps.specs.Limits.{coordinators, instances, mostAcceptors}
+use Rattle.model_paxos.specs.Ballot.{Majority, owner}
+use Rattle.model_paxos.specs.Messages.{Paxos, accept, accepted, promise}
+use Rattle.model_paxos.proofs.Core.{Core}
+use Rattle.model_paxos.proofs.Grow.{AccOk, Attempt, Best, CoOk, Holding, New, NewAll, acc-up, co-up, core-accepted, core-open, core-promise, core-propose, kind, new, newAt}
+use Rattle.model_paxos.proofs.Local.{acc-accepted, acc-promise, co-count, co-hear, co-learn, co-open, co-others, co-propose}
+use Rattle.model_paxos.proofs.Sets.{majority→, with-lt}
 use Rattle.model_protocol.specs.declared.Batch.{Batch}
 use Rattle.model_protocol.specs.declared.Cell.{Cell}
 use Rattle.model_protocol.specs.declared.Coordinator.{Coordinator}
 use Rattle.model_protocol.specs.declared.Message.{Message}
 use Rattle.model_protocol.specs.declared.Round.{Round}
 use Rattle.model_protocol.specs.declared.World.{World}
-use Rattle.model_protocol.specs.Ballot.{owner}
 use Rattle.model_protocol.specs.Batch.{noBatch}
 use Rattle.model_protocol.specs.Coordinator.{batchToPropose, counting, hearing, learning, withRound}
 use Rattle.model_protocol.specs.Queue.{firstBatch}
 use Rattle.model_protocol.specs.World.{cellOf, coordinatorOf, emptyCell, freshCoordinator}
-use Rattle.model_agreement.specs.Content.{Content, Paxos, accept, accepted, paxos, promise, request, restore, tell}
-use Rattle.model_agreement.specs.History.{Event, Majority}
+use Rattle.model_agreement.specs.Content.{Content, paxos, request, restore, tell}
+use Rattle.model_agreement.specs.History.{Event}
 use Rattle.model_agreement.proofs.Arrays.{cell-ind, set-ind}
-use Rattle.model_agreement.proofs.Core.{Core}
-use Rattle.model_agreement.proofs.Grow.{AccOk, Attempt, Best, CoOk, Holding, New, NewAll, acc-up, co-up, core-accepted, core-open, core-promise, core-propose, kind, new, newAt}
-use Rattle.model_agreement.proofs.Local.{acc-accepted, acc-promise, co-count, co-hear, co-learn, co-open, co-others, co-propose}
 use Rattle.model_agreement.proofs.Range.{Range}
-use Rattle.model_agreement.proofs.Sets.{majority→, with-lt}
 use Rattle.model_agreement.proofs.Shape.{Shape}
-use Rattle.model_agreement.proofs.Trans.{Higher, Move, asks, counts, crashes, hears, is-told, joins, learns, opens, ours, passes-accept, passes-accepted, passes-prepare, passes-promise, passes-request, passes-restore, promises, proposes, restores, takes, tells, theirs, votes}
-use Rattle.model_agreement.proofs.Wire.{AllNew, At, OneNew, Posts, Sent}
+use Rattle.model_agreement.proofs.StepEffects.{Higher, Move, asks, counts, crashes, hears, is-told, joins, learns, opens, ours, passes-accept, passes-accepted, passes-prepare, passes-promise, passes-request, passes-restore, promises, proposes, restores, takes, tells, theirs, votes}
+use Rattle.model_agreement.proofs.SentMessages.{AllNew, At, OneNew, Posts, Sent}
 
 -- ---- the sent messages of the ballots
 

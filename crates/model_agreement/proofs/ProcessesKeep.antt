@@ -25,8 +25,8 @@ use Rattle.model_agreement.proofs.Arrays.{each-case, set-ind}
 use Rattle.model_agreement.proofs.Range.{Range}
 use Rattle.model_agreement.proofs.Shape.{Shape}
 use Rattle.model_agreement.proofs.Tests.{is-false, is-true}
-use Rattle.model_agreement.proofs.Trans.{Move, asks, counts, crashes, hears, is-told, joins, learns, opens, passes-accept, passes-accepted, passes-prepare, passes-promise, passes-request, passes-restore, promises, proposes, restores, takes, tells, votes}
-use Rattle.model_agreement.proofs.Wire.{At, Posts}
+use Rattle.model_agreement.proofs.StepEffects.{Move, asks, counts, crashes, hears, is-told, joins, learns, opens, passes-accept, passes-accepted, passes-prepare, passes-promise, passes-request, passes-restore, promises, proposes, restores, takes, tells, votes}
+use Rattle.model_agreement.proofs.SentMessages.{At, Posts}
 
 abbrev outcomeIn : List Heard → ℕ → Outcome
 outcomeIn hs tx = getD hs tx (record { outcome = Open }) .outcome

@@ -5,11 +5,10 @@ use mathlib.Core.Logic.{_⊎_, inl, inr, _≢_}
 use mathlib.Core.Bool.{Bool, true, false}
 use native.Mathlib.Omega.{arith}
 use Rattle.model_steps.specs.Limits.{instances}
-use Rattle.model_protocol.specs.Ballot.{owner}
-use Rattle.model_agreement.specs.Content.{Paxos, accept, accepted, prepare, promise}
-use Rattle.model_agreement.specs.History.{Majority}
-use Rattle.model_agreement.proofs.Sets.{Has}
-use Rattle.model_agreement.proofs.Core.{Why, Chosen, Core}
+use Rattle.model_paxos.specs.Ballot.{Majority, owner}
+use Rattle.model_paxos.specs.Messages.{Paxos, accept, accepted, prepare, promise}
+use Rattle.model_paxos.proofs.Sets.{Has}
+use Rattle.model_paxos.proofs.Core.{Why, Chosen, Core}
 
 -- what an acceptor holds of an instance
 pub record Holding (X : Type 0) : Type 0 where

@@ -8,12 +8,12 @@ use native.Mathlib.Omega.{arith}
 use lib.ListN.{getD, length, length-set, set}
 use lib.Seq.{getD-set-other, getD-set-same}
 use Rattle.model_steps.specs.Limits.{messages}
+use Rattle.model_paxos.proofs.Grow.{New, NewAll, new, newAt}
 use Rattle.model_protocol.specs.declared.Message.{Message}
 use Rattle.model_protocol.specs.declared.World.{World}
 use Rattle.model_protocol.specs.Message.{noMessage}
 use Rattle.model_protocol.specs.Send.{sendToAll}
 use Rattle.model_agreement.specs.Content.{Content, contentOf}
-use Rattle.model_agreement.proofs.Grow.{New, NewAll, new, newAt}
 
 -- of the first k of ms, the one of number j says x
 pub record At (ms : List Message) (k j : ℕ) (x : Content) : Type 0 where

@@ -9,25 +9,26 @@ use lib.ListN.{getD, length, set}
 use Rattle.log_entry.specs.declared.Entry.{Entry}
 use Rattle.log_entry.specs.Bits.{with}
 use Rattle.model_steps.specs.Limits.{coordinators, instances, mostAcceptors}
+use Rattle.model_paxos.specs.Ballot.{Majority, majority, owner}
+use Rattle.model_paxos.specs.Messages.{Paxos, accept, accepted, prepare, promise}
+use Rattle.model_paxos.proofs.Grow.{New, kind, new}
+use Rattle.model_paxos.proofs.Sets.{majority←, majority→, with-lt}
 use Rattle.model_protocol.specs.declared.Batch.{Batch}
 use Rattle.model_protocol.specs.declared.Cell.{Cell}
 use Rattle.model_protocol.specs.declared.Coordinator.{Coordinator}
 use Rattle.model_protocol.specs.declared.Message.{Message}
 use Rattle.model_protocol.specs.declared.World.{World}
-use Rattle.model_protocol.specs.Ballot.{majority, owner}
 use Rattle.model_protocol.specs.Coordinator.{counting, learning}
 use Rattle.model_protocol.specs.World.{cellOf, coordinatorOf, emptyCell, freshCoordinator}
-use Rattle.model_agreement.specs.Content.{Content, Paxos, accept, accepted, paxos, prepare, promise, request}
-use Rattle.model_agreement.specs.History.{Accepts, Event, Got, LastOpened, Majority, Since, asked, delivered, first, heard, here, kept, later, opened, opening, restoring, setup, still, there}
+use Rattle.model_agreement.specs.Content.{Content, paxos, request}
+use Rattle.model_agreement.specs.History.{Accepts, Event, Got, LastOpened, Since, asked, delivered, first, heard, here, kept, later, opened, opening, restoring, setup, still, there}
 use Rattle.model_agreement.proofs.Arrays.{cell-cases, cell-ind, each-case, set-ind}
-use Rattle.model_agreement.proofs.Grow.{New, kind, new}
-use Rattle.model_agreement.proofs.Inv.{Inv, Mail, Said, accepted-positive, is-request, is-restore, is-tell, said-at, said-mail, said-one, said-other, said-others, said-up}
+use Rattle.model_agreement.proofs.BallotInvariant.{Inv, Mail, Said, accepted-positive, is-request, is-restore, is-tell, said-at, said-mail, said-one, said-other, said-others, said-up}
 use Rattle.model_agreement.proofs.Range.{Range}
 use Rattle.model_agreement.proofs.Recorded.{AccHist, CoHist, acc-frame, acc-passes, acc-prepares, acc-sent, acc-votes, co-counts, co-frame, co-learns, co-opens}
-use Rattle.model_agreement.proofs.Sets.{majority←, majority→, with-lt}
 use Rattle.model_agreement.proofs.Shape.{Shape}
-use Rattle.model_agreement.proofs.Trans.{Move, asks, counts, crashes, hears, is-told, joins, learns, opens, passes-accept, passes-accepted, passes-prepare, passes-promise, passes-request, passes-restore, promises, proposes, restores, takes, tells, votes}
-use Rattle.model_agreement.proofs.Wire.{At, OneNew, Posts}
+use Rattle.model_agreement.proofs.StepEffects.{Move, asks, counts, crashes, hears, is-told, joins, learns, opens, passes-accept, passes-accepted, passes-prepare, passes-promise, passes-request, passes-restore, promises, proposes, restores, takes, tells, votes}
+use Rattle.model_agreement.proofs.SentMessages.{At, OneNew, Posts}
 
 -- ---- what an event leaves as it was
 

@@ -7,12 +7,11 @@ use native.Mathlib.Decide.{decLe}
 use native.Mathlib.Omega.{arith}
 use Rattle.log_entry.specs.Bits.{with}
 use Rattle.model_steps.specs.Limits.{instances}
-use Rattle.model_protocol.specs.Ballot.{owner}
-use Rattle.model_agreement.specs.Content.{Paxos, accept, accepted, promise}
-use Rattle.model_agreement.specs.History.{Majority}
-use Rattle.model_agreement.proofs.Sets.{Has, has-with, has-zero, meet}
-use Rattle.model_agreement.proofs.Core.{Chosen, Core}
-use Rattle.model_agreement.proofs.Grow.{AccOk, Attempt, Best, CoOk, Holding, New, NewAll, UsedBy, best-up, chosen-up, co-up, kind, new, newAt, now, pair-up, past, under}
+use Rattle.model_paxos.specs.Ballot.{Majority, owner}
+use Rattle.model_paxos.specs.Messages.{Paxos, accept, accepted, promise}
+use Rattle.model_paxos.proofs.Sets.{Has, has-with, has-zero, meet}
+use Rattle.model_paxos.proofs.Core.{Chosen, Core}
+use Rattle.model_paxos.proofs.Grow.{AccOk, Attempt, Best, CoOk, Holding, New, NewAll, UsedBy, best-up, chosen-up, co-up, kind, new, newAt, now, pair-up, past, under}
 
 -- ---- acceptors
 

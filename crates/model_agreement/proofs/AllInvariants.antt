@@ -13,6 +13,10 @@ use Rattle.log_core.specs.Log.{emptyLog}
 use Rattle.model_steps.specs.declared.Step.{Step}
 use Rattle.model_steps.specs.Limits.{coordinators, instances, messages, mostAcceptors}
 use Rattle.log_entry.specs.Limits.{transactions}
+use Rattle.model_paxos.specs.Messages.{Paxos}
+use Rattle.model_paxos.proofs.Core.{Core}
+use Rattle.model_paxos.proofs.Grow.{AccOk, CoOk}
+use Rattle.model_paxos.proofs.Sets.{few-zero, has-zero, has←, meet}
 use Rattle.model_protocol.specs.declared.Batch.{Batch}
 use Rattle.model_protocol.specs.declared.Heard.{Heard}
 use Rattle.model_protocol.specs.declared.Message.{Message}
@@ -25,22 +29,19 @@ use Rattle.model_protocol.specs.Step.{run, stepOf}
 use Rattle.model_protocol.specs.World.{emptyCell, freshCoordinator, freshProcess, freshWorld}
 use Rattle.model_agreement.specs.Bounds.{CellRange, CoRange}
 use Rattle.model_agreement.specs.Claim.{plainLog}
-use Rattle.model_agreement.specs.Content.{Content, Paxos}
+use Rattle.model_agreement.specs.Content.{Content}
 use Rattle.model_agreement.specs.History.{Accepts, Event, Got, LastOpened, Learns, Since, acceptors, asked, before, delivered, here, history, heardOf, historyFrom, kept, later, learns, noted, opened, restoredOf, restoring, setup, still, there}
-use Rattle.model_agreement.proofs.Grow.{AccOk, CoOk}
-use Rattle.model_agreement.proofs.Core.{Core}
-use Rattle.model_agreement.proofs.Hist.{Hist, hist-move}
-use Rattle.model_agreement.proofs.Inv.{Inv, Said, attempt, holding, inv-move, sent-up}
-use Rattle.model_agreement.proofs.Kept.{Keeps, Kept, kept-move}
+use Rattle.model_agreement.proofs.HistoryKept.{Hist, hist-move}
+use Rattle.model_agreement.proofs.BallotInvariant.{Inv, Said, attempt, holding, inv-move, sent-up}
+use Rattle.model_agreement.proofs.ProcessesKeep.{Keeps, Kept, kept-move}
 use Rattle.model_agreement.proofs.Range.{Range, range-move}
 use Rattle.model_agreement.proofs.Recorded.{AccHist, CoHist}
-use Rattle.model_agreement.proofs.Rest.{CoFact, Later, Rest, more, rest-move, same}
-use Rattle.model_agreement.proofs.Sets.{few-zero, has-zero, has←, meet}
+use Rattle.model_agreement.proofs.LogsAndProcesses.{CoFact, Later, Rest, more, rest-move, same}
 use Rattle.model_agreement.proofs.Shape.{QueueOk, Shape, shape-move}
-use Rattle.model_agreement.proofs.Trans.{Move, Trans, asks, counts, crashes, hears, is-told, joins, moves, opens, passes-accept, passes-accepted, passes-prepare, passes-promise, passes-request, passes-restore, promises, proposes, refused, restores, sets-up, takes, tells, trans, votes}
-use Rattle.model_agreement.proofs.Trans as t
-use Rattle.model_agreement.proofs.Wire.{At, Posts, Sent}
-use Rattle.model_agreement.proofs.With.{withAcceptors}
+use Rattle.model_agreement.proofs.StepEffects.{Move, Trans, asks, counts, crashes, hears, is-told, joins, moves, opens, passes-accept, passes-accepted, passes-prepare, passes-promise, passes-request, passes-restore, promises, proposes, refused, restores, sets-up, takes, tells, trans, votes}
+use Rattle.model_agreement.proofs.StepEffects as t
+use Rattle.model_agreement.proofs.SentMessages.{At, Posts, Sent}
+use Rattle.model_agreement.proofs.ChangedWorld.{withAcceptors}
 
 -- ---- what was delivered was sent
 

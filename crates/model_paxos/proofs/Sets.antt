@@ -9,8 +9,7 @@ use lib.Count.{onesIn, ones, ones-step}
 use lib.Dec.{T, eqb→eq, ltb→lt, lt→ltb}
 use lib.Pow.{pow-lt, shr-shr}
 use Rattle.log_entry.specs.Bits.{has, with}
-use Rattle.model_protocol.specs.Ballot.{majority}
-use Rattle.model_agreement.specs.History.{Majority}
+use Rattle.model_paxos.specs.Ballot.{Majority, majority}
 
 -- digit a of the set
 abbrev pub bit : ℕ → ℕ → ℕ

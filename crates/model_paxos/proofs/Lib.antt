@@ -1,0 +1,5 @@
+pub mod Sets
+pub mod Core
+pub mod Grow
+pub mod Local
+pub mod Sequence
