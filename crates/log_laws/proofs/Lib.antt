@@ -10,6 +10,7 @@ pub mod GroupClaims
 pub mod GroupSteps
 pub mod Grouping
 pub mod Holding
+pub mod InvolvementClaims
 pub mod LastGroup
 pub mod Lists
 pub mod Lost

@@ -3,6 +3,7 @@ use Rattle.log_laws.specs.Answers.{RefusedEntryChangesNothing, TakeAnswe
 use Rattle.log_laws.specs.Cases.{CasesHold}
 use Rattle.log_laws.specs.Groups.{BegunByCommit, FirstCommitBegins, GroupAtCommit, GroupIffCommitted, GroupNeverChanges, GroupsWithoutGaps, JoinsIfRunningWhenBegun, LastGroupWasBegun, RememberedNeverChanges, GroupRemembersRunning}
 use Rattle.log_laws.specs.Holders.{AcceptedTakeHolds, HoldsAtMostOneStore, LostStoreNeverAgain}
+use Rattle.log_laws.specs.Involvement.{InvolvementExactly}
 use Rattle.log_laws.specs.Replays.{ReplayListsExactly, ReplayListsOnce, ReplayOrdered}
 use Rattle.log_laws.specs.Votes.{AcceptedVoteIsKept, CommitVotesNameOneList, CommittedKeepsNoVote, CommittedRowStays, KeptVoteStays, OutcomeCommitIff, OutcomeNeverChanges}
 use Rattle.log_laws.proofs.AcceptedClaims.{take-holds, vote-is-kept}
@@ -10,6 +11,7 @@ use Rattle.log_laws.proofs.AnswerClaims.{refused-same, take-exactly, vo
 use Rattle.log_laws.proofs.CaseTable.{table-holds}
 use Rattle.log_laws.proofs.CommitIff.{commit-iff}
 use Rattle.log_laws.proofs.GroupClaims.{at-commit, by-commit, first-begins, iff-committed, joins-if-running, never-changes, without-gaps}
+use Rattle.log_laws.proofs.InvolvementClaims.{involvement-by-votes}
 use Rattle.log_laws.proofs.LastGroup.{was-begun}
 use Rattle.log_laws.proofs.Lost.{never-again, one-store}
 use Rattle.log_laws.proofs.Remembered.{remembered-stays, remembers-running}
@@ -36,6 +38,9 @@ committed-row-stays = row-stays
 
 pub commit-votes-name-one-list : CommitVotesNameOneList
 commit-votes-name-one-list = one-list-named
+
+pub involvement-exactly : InvolvementExactly
+involvement-exactly = involvement-by-votes
 
 pub accepted-take-holds : AcceptedTakeHolds
 accepted-take-holds = take-holds
