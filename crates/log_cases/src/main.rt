@@ -3,8 +3,8 @@
 use libc::STDIN_FILENO;
 use libc::STDOUT_FILENO;
 use log_core::Log;
-use log_core::Outcome;
 use log_entry::Entry;
+use log_votes::Outcome;
 
 mod line;
 mod show;

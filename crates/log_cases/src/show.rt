@@ -1,7 +1,7 @@
 // What a log says, as lines.
 use libc::STDOUT_FILENO;
 use log_core::Log;
-use log_core::Outcome;
+use log_votes::Outcome;
 
 fn number(key: &[u8], n: u64) {
     io::write_all(STDOUT_FILENO, key);

@@ -3,8 +3,9 @@ use mathlib.Core.Path.{_≡_, ap}
 use lib.ListN.{replicate}
 use Rattle.log_entry.specs.Limits.{stores, transactions}
 use Rattle.log_core.specs.declared.Log.{Log}
-use Rattle.log_core.specs.declared.Row.{Row}
-use Rattle.log_core.specs.Log.{emptyLog, noVote}
+use Rattle.log_votes.specs.declared.Row.{Row}
+use Rattle.log_core.specs.Log.{emptyLog}
+use Rattle.log_votes.specs.Row.{noVote}
 
 abbrev pub allRows : Row → Log
 allRows r = record {

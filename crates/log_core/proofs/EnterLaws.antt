@@ -13,13 +13,15 @@ use Rattle.log_entry.specs.Entry.{noProcess, outside, takeEntry}
 use Rattle.log_entry.specs.Limits.{lists, stores, transactions, updates}
 use Rattle.log_entry.specs.Refusal.{accepted, firstRefusal, holdsOrHeld, outsideLimits}
 use Rattle.log_core.specs.declared.Log.{Log}
-use Rattle.log_core.specs.declared.Row.{Row}
+use Rattle.log_votes.specs.declared.Row.{Row}
 use Rattle.log_core.specs.Enter.{afterEntry, answered, enter, refusalOf, voted}
 use Rattle.log_core.specs.Group.{committing}
-use Rattle.log_core.specs.Log.{heldBefore, keeping, rowOf, withHolder, withRow}
-use Rattle.log_core.specs.Outcome.{isCommitted, outcomeOfVotes}
+use Rattle.log_core.specs.Log.{heldBefore, rowOf, withHolder, withRow}
+use Rattle.log_votes.specs.Row.{keeping}
+use Rattle.log_votes.specs.Outcome.{isCommitted, outcomeOfVotes}
 use Rattle.log_core.specs.Refusal.{holdsAny}
-use Rattle.log_core.proofs.RefusalLaws.{cond-false, cond-true, take-checked}
+use Rattle.log_votes.proofs.RefusalLaws.{cond-false, cond-true}
+use Rattle.log_core.proofs.RefusalLaws.{take-checked}
 
 module _ (l : Log) (e : Entry) where
   pub entry-refused : (refusalOf l e ≡ accepted → ⊥) → answered l (refusalOf l e) ≡ enter l e

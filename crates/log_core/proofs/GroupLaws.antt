@@ -1,6 +1,6 @@
 -- The set of running transactions, built from the last row to the first; the log after a commit.
 use Prim.Native.Nat.{ℕ, min, suc, _%_, _*_, _+_, _-_, _<_, _^_, _≤_}
-use mathlib.Core.Bool.{Bool, cond, false, true}
+use mathlib.Core.Bool.{cond, false, true}
 use mathlib.Core.List.{List, [], _∷_}
 use mathlib.Core.Path.{_≡_, ap, ap₂, refl, sym, _∙_}
 use native.Mathlib.Nat.{lt-of-lt-of-le, pow-suc}
@@ -9,11 +9,13 @@ use lib.ListN.{drop, drop-of-length-le, getD, length, length-drop, set}
 use lib.Pow.{pow-mono}
 use lib.Seq.{drop-cons}
 use Rattle.log_entry.specs.Bits.{has}
+use Rattle.log_votes.proofs.CommitSetLaws.{digit-small}
 use Rattle.log_core.specs.declared.Log.{Log}
-use Rattle.log_core.specs.declared.Row.{Row}
+use Rattle.log_votes.specs.declared.Row.{Row}
 use Rattle.log_core.specs.Group.{committing, nextGroup, remembered, runningSet}
-use Rattle.log_core.specs.Log.{inGroup, noRow, withGroup, withRow}
-use Rattle.log_core.specs.Outcome.{running}
+use Rattle.log_votes.specs.Row.{inGroup, noRow}
+use Rattle.log_core.specs.Log.{withGroup, withRow}
+use Rattle.log_votes.specs.Outcome.{running}
 
 pub running-none : (rows : List Row) (t : ℕ) → length rows ≤ t → 0 ≡ runningSet (drop t rows)
 unfolding runningSet
@@ -26,10 +28,6 @@ running-step rows t h k =
     let r = getD rows (t - 1) noRow in
     let next : suc (t - 1) ≡ t = omega arith in
     sym (ap runningSet (drop-cons rows (t - 1) noRow (omega arith) ∙ ap (λ (k : ℕ). r ∷ drop k rows) next))
-
-pub digit-small : (b : Bool) → cond b 1 0 ≤ 1
-digit-small true = omega arith
-digit-small false = omega arith
 
 running-lt : (rows : List Row) → runningSet rows < 2 ^ length rows
 unfolding runningSet

@@ -1,12 +1,9 @@
 pub mod Absent
-pub mod Good
-pub mod ScanLaws
-pub mod CommitSetLaws
 pub mod EmptyLaws
 pub mod EnterLaws
-pub mod RefusalLaws
 pub mod GroupLaws
-pub mod ReplayLength
+pub mod Lengths
+pub mod RefusalLaws
 pub mod ReplayLaws
-pub mod InList
+pub mod ReplayLength
 pub mod ReplayedRows

@@ -1,26 +1,17 @@
 -- The answer to an entry, by the tests that lead to it.
 use Prim.Native.Nat.{ℕ}
-use mathlib.Core.Bool.{Bool, cond, false, false≢true, true, true≢false, _||_}
+use mathlib.Core.Bool.{Bool, false, true, _||_}
 use mathlib.Core.Path.{_≡_, ap, refl, sym, _∙_}
 use native.Mathlib.Omega.{arith}
-use borrow.Author.Tests.{eq-eqb, ne-eqb}
-use lib.ListN.{getD}
 use Rattle.log_entry.specs.declared.Entry.{Entry}
-use Rattle.log_entry.specs.Entry.{illFormed, outside}
-use Rattle.log_entry.specs.Refusal.{accepted, firstRefusal, holdsOrHeld, illFormedVote, keptAlready, notHolder, otherList, outsideLimits}
+use Rattle.log_entry.specs.Entry.{outside}
+use Rattle.log_entry.specs.Refusal.{accepted, firstRefusal, holdsOrHeld, outsideLimits}
+use Rattle.log_votes.specs.Refusal.{voteChecks, voteRefusal}
+use Rattle.log_votes.proofs.RefusalLaws.{cond-false, cond-true, vote-outside}
 use Rattle.log_core.specs.declared.Log.{Log}
-use Rattle.log_core.specs.declared.Row.{Row}
 use Rattle.log_core.specs.Enter.{refusalOf}
-use Rattle.log_core.specs.Log.{heldBefore, holderOf, noVote, rowOf}
-use Rattle.log_core.specs.Refusal.{anyClash, holdsAny, takeChecks, voteChecks, voteRefusal}
-
-pub cond-true : {A : Type 0} (b : Bool) (x y : A) → b ≡ true → cond b x y ≡ x
-cond-true true x y h = refl
-cond-true false x y h = absurd (false≢true h)
-
-pub cond-false : {A : Type 0} (b : Bool) (x y : A) → b ≡ false → cond b x y ≡ y
-cond-false true x y h = absurd (true≢false h)
-cond-false false x y h = refl
+use Rattle.log_core.specs.Log.{heldBefore, holderOf, rowOf}
+use Rattle.log_core.specs.Refusal.{holdsAny, takeChecks}
 
 -- a take's answer
 pub take-checked : (l : Log) (e : Entry) → e .take ≡ true → refusalOf l e ≡ firstRefusal (takeChecks l e)
@@ -41,35 +32,6 @@ module _ (l : Log) (e : Entry) (take : e .take ≡ true) where
     pub take-accepted : (holdsAny (l .holders) (e .process) || heldBefore l (e .process) (e .store)) ≡ false → accepted ≡ refusalOf l e
     unfolding firstRefusal
     take-accepted h = rw (take-checked l e take, inside, h)
-
-module _ (r : Row) (holder : ℕ) (e : Entry) where
-  pub vote-outside : outside e ≡ true → outsideLimits ≡ voteRefusal r holder e
-  unfolding voteRefusal firstRefusal
-  vote-outside h = rw h
-
-  module _ (inside : outside e ≡ false) where
-    pub vote-ill-formed : illFormed e ≡ true → illFormedVote ≡ voteRefusal r holder e
-    unfolding voteRefusal firstRefusal
-    vote-ill-formed h = rw (inside, h)
-
-    module _ (formed : illFormed e ≡ false) where
-      pub vote-not-holder : (holder ≡ e .process → ⊥) → notHolder ≡ voteRefusal r holder e
-      unfolding voteRefusal firstRefusal
-      vote-not-holder h = rw (inside, formed, ne-eqb holder (e .process) h)
-
-      module _ (holds : holder ≡ e .process) where
-        pub vote-other-list : anyClash e (r .votes) ≡ true → otherList ≡ voteRefusal r holder e
-        unfolding voteRefusal firstRefusal
-        vote-other-list h = rw (inside, formed, eq-eqb holder (e .process) holds, h)
-
-        module _ (agrees : anyClash e (r .votes) ≡ false) where
-          pub vote-kept-already : getD (r .votes) (e .store) noVote .kept ≡ true → keptAlready ≡ voteRefusal r holder e
-          unfolding voteRefusal firstRefusal
-          vote-kept-already h = rw (inside, formed, eq-eqb holder (e .process) holds, agrees, h)
-
-          pub vote-accepted : getD (r .votes) (e .store) noVote .kept ≡ false → accepted ≡ voteRefusal r holder e
-          unfolding voteRefusal firstRefusal
-          vote-accepted h = rw (inside, formed, eq-eqb holder (e .process) holds, agrees, h)
 
 -- a vote's answer goes by its transaction's row and the holder of `by`
 pub vote-checked : (l : Log) (e : Entry) → e .take ≡ false → refusalOf l e ≡ voteRefusal (rowOf l (e .tx)) (holderOf l (e .by)) e

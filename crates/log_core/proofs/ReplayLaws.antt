@@ -12,9 +12,9 @@ use Rattle.log_entry.specs.Limits.{transactions}
 use Rattle.log_core.specs.declared.Log.{Log}
 use Rattle.log_core.specs.declared.Replay.{Replay}
 use Rattle.log_core.specs.declared.Replayed.{Replayed}
-use Rattle.log_core.specs.declared.Row.{Row}
-use Rattle.log_core.specs.Log.{noRow}
-use Rattle.log_core.specs.Replay.{groupReplay, noReplayed, replayFrom, replayOf, replayRows, replays, voteOfStore}
+use Rattle.log_votes.specs.declared.Row.{Row}
+use Rattle.log_votes.specs.Row.{noRow, replays, voteOfStore}
+use Rattle.log_core.specs.Replay.{groupReplay, noReplayed, replayFrom, replayOf, replayRows}
 
 -- a row of another group is not replayed
 pub other-group : (store g : ℕ) (r : Row) → (r .group ≡ g → ⊥) → replays store g r ≡ false

@@ -8,9 +8,10 @@ use lib.Dec.{eqb}
 use lib.ListN.{length, length-append}
 use borrow.Author.Tests.{eqb-true, ne-eqb}
 use Rattle.log_core.specs.declared.Log.{Log}
-use Rattle.log_core.specs.declared.Row.{Row}
-use Rattle.log_core.specs.Outcome.{isCommit}
-use Rattle.log_core.specs.Replay.{groupReplay, replayFrom, replayRows, replays, voteOfStore}
+use Rattle.log_votes.specs.declared.Row.{Row}
+use Rattle.log_votes.specs.Outcome.{isCommit}
+use Rattle.log_core.specs.Replay.{groupReplay, replayFrom, replayRows}
+use Rattle.log_votes.specs.Row.{replays, voteOfStore}
 
 -- how many rows of the group a replay has
 count : ℕ → ℕ → List Row → ℕ

@@ -7,10 +7,11 @@ use Rattle.log_entry.specs.declared.Entry.{Entry}
 use Rattle.log_entry.specs.Refusal.{accepted, firstRefusal}
 use Rattle.log_core.specs.declared.Entered.{Entered}
 use Rattle.log_core.specs.declared.Log.{Log}
-use Rattle.log_core.specs.declared.Row.{Row}
+use Rattle.log_votes.specs.declared.Row.{Row}
 use Rattle.log_core.specs.Group.{committing}
-use Rattle.log_core.specs.Log.{keeping, rowOf, withHolder, withRow}
-use Rattle.log_core.specs.Outcome.{isCommitted, outcomeOfVotes}
+use Rattle.log_votes.specs.Row.{keeping}
+use Rattle.log_core.specs.Log.{rowOf, withHolder, withRow}
+use Rattle.log_votes.specs.Outcome.{isCommitted, outcomeOfVotes}
 use Rattle.log_core.specs.Refusal.{checks}
 
 -- "An accepted vote is kept for good", and if the outcome is commit with it, the transaction gets its group.

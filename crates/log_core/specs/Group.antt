@@ -8,9 +8,10 @@ use lib.ListN.{getD}
 use Rattle.log_entry.specs.Bits.{has}
 use Rattle.log_entry.specs.Limits.{transactions}
 use Rattle.log_core.specs.declared.Log.{Log}
-use Rattle.log_core.specs.declared.Row.{Row}
-use Rattle.log_core.specs.Log.{inGroup, withGroup, withRow}
-use Rattle.log_core.specs.Outcome.{running}
+use Rattle.log_votes.specs.declared.Row.{Row}
+use Rattle.log_votes.specs.Row.{inGroup}
+use Rattle.log_core.specs.Log.{withGroup, withRow}
+use Rattle.log_votes.specs.Outcome.{running}
 
 -- the set of the transactions that run, the first row being transaction 0
 unfoldable pub runningSet : List Row → ℕ

@@ -1,8 +1,5 @@
 pub mod Enter
 pub mod Group
-pub mod Involvement
 pub mod Log
-pub mod Outcome
 pub mod Refusal
 pub mod Replay
-pub mod Scan

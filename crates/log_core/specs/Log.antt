@@ -1,27 +1,22 @@
 -- The log's value: what stands where, the empty log, and the log with one part changed.
 use Prim.Native.Nat.{ℕ, _-_}
-use mathlib.Core.Bool.{Bool, true, false}
-use mathlib.Core.List.{List, []}
+use mathlib.Core.Bool.{Bool}
 use lib.ListN.{getD, replicate, set}
-use Rattle.log_entry.specs.declared.Entry.{Entry}
 use Rattle.log_entry.specs.Bits.{has, with}
 use Rattle.log_entry.specs.Limits.{stores, transactions}
+use Rattle.log_votes.specs.declared.Involvement.{Involvement}
+use Rattle.log_votes.specs.declared.Outcome.{Outcome}
+use Rattle.log_votes.specs.declared.Row.{Row}
+use Rattle.log_votes.specs.declared.Vote.{Vote}
+use Rattle.log_votes.specs.Involvement.{involvementOfVotes}
+use Rattle.log_votes.specs.Outcome.{outcomeOfVotes}
+use Rattle.log_votes.specs.Row.{emptyRow, noRow, noVote}
 use Rattle.log_core.specs.declared.Log.{Log}
-use Rattle.log_core.specs.declared.Row.{Row}
-use Rattle.log_core.specs.declared.Vote.{Vote}
-
--- the place of a vote that is not kept
-abbrev pub noVote : Vote
-noVote = record { kept = false; commit = false; participants = 0; process = 0; by = 0; update = 0 }
-
--- the row of no transaction
-abbrev pub noRow : Row
-noRow = record { votes = []; group = 0 }
 
 -- the log before any entry
 unfoldable pub emptyLog : Log
 emptyLog = record {
-  rows = replicate transactions (record { votes = replicate stores noVote; group = 0 });
+  rows = replicate transactions emptyRow;
   holders = replicate stores 0;
   past = replicate stores 0;
   groups = 0;
@@ -47,17 +42,13 @@ holderOf l store = getD (l .holders) store 0
 abbrev pub heldBefore : Log → ℕ → ℕ → Bool
 heldBefore l process store = has (getD (l .past) store 0) process
 
--- what is kept of a vote: all it said
-abbrev pub voteOfEntry : Entry → Vote
-voteOfEntry e =
-    record { kept = true; commit = e .commit; participants = e .participants; process = e .process; by = e .by; update = e .update }
+-- a transaction's outcome
+abbrev pub outcomeOf : Log → ℕ → Outcome
+outcomeOf l tx = outcomeOfVotes (rowOf l tx .votes)
 
--- the row with the vote kept
-abbrev pub keeping : Row → Entry → Row
-keeping r e = record { votes = set (r .votes) (e .store) (voteOfEntry e); group = r .group }
-
-abbrev pub inGroup : Row → ℕ → Row
-inGroup r g = record { votes = r .votes; group = g }
+-- whether the store is involved in the transaction
+abbrev pub involvementOf : Log → ℕ → ℕ → Involvement
+involvementOf l tx store = involvementOfVotes store (rowOf l tx .votes)
 
 abbrev pub withRow : Log → ℕ → Row → Log
 withRow l tx r =

@@ -1,30 +1,19 @@
 -- "Replay of a store: by group, then tx, the (tx, update) of each committed tx with a kept commit vote of that store. Update 0 is replayed
 -- too." A transaction has a group exactly if it is committed (`group-iff-committed` of log_laws).
 use Prim.Native.Nat.{ℕ, suc}
-use mathlib.Core.Bool.{Bool, _&&_, cond}
+use mathlib.Core.Bool.{cond}
 use mathlib.Core.List.{List, [], _∷_, _++_}
-use lib.Dec.{eqb}
-use lib.ListN.{getD, length, replicate}
+use lib.ListN.{length, replicate}
 use lib.Seq.{sets}
 use Rattle.log_entry.specs.Limits.{transactions}
 use Rattle.log_core.specs.declared.Log.{Log}
 use Rattle.log_core.specs.declared.Replay.{Replay}
 use Rattle.log_core.specs.declared.Replayed.{Replayed}
-use Rattle.log_core.specs.declared.Row.{Row}
-use Rattle.log_core.specs.declared.Vote.{Vote}
-use Rattle.log_core.specs.Log.{noVote}
-use Rattle.log_core.specs.Outcome.{isCommit}
+use Rattle.log_votes.specs.declared.Row.{Row}
+use Rattle.log_votes.specs.Row.{replays, voteOfStore}
 
 abbrev pub noReplayed : Replayed
 noReplayed = record { group = 0; tx = 0; update = 0 }
-
--- the store's vote in the row
-abbrev pub voteOfStore : ℕ → Row → Vote
-voteOfStore store r = getD (r .votes) store noVote
-
--- the row is of the group, and a commit vote of the store is kept in it
-abbrev pub replays : ℕ → ℕ → Row → Bool
-replays store g r = eqb (r .group) g && isCommit store (voteOfStore store r)
 
 -- the group's part of the replay, the first row being transaction tx
 unfoldable pub groupReplay : ℕ → ℕ → ℕ → List Row → List Replayed

@@ -7,11 +7,11 @@ ghost use Rattle.log_entry.specs.Limits.{transactions};
 ghost use Rattle.log_core.specs.Enter.{enter, voted};
 use crate::Entered;
 use crate::Log;
-use crate::Row;
-use crate::Vote;
 use log_entry::Entry;
 use log_entry::refusal::ACCEPTED;
 use log_entry::refusal::OUTSIDE_LIMITS;
+use log_votes::Row;
+use log_votes::Vote;
 
 impl Log {
     // The process takes the store.

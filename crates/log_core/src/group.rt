@@ -7,10 +7,10 @@ ghost use lib.ListN.{getD};
 ghost use Rattle.log_entry.specs.Limits.{transactions};
 ghost use Rattle.log_core.specs.Group.{committing, nextGroup, remembered, runningSet};
 use crate::Log;
-use crate::Row;
 use log_entry::limits::TRANSACTION_PLACES;
 use log_entry::limits::TRANSACTIONS;
 use log_entry::sets;
+use log_votes::Row;
 
 fn digit(b: bool) -> u32
     ensures { λ r. ⌜ r ≡ cond b 1 0 ⌝ }

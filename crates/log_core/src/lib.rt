@@ -1,34 +1,15 @@
 // The commit log, document 01's plain log: it keeps the stores' votes, and decides.
 ghost use mathlib.Core.Path.{_≡_};
-ghost use lib.ListN.{replicate};
-ghost use Rattle.log_entry.specs.Limits.{stores};
-ghost use Rattle.log_core.specs.Log.{emptyLog, noVote};
+ghost use Rattle.log_core.specs.Log.{emptyLog};
 use log_entry::limits::STORE_PLACES;
 use log_entry::limits::TRANSACTION_PLACES;
+use log_votes::Row;
 
 pub mod enter;
 pub mod group;
-mod outcomes;
 pub mod query;
 pub mod refusal;
 pub mod replays;
-mod votes;
-
-// A store's vote on a transaction, all that it said.
-pub struct Vote {
-    pub kept: bool,
-    pub commit: bool,
-    pub participants: u8,
-    pub process: u8,
-    pub by: u8,
-    pub update: u32,
-}
-
-// A transaction: its votes by store, and its group, 0 if none.
-pub struct Row {
-    pub votes: [Vote; STORE_PLACES],
-    pub group: u8,
-}
 
 pub struct Log {
     // By transaction.
@@ -49,18 +30,6 @@ pub struct Entered {
     pub answer: u8,
 }
 
-pub enum Outcome {
-    Open,
-    Commit,
-    Abort,
-}
-
-pub enum Involvement {
-    No,
-    Yes,
-    Unknown,
-}
-
 // A row of a replay.
 pub struct Replayed {
     pub group: u8,
@@ -72,26 +41,6 @@ pub struct Replayed {
 pub struct Replay {
     pub count: u8,
     pub rows: [Replayed; TRANSACTION_PLACES],
-}
-
-impl Row {
-    // The row without votes.
-    pub fn none() -> Row
-        ensures { λ r. ⌜ r ≡ record { votes = replicate stores noVote; group = 0 } ⌝ }
-    {
-        let vote = Vote {
-            kept: false,
-            commit: false,
-            participants: 0,
-            process: 0,
-            by: 0,
-            update: 0,
-        };
-        Row {
-            votes: [vote; STORE_PLACES],
-            group: 0,
-        }
-    }
 }
 
 impl Log {

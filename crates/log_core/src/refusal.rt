@@ -4,54 +4,12 @@ ghost use mathlib.Core.Bool.{_||_};
 ghost use Rattle.log_entry.specs.Bits.{has};
 ghost use Rattle.log_entry.specs.Entry.{takeEntry};
 ghost use Rattle.log_core.specs.Enter.{refusalOf};
-ghost use Rattle.log_core.specs.Refusal.{anyClash, holdsAny, voteRefusal};
+ghost use Rattle.log_core.specs.Refusal.{holdsAny};
 use crate::Log;
-use crate::Row;
 use log_entry::Entry;
 use log_entry::limits::STORE_PLACES;
 use log_entry::refusal;
 use log_entry::sets;
-
-impl Row {
-    // Whether the vote clashes with the list of a kept commit vote.
-    pub fn any_clash(self, e: Entry) -> bool
-        ensures { λ r. ⌜ r ≡ anyClash e (self .votes) ⌝ }
-    {
-        let mut i: usize = 0;
-        while i < STORE_PLACES {
-            let v = self.votes[i];
-            if v.clashes(e) {
-                return true;
-            }
-            i += 1;
-        }
-        false
-    }
-
-    // The answer to a vote on the transaction, where `holder` holds the store in `by`.
-    pub fn vote_refusal(self, holder: u8, e: Entry) -> u8
-        ensures { λ r. ⌜ r ≡ voteRefusal self holder e ⌝ }
-    {
-        if e.outside() {
-            return refusal::OUTSIDE_LIMITS;
-        }
-        if e.ill_formed() {
-            return refusal::ILL_FORMED_VOTE;
-        }
-        if holder != e.process {
-            return refusal::NOT_HOLDER;
-        }
-        if self.any_clash(e) {
-            return refusal::OTHER_LIST;
-        }
-        let store = e.store as usize;
-        let v = self.votes[store];
-        if v.kept {
-            return refusal::KEPT_ALREADY;
-        }
-        refusal::ACCEPTED
-    }
-}
 
 // Whether the process holds some store, or held the one that the processes `past` took.
 pub fn holds_or_held(holders: [u8; STORE_PLACES], past: u16, process: u8) -> bool

@@ -1,40 +1,11 @@
 // The replay of a store.
 ghost use mathlib.Core.Path.{_≡_};
-ghost use Rattle.log_core.specs.Replay.{replayOf, replays, voteOfStore};
+ghost use Rattle.log_core.specs.Replay.{replayOf};
 use crate::Log;
 use crate::Replay;
 use crate::Replayed;
-use crate::Row;
-use log_entry::limits::STORES;
 use log_entry::limits::TRANSACTION_PLACES;
 use log_entry::limits::TRANSACTIONS;
-
-impl Row {
-    // Whether the transaction is of the group, with a kept commit vote of the store.
-    pub fn replays(self, store: u8, g: u8) -> bool
-        ensures { λ r. ⌜ r ≡ replays store g self ⌝ }
-    {
-        if self.group != g {
-            return false;
-        }
-        if STORES <= store {
-            return false;
-        }
-        let v = self.votes[store as usize];
-        v.is_commit()
-    }
-
-    // The update of the store's vote, 0 if there is none.
-    pub fn update_of(self, store: u8) -> u32
-        ensures { λ r. ⌜ r ≡ voteOfStore store self .update ⌝ }
-    {
-        if STORES <= store {
-            return 0;
-        }
-        let v = self.votes[store as usize];
-        v.update
-    }
-}
 
 impl Log {
     pub fn replay(self, store: u8) -> Replay

@@ -12,10 +12,12 @@ use Rattle.log_entry.specs.Entry.{illFormed, noProcess, outside}
 use Rattle.log_entry.specs.Limits.{lists, processes, stores, transactions, updates}
 use Rattle.log_entry.specs.Refusal.{accepted, firstRefusal}
 use Rattle.log_core.specs.declared.Log.{Log}
-use Rattle.log_core.specs.declared.Row.{Row}
+use Rattle.log_votes.specs.declared.Row.{Row}
 use Rattle.log_core.specs.Enter.{refusalOf}
-use Rattle.log_core.specs.Log.{heldBefore, holderOf, noVote, rowOf}
-use Rattle.log_core.specs.Refusal.{anyClash, holdsAny, takeChecks, voteChecks}
+use Rattle.log_core.specs.Log.{heldBefore, holderOf, rowOf}
+use Rattle.log_votes.specs.Row.{noVote}
+use Rattle.log_votes.specs.Refusal.{anyClash, voteChecks}
+use Rattle.log_core.specs.Refusal.{holdsAny, takeChecks}
 use Rattle.log_laws.specs.Answers.{None}
 use Rattle.log_laws.proofs.Answers.{conditions, none-applies}
 use Rattle.log_laws.proofs.Tests.{and-false, neither-left, neither-right}

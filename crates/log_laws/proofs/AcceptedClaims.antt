@@ -13,10 +13,11 @@ use Rattle.log_core.proofs.EnterLaws.{take-entered}
 use Rattle.log_core.proofs.RefusalLaws.{accepted-inside}
 use Rattle.log_core.specs.declared.Entered.{Entered}
 use Rattle.log_core.specs.declared.Log.{Log}
-use Rattle.log_core.specs.declared.Row.{Row}
-use Rattle.log_core.specs.declared.Vote.{Vote}
+use Rattle.log_votes.specs.declared.Row.{Row}
+use Rattle.log_votes.specs.declared.Vote.{Vote}
 use Rattle.log_core.specs.Enter.{enter, refusalOf}
-use Rattle.log_core.specs.Log.{holderOf, inGroup, keeping, noRow, noVote, rowOf, voteAt, voteOfEntry}
+use Rattle.log_core.specs.Log.{holderOf, rowOf, voteAt}
+use Rattle.log_votes.specs.Row.{inGroup, keeping, noRow, noVote, voteOfEntry}
 use Rattle.log_laws.specs.Holders.{AcceptedTakeHolds}
 use Rattle.log_laws.specs.Reached.{reached}
 use Rattle.log_laws.specs.Votes.{AcceptedVoteIsKept}

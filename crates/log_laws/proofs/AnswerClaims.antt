@@ -13,7 +13,8 @@ use Rattle.log_core.specs.declared.Entered.{Entered}
 use Rattle.log_core.specs.declared.Log.{Log}
 use Rattle.log_core.specs.Enter.{enter, refusalOf}
 use Rattle.log_core.specs.Log.{holderOf, rowOf}
-use Rattle.log_core.specs.Refusal.{takeChecks, voteChecks}
+use Rattle.log_core.specs.Refusal.{takeChecks}
+use Rattle.log_votes.specs.Refusal.{voteChecks}
 use Rattle.log_laws.specs.Answers.{First, None, RefusedEntryChangesNothing, TakeAnswerExactly, VoteAnswerExactly, clash, held, holdsNot, kept}
 use Rattle.log_laws.proofs.Accepted.{take-refusal, vote-refusal}
 use Rattle.log_laws.proofs.Answers.{conditions, fresh, given-exactly, no-refusal, none-applies}

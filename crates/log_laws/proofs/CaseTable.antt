@@ -4,10 +4,10 @@ use Rattle.log_entry.specs.Entry.{illFormed, outside}
 use Rattle.log_entry.specs.Refusal.{firstRefusal}
 use Rattle.log_core.specs.Enter.{afterEntry, enter, feed, refusalOf, voted}
 use Rattle.log_core.specs.Group.{committing, remembered, runningSet}
-use Rattle.log_core.specs.Involvement.{involvementOfVotes}
+use Rattle.log_votes.specs.Involvement.{involvementOfVotes}
 use Rattle.log_core.specs.Log.{emptyLog}
-use Rattle.log_core.specs.Outcome.{outcomeOfVotes, running}
-use Rattle.log_core.specs.Scan.{allFrom, anyFrom}
+use Rattle.log_votes.specs.Outcome.{outcomeOfVotes, running}
+use Rattle.log_votes.specs.Scan.{allFrom, anyFrom}
 use Rattle.log_laws.specs.Cases.{CasesHold, answersTo, cases}
 
 pub table-holds : CasesHold

@@ -4,8 +4,9 @@ use mathlib.Core.Path.{_≡_, ap}
 use mathlib.Core.Bool.{true, not}
 use borrow.Author.Tests.{not-true}
 use Rattle.log_core.specs.declared.Log.{Log}
-use Rattle.log_core.specs.Log.{noVote, rowOf, voteAt}
-use Rattle.log_core.specs.Outcome.{isAbort, isCommitted, outcomeOf}
+use Rattle.log_votes.specs.Row.{noVote}
+use Rattle.log_core.specs.Log.{rowOf, voteAt, outcomeOf}
+use Rattle.log_votes.specs.Outcome.{isAbort, isCommitted}
 use Rattle.log_laws.specs.Reached.{reached}
 use Rattle.log_laws.specs.Votes.{AllCommit, OutcomeCommitIff}
 use Rattle.log_laws.proofs.Feed.{wf-reached}

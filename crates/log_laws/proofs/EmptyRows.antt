@@ -5,10 +5,10 @@ use mathlib.Core.Bool.{false}
 use mathlib.Core.Logic.{⊎-elim}
 use lib.ListN.{getD, getD-replicate, length-replicate, List·getD-eq-default, replicate}
 use Rattle.log_entry.specs.Limits.{stores, transactions}
-use Rattle.log_core.specs.declared.Row.{Row}
-use Rattle.log_core.specs.declared.Vote.{Vote}
-use Rattle.log_core.specs.Log.{emptyLog, noRow, noVote, rowOf}
-use Rattle.log_core.specs.Replay.{voteOfStore}
+use Rattle.log_votes.specs.declared.Row.{Row}
+use Rattle.log_votes.specs.declared.Vote.{Vote}
+use Rattle.log_core.specs.Log.{emptyLog, rowOf}
+use Rattle.log_votes.specs.Row.{noRow, noVote, voteOfStore}
 use Rattle.log_laws.proofs.Tests.{below-or-not}
 
 abbrev pub blank : Row

@@ -10,11 +10,12 @@ use Rattle.log_entry.specs.declared.Entry.{Entry}
 use Rattle.log_entry.specs.Bits.{has}
 use Rattle.log_entry.specs.Refusal.{accepted}
 use Rattle.log_core.specs.declared.Log.{Log}
-use Rattle.log_core.specs.declared.Row.{Row}
+use Rattle.log_votes.specs.declared.Row.{Row}
 use Rattle.log_core.specs.Enter.{enter, feed, refusalOf}
 use Rattle.log_core.specs.Group.{nextGroup, remembered}
-use Rattle.log_core.specs.Log.{emptyLog, holderOf, inGroup, keeping, rowOf}
-use Rattle.log_core.specs.Outcome.{isCommitted, outcomeOf, outcomeOfVotes, running}
+use Rattle.log_core.specs.Log.{emptyLog, holderOf, rowOf, outcomeOf}
+use Rattle.log_votes.specs.Row.{inGroup, keeping}
+use Rattle.log_votes.specs.Outcome.{isCommitted, outcomeOfVotes, running}
 use Rattle.log_laws.specs.Groups.{Begins, BegunByCommit, FirstCommitBegins, GroupAtCommit, GroupIffCommitted, GroupNeverChanges, Grouped, GroupsWithoutGaps, JoinsIfRunningWhenBegun}
 use Rattle.log_laws.specs.Reached.{reached}
 use Rattle.log_laws.proofs.Accepted.{VoteOk, vote-ok}

@@ -12,10 +12,11 @@ use borrow.Author.Tests.{eqb-false, ne-eqb}
 use Rattle.log_entry.specs.declared.Entry.{Entry}
 use Rattle.log_entry.specs.Limits.{transactions}
 use Rattle.log_core.specs.declared.Log.{Log}
-use Rattle.log_core.specs.declared.Row.{Row}
+use Rattle.log_votes.specs.declared.Row.{Row}
 use Rattle.log_core.specs.Enter.{enter, voted}
 use Rattle.log_core.specs.Group.{committing, nextGroup, remembered, runningSet}
-use Rattle.log_core.specs.Log.{emptyLog, groupOf, holderOf, inGroup, keeping, noRow, rowOf}
+use Rattle.log_core.specs.Log.{emptyLog, groupOf, holderOf, rowOf}
+use Rattle.log_votes.specs.Row.{inGroup, keeping, noRow}
 use Rattle.log_laws.proofs.Accepted.{VoteOk, tx-in}
 use Rattle.log_laws.proofs.EmptyRows.{empty-rows}
 use Rattle.log_laws.proofs.Grouping.{Grouping, group-room, grouping-set}

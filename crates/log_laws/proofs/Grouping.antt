@@ -8,8 +8,8 @@ use native.Mathlib.Omega.{arith}
 use lib.Dec.{eqb}
 use lib.ListN.{getD, length, length-set, set}
 use borrow.Author.Tests.{eq-eqb, ne-eqb}
-use Rattle.log_core.specs.declared.Row.{Row}
-use Rattle.log_core.specs.Log.{noRow}
+use Rattle.log_votes.specs.declared.Row.{Row}
+use Rattle.log_votes.specs.Row.{noRow}
 use Rattle.log_laws.proofs.Places.{set-cases}
 use Rattle.log_laws.proofs.Tests.{below-or-not}
 

@@ -12,7 +12,8 @@ use Rattle.log_entry.specs.Bits.{has, with}
 use Rattle.log_entry.specs.Limits.{stores}
 use Rattle.log_core.specs.declared.Log.{Log}
 use Rattle.log_core.specs.Enter.{enter}
-use Rattle.log_core.specs.Log.{emptyLog, heldBefore, holderOf, keeping, rowOf}
+use Rattle.log_core.specs.Log.{emptyLog, heldBefore, holderOf, rowOf}
+use Rattle.log_votes.specs.Row.{keeping}
 use Rattle.log_core.specs.Refusal.{holdsAny}
 use Rattle.log_laws.proofs.Accepted.{TakeOk, process-from-1, store-in}
 use Rattle.log_laws.proofs.EmptyRows.{replicate-cases}

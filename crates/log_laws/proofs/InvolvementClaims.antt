@@ -4,12 +4,13 @@ use mathlib.Core.Path.{_≡_, refl, ap}
 use mathlib.Core.Bool.{Bool, true, false, cond, true≢false, false≢true}
 use mathlib.Core.Logic.{_↔_}
 use Rattle.log_entry.specs.Bits.{has}
-use Rattle.log_core.specs.declared.Involvement.{Involvement}
-use Rattle.log_core.specs.declared.Involvement.the-variants.{No, Unknown, Yes}
+use Rattle.log_votes.specs.declared.Involvement.{Involvement}
+use Rattle.log_votes.specs.declared.Involvement.the-variants.{No, Unknown, Yes}
 use Rattle.log_core.specs.declared.Log.{Log}
-use Rattle.log_core.specs.Involvement.{anyCommit, anyListing, involvementOfVotes, isListing}
-use Rattle.log_core.specs.Log.{noVote, rowOf, voteAt}
-use Rattle.log_core.specs.Outcome.{isCommit}
+use Rattle.log_votes.specs.Involvement.{anyCommit, anyListing, involvementOfVotes, isListing}
+use Rattle.log_votes.specs.Row.{noVote}
+use Rattle.log_core.specs.Log.{rowOf, voteAt}
+use Rattle.log_votes.specs.Outcome.{isCommit}
 use Rattle.log_laws.specs.Involvement.{InvolvementExactly, SomeCommitKept, SomeVoteLists}
 use Rattle.log_laws.proofs.Outcomes.{kept-in}
 use Rattle.log_laws.proofs.Scans.{any-here, found}

@@ -7,11 +7,11 @@ use mathlib.Core.Logic.{⊎-elim}
 use lib.ListN.{getD, length, List·getD-eq-default}
 use borrow.Author.Tests.{not-false}
 use Rattle.log_entry.specs.Bits.{has}
-use Rattle.log_core.specs.declared.Outcome.{Outcome}
-use Rattle.log_core.specs.declared.Outcome.the-variants.{Open, Commit, Abort}
-use Rattle.log_core.specs.declared.Vote.{Vote}
-use Rattle.log_core.specs.Log.{noVote}
-use Rattle.log_core.specs.Outcome.{anyAbort, anyCovered, covered, isAbort, isCommit, isCommitted, outcomeOfVotes}
+use Rattle.log_votes.specs.declared.Outcome.{Outcome}
+use Rattle.log_votes.specs.declared.Outcome.the-variants.{Open, Commit, Abort}
+use Rattle.log_votes.specs.declared.Vote.{Vote}
+use Rattle.log_votes.specs.Row.{noVote}
+use Rattle.log_votes.specs.Outcome.{anyAbort, anyCovered, covered, isAbort, isCommit, isCommitted, outcomeOfVotes}
 use Rattle.log_laws.proofs.Scans.{all-here, any-here, each-here, found, none-here}
 use Rattle.log_laws.proofs.Tests.{and-false, and-left, and-right, below-or-not, both}
 

@@ -9,10 +9,11 @@ use lib.ListN.{length, List·getD-eq-default}
 use borrow.Author.Tests.{eq-eqb, eqb-true}
 use Rattle.log_core.specs.declared.Log.{Log}
 use Rattle.log_core.specs.declared.Replayed.{Replayed}
-use Rattle.log_core.specs.declared.Row.{Row}
-use Rattle.log_core.specs.Log.{groupOf, noRow, rowOf, voteAt}
-use Rattle.log_core.specs.Outcome.{isCommit, isCommitted, outcomeOf}
-use Rattle.log_core.specs.Replay.{groupReplay, noReplayed, replayRows, replays}
+use Rattle.log_votes.specs.declared.Row.{Row}
+use Rattle.log_core.specs.Log.{groupOf, rowOf, voteAt, outcomeOf}
+use Rattle.log_votes.specs.Row.{noRow, replays}
+use Rattle.log_votes.specs.Outcome.{isCommit, isCommitted}
+use Rattle.log_core.specs.Replay.{groupReplay, noReplayed, replayRows}
 use Rattle.log_laws.specs.Reached.{reached}
 use Rattle.log_laws.specs.Replays.{Before, ReplayListsExactly, ReplayListsOnce, ReplayOrdered, Replays, replayed}
 use Rattle.log_laws.proofs.Feed.{wf-reached}

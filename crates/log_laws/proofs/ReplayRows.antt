@@ -7,9 +7,9 @@ use mathlib.Core.Logic.{inl, inr, ⊎-elim}
 use native.Mathlib.Omega.{arith}
 use lib.ListN.{getD, length}
 use Rattle.log_core.specs.declared.Replayed.{Replayed}
-use Rattle.log_core.specs.declared.Row.{Row}
-use Rattle.log_core.specs.Log.{noRow}
-use Rattle.log_core.specs.Replay.{groupReplay, replayFrom, replays, voteOfStore}
+use Rattle.log_votes.specs.declared.Row.{Row}
+use Rattle.log_votes.specs.Row.{noRow, replays, voteOfStore}
+use Rattle.log_core.specs.Replay.{groupReplay, replayFrom}
 use Rattle.log_laws.specs.Replays.{Before}
 use Rattle.log_laws.proofs.Lists.{In, Sorted, in-either, in-left, in-right, sorted-append}
 use Rattle.log_laws.proofs.Tests.{by-test, opposed, same-number}

@@ -7,10 +7,9 @@ use lib.ListN.{length}
 use Rattle.log_entry.specs.declared.Entry.{Entry}
 use Rattle.log_entry.specs.Limits.{stores, transactions}
 use Rattle.log_core.specs.declared.Log.{Log}
-use Rattle.log_core.specs.declared.Outcome.the-variants.{Open}
+use Rattle.log_votes.specs.declared.Outcome.the-variants.{Open}
 use Rattle.log_core.specs.Enter.{feed}
-use Rattle.log_core.specs.Log.{rowOf}
-use Rattle.log_core.specs.Outcome.{outcomeOf}
+use Rattle.log_core.specs.Log.{rowOf, outcomeOf}
 use Rattle.log_laws.specs.Reached.{reached}
 use Rattle.log_laws.proofs.Feed
 use Rattle.log_laws.proofs.Stays

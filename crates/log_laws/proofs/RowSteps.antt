@@ -10,10 +10,11 @@ use Rattle.log_entry.specs.declared.Entry.{Entry}
 use Rattle.log_entry.specs.Bits.{has}
 use Rattle.log_entry.specs.Limits.{transactions}
 use Rattle.log_core.specs.declared.Log.{Log}
-use Rattle.log_core.specs.declared.Row.{Row}
+use Rattle.log_votes.specs.declared.Row.{Row}
 use Rattle.log_core.specs.Enter.{enter}
 use Rattle.log_core.specs.Group.{nextGroup, remembered}
-use Rattle.log_core.specs.Log.{emptyLog, holderOf, keeping, noRow, rowOf}
+use Rattle.log_core.specs.Log.{emptyLog, holderOf, rowOf}
+use Rattle.log_votes.specs.Row.{keeping, noRow}
 use Rattle.log_laws.proofs.Accepted.{VoteOk, tx-in}
 use Rattle.log_laws.proofs.EmptyRows.{blank, blank-kept, empty-rows}
 use Rattle.log_laws.proofs.Rows.{RowWf, committed, committed-refuses, row-empty, row-kept}

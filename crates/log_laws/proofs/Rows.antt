@@ -8,12 +8,11 @@ use borrow.Author.Tests.{eqb-true, not-false}
 use Rattle.log_entry.specs.declared.Entry.{Entry}
 use Rattle.log_entry.specs.Bits.{has}
 use Rattle.log_entry.specs.Limits.{stores}
-use Rattle.log_core.specs.declared.Row.{Row}
-use Rattle.log_core.specs.declared.Vote.{Vote}
-use Rattle.log_core.specs.Log.{inGroup, keeping, noVote, voteOfEntry}
-use Rattle.log_core.specs.Outcome.{isCommit, isCommitted, outcomeOfVotes}
-use Rattle.log_core.specs.Refusal.{clashes}
-use Rattle.log_core.specs.Replay.{voteOfStore}
+use Rattle.log_votes.specs.declared.Row.{Row}
+use Rattle.log_votes.specs.declared.Vote.{Vote}
+use Rattle.log_votes.specs.Row.{inGroup, keeping, noVote, voteOfEntry, voteOfStore}
+use Rattle.log_votes.specs.Outcome.{isCommit, isCommitted, outcomeOfVotes}
+use Rattle.log_votes.specs.Refusal.{clashes}
 use Rattle.log_laws.proofs.Accepted.{VoteOk, list-in, lists-store}
 use Rattle.log_laws.proofs.Outcomes.{commit-kept, committed-covered, committed-no-abort, covered-at, covering, kept-commit, kept-in}
 use Rattle.log_laws.proofs.Places.{set-either}

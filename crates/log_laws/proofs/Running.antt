@@ -9,11 +9,11 @@ use lib.ListN.{getD}
 use lib.Pow.{shr-shr}
 use borrow.Author.Tests.{eq-eqb, ne-eqb}
 use Rattle.log_entry.specs.Bits.{has}
-use Rattle.log_core.specs.declared.Row.{Row}
+use Rattle.log_votes.specs.declared.Row.{Row}
 use Rattle.log_core.specs.Group.{runningSet}
-use Rattle.log_core.specs.Log.{noRow}
-use Rattle.log_core.specs.Outcome.{running}
-use Rattle.log_core.specs.Scan.{anyFrom}
+use Rattle.log_votes.specs.Row.{noRow}
+use Rattle.log_votes.specs.Outcome.{running}
+use Rattle.log_votes.specs.Scan.{anyFrom}
 use Rattle.log_laws.proofs.Sets.{empty-has}
 
 -- a set by its lowest bit and the rest

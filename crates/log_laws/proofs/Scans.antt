@@ -5,7 +5,7 @@ use mathlib.Core.Bool.{Bool, true, false, _||_, false≢true}
 use mathlib.Core.List.{List, [], _∷_}
 use native.Mathlib.Omega.{arith}
 use lib.ListN.{getD, length}
-use Rattle.log_core.specs.Scan.{anyFrom, allFrom}
+use Rattle.log_votes.specs.Scan.{anyFrom, allFrom}
 use Rattle.log_laws.proofs.Tests.{and-left, and-right, both, is-false, opposed, or-left, or-right}
 
 module _ {A : Type 0} (f : ℕ → A → Bool) (d : A) where

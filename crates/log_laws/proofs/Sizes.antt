@@ -6,9 +6,10 @@ use lib.ListN.{getD-replicate, length, length-set, replicate}
 use Rattle.log_entry.specs.declared.Entry.{Entry}
 use Rattle.log_entry.specs.Limits.{stores, transactions}
 use Rattle.log_core.specs.declared.Log.{Log}
-use Rattle.log_core.specs.declared.Row.{Row}
+use Rattle.log_votes.specs.declared.Row.{Row}
 use Rattle.log_core.specs.Enter.{enter}
-use Rattle.log_core.specs.Log.{emptyLog, keeping, noRow, noVote, rowOf, voteOfEntry}
+use Rattle.log_core.specs.Log.{emptyLog, rowOf}
+use Rattle.log_votes.specs.Row.{keeping, noRow, noVote, voteOfEntry}
 use Rattle.log_laws.proofs.Rows.{committed}
 use Rattle.log_laws.proofs.Steps.{enter-cases, joins, row-cases, voted-holders, voted-past, voted-remembered, voted-rows}
 use Rattle.log_laws.proofs.Tests.{by-test}

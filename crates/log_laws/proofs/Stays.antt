@@ -6,14 +6,14 @@ use mathlib.Core.List.{List}
 use mathlib.Core.Logic.{_≢_}
 use Rattle.log_entry.specs.declared.Entry.{Entry}
 use Rattle.log_core.specs.declared.Log.{Log}
-use Rattle.log_core.specs.declared.Outcome.{Outcome}
-use Rattle.log_core.specs.declared.Outcome.the-variants.{Open, Commit, Abort}
-use Rattle.log_core.specs.declared.Row.{Row}
-use Rattle.log_core.specs.declared.Vote.{Vote}
+use Rattle.log_votes.specs.declared.Outcome.{Outcome}
+use Rattle.log_votes.specs.declared.Outcome.the-variants.{Open, Commit, Abort}
+use Rattle.log_votes.specs.declared.Row.{Row}
+use Rattle.log_votes.specs.declared.Vote.{Vote}
 use Rattle.log_core.specs.Enter.{enter, feed}
-use Rattle.log_core.specs.Log.{emptyLog, holderOf, rowOf, voteAt}
-use Rattle.log_core.specs.Outcome.{isAbort, isCommitted, outcomeOf, outcomeOfVotes}
-use Rattle.log_core.specs.Replay.{voteOfStore}
+use Rattle.log_core.specs.Log.{emptyLog, holderOf, rowOf, voteAt, outcomeOf}
+use Rattle.log_votes.specs.Outcome.{isAbort, isCommitted, outcomeOfVotes}
+use Rattle.log_votes.specs.Row.{voteOfStore}
 use Rattle.log_laws.specs.Reached.{reached}
 use Rattle.log_laws.specs.Votes.{CommitVotesNameOneList, CommittedKeepsNoVote, CommittedRowStays, KeptVoteStays, OutcomeNeverChanges}
 use Rattle.log_laws.proofs.Accepted.{vote-ok}

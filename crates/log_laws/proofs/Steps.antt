@@ -11,10 +11,11 @@ use Rattle.log_entry.specs.Bits.{has}
 use Rattle.log_entry.specs.Refusal.{accepted}
 use Rattle.log_core.specs.declared.Entered.{Entered}
 use Rattle.log_core.specs.declared.Log.{Log}
-use Rattle.log_core.specs.declared.Row.{Row}
+use Rattle.log_votes.specs.declared.Row.{Row}
 use Rattle.log_core.specs.Enter.{afterEntry, enter, refusalOf, voted}
 use Rattle.log_core.specs.Group.{committing, nextGroup, remembered, runningSet}
-use Rattle.log_core.specs.Log.{holderOf, inGroup, keeping, noRow, rowOf, withHolder}
+use Rattle.log_core.specs.Log.{holderOf, rowOf, withHolder}
+use Rattle.log_votes.specs.Row.{inGroup, keeping, noRow}
 use Rattle.log_laws.proofs.Accepted.{TakeOk, VoteOk, take-ok, vote-ok}
 use Rattle.log_laws.proofs.Places.{set-either}
 use Rattle.log_laws.proofs.Rows.{committed}

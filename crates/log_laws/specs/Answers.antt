@@ -10,7 +10,8 @@ use Rattle.log_entry.specs.Refusal.{accepted, holdsOrHeld, illFormedVote, keptA
 use Rattle.log_core.specs.declared.Log.{Log}
 use Rattle.log_core.specs.Enter.{enter}
 use Rattle.log_core.specs.Log.{heldBefore, holderOf, rowOf, voteAt}
-use Rattle.log_core.specs.Refusal.{anyClash, holdsAny}
+use Rattle.log_votes.specs.Refusal.{anyClash}
+use Rattle.log_core.specs.Refusal.{holdsAny}
 
 -- no condition holds
 abbrev pub None : List Bool → Type 0

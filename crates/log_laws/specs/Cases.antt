@@ -5,15 +5,13 @@ use mathlib.Core.Bool.{true, false}
 use mathlib.Core.List.{List, [], _∷_, map}
 use Rattle.log_entry.specs.declared.Entry.{Entry}
 use Rattle.log_entry.specs.Entry.{takeEntry, voteEntry}
-use Rattle.log_core.specs.declared.Involvement.{Involvement}
-use Rattle.log_core.specs.declared.Involvement.the-variants.{No, Yes, Unknown}
+use Rattle.log_votes.specs.declared.Involvement.{Involvement}
+use Rattle.log_votes.specs.declared.Involvement.the-variants.{No, Yes, Unknown}
 use Rattle.log_core.specs.declared.Log.{Log}
-use Rattle.log_core.specs.declared.Outcome.{Outcome}
-use Rattle.log_core.specs.declared.Outcome.the-variants.{Open, Commit, Abort}
+use Rattle.log_votes.specs.declared.Outcome.{Outcome}
+use Rattle.log_votes.specs.declared.Outcome.the-variants.{Open, Commit, Abort}
 use Rattle.log_core.specs.Enter.{enter, feed}
-use Rattle.log_core.specs.Involvement.{involvementOf}
-use Rattle.log_core.specs.Log.{groupOf}
-use Rattle.log_core.specs.Outcome.{outcomeOf}
+use Rattle.log_core.specs.Log.{involvementOf, groupOf, outcomeOf}
 use Rattle.log_laws.specs.Reached.{reached}
 
 -- a result: the outcome of a tx, its group, or the involvement of a store in it

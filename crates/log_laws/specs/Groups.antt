@@ -10,11 +10,11 @@ use Rattle.log_entry.specs.Bits.{has}
 use Rattle.log_entry.specs.Limits.{transactions}
 use Rattle.log_entry.specs.Refusal.{accepted}
 use Rattle.log_core.specs.declared.Log.{Log}
-use Rattle.log_core.specs.declared.Outcome.the-variants.{Commit}
+use Rattle.log_votes.specs.declared.Outcome.the-variants.{Commit}
 use Rattle.log_core.specs.Enter.{enter}
 use Rattle.log_core.specs.Group.{remembered}
-use Rattle.log_core.specs.Log.{groupOf, rowOf}
-use Rattle.log_core.specs.Outcome.{outcomeOf, running}
+use Rattle.log_core.specs.Log.{groupOf, rowOf, outcomeOf}
+use Rattle.log_votes.specs.Outcome.{running}
 use Rattle.log_laws.specs.Reached.{reached}
 
 -- a transaction has a group exactly if it is committed

@@ -2,9 +2,9 @@
 use Prim.Native.Nat.{ℕ}
 use mathlib.Core.Path.{_≡_}
 use mathlib.Core.Logic.{_↔_}
-use Rattle.log_core.specs.declared.Involvement.the-variants.{No, Unknown, Yes}
+use Rattle.log_votes.specs.declared.Involvement.the-variants.{No, Unknown, Yes}
 use Rattle.log_core.specs.declared.Log.{Log}
-use Rattle.log_core.specs.Involvement.{involvementOf}
+use Rattle.log_core.specs.Log.{involvementOf}
 use Rattle.log_laws.specs.Votes.{KeptCommit, Listed}
 
 -- the store is in the list of a kept vote of tx

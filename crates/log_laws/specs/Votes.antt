@@ -8,10 +8,10 @@ use Rattle.log_entry.specs.declared.Entry.{Entry}
 use Rattle.log_entry.specs.Bits.{has}
 use Rattle.log_entry.specs.Refusal.{accepted}
 use Rattle.log_core.specs.declared.Log.{Log}
-use Rattle.log_core.specs.declared.Outcome.the-variants.{Open, Commit}
+use Rattle.log_votes.specs.declared.Outcome.the-variants.{Open, Commit}
 use Rattle.log_core.specs.Enter.{enter}
-use Rattle.log_core.specs.Log.{rowOf, voteAt, voteOfEntry}
-use Rattle.log_core.specs.Outcome.{outcomeOf}
+use Rattle.log_core.specs.Log.{rowOf, voteAt, outcomeOf}
+use Rattle.log_votes.specs.Row.{voteOfEntry}
 use Rattle.log_laws.specs.Reached.{reached}
 
 -- a vote of store s on tx is kept

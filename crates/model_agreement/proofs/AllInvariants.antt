@@ -7,7 +7,7 @@ use native.Mathlib.Omega.{arith}
 use lib.ListN.{getD, length, length-replicate, replicate}
 use lib.Pow.{pow-pos}
 use Rattle.log_entry.specs.declared.Entry.{Entry}
-use Rattle.log_core.specs.declared.Outcome.the-variants as outcome
+use Rattle.log_votes.specs.declared.Outcome.the-variants as outcome
 use Rattle.log_core.specs.Enter.{feed}
 use Rattle.log_core.specs.Log.{emptyLog}
 use Rattle.model_steps.specs.declared.Step.{Step}

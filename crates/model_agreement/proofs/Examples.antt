@@ -5,9 +5,8 @@ use mathlib.Core.Bool.{true}
 use mathlib.Core.List.{List, [], _∷_}
 use lib.ListN.{getD, length}
 use Rattle.log_entry.specs.Entry.{takeEntry, voteEntry}
-use Rattle.log_core.specs.declared.Outcome.the-variants as outcome
-use Rattle.log_core.specs.Log.{holderOf}
-use Rattle.log_core.specs.Outcome.{outcomeOf}
+use Rattle.log_votes.specs.declared.Outcome.the-variants as outcome
+use Rattle.log_core.specs.Log.{holderOf, outcomeOf}
 use Rattle.log_core.specs.Replay.{noReplayed}
 use Rattle.model_steps.specs.declared.Step.{Step}
 use Rattle.model_steps.specs.declared.Step.the-variants.{Setup, Request, Open, Propose, Deliver, Tell, Restore}

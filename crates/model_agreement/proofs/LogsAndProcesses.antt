@@ -13,11 +13,11 @@ use lib.Seq.{getD-at, getD-set-other, getD-set-same}
 use Rattle.log_entry.specs.declared.Entry.{Entry}
 use Rattle.log_entry.specs.Limits.{stores}
 use Rattle.log_core.specs.declared.Log.{Log}
-use Rattle.log_core.specs.declared.Outcome.{Outcome}
+use Rattle.log_votes.specs.declared.Outcome.{Outcome}
 use Rattle.log_core.specs.declared.Replay.{Replay}
 use Rattle.log_core.specs.Enter.{feed}
-use Rattle.log_core.specs.Log.{emptyLog, holderOf}
-use Rattle.log_core.specs.Outcome.{isOpen, outcomeOf}
+use Rattle.log_core.specs.Log.{emptyLog, holderOf, outcomeOf}
+use Rattle.log_votes.specs.Outcome.{isOpen}
 use Rattle.log_core.specs.Replay.{replayOf}
 use Rattle.model_steps.specs.Limits.{coordinators, instances}
 use Rattle.log_laws.proofs.Replicated.{holders-length}

@@ -10,8 +10,8 @@ use lib.Dec.{T, eqb, ltb}
 use lib.ListN.{getD, length, set}
 use lib.Seq.{getD-set-other, getD-set-same}
 use Rattle.log_entry.specs.Limits.{processes}
-use Rattle.log_core.specs.declared.Outcome.{Outcome}
-use Rattle.log_core.specs.declared.Outcome.the-variants.{Open}
+use Rattle.log_votes.specs.declared.Outcome.{Outcome}
+use Rattle.log_votes.specs.declared.Outcome.the-variants.{Open}
 use Rattle.log_core.specs.declared.Replay.{Replay}
 use Rattle.model_protocol.specs.declared.Heard.{Heard}
 use Rattle.model_protocol.specs.declared.Message.{Message}

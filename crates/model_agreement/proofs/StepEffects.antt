@@ -12,9 +12,10 @@ use Rattle.log_entry.specs.declared.Entry.{Entry}
 use Rattle.log_entry.specs.Entry.{noProcess, outside}
 use Rattle.log_entry.specs.Limits.{processes, stores, transactions}
 use Rattle.log_entry.specs.Refusal.{check, outsideLimits}
-use Rattle.log_core.specs.declared.Outcome.{Outcome}
+use Rattle.log_votes.specs.declared.Outcome.{Outcome}
 use Rattle.log_core.specs.declared.Replay.{Replay}
-use Rattle.log_core.specs.Outcome.{isOpen, outcomeOf}
+use Rattle.log_votes.specs.Outcome.{isOpen}
+use Rattle.log_core.specs.Log.{outcomeOf}
 use Rattle.log_core.specs.Replay.{replayOf}
 use Rattle.model_steps.specs.declared.Role.{Role}
 use Rattle.model_steps.specs.declared.Step.{Step}

@@ -11,11 +11,11 @@ use lib.Dec.{T, eqb, eqb→eq}
 use lib.ListN.{drop, length, take}
 use lib.Seq.{ext-getD}
 use Rattle.log_entry.specs.declared.Entry.{Entry}
-use Rattle.log_core.specs.declared.Outcome.{Outcome}
-use Rattle.log_core.specs.declared.Outcome.the-variants.{Open, Commit, Abort}
+use Rattle.log_votes.specs.declared.Outcome.{Outcome}
+use Rattle.log_votes.specs.declared.Outcome.the-variants.{Open, Commit, Abort}
 use Rattle.log_core.specs.Enter.{feed}
-use Rattle.log_core.specs.Log.{holderOf}
-use Rattle.log_core.specs.Outcome.{isOpen, outcomeOf}
+use Rattle.log_core.specs.Log.{holderOf, outcomeOf}
+use Rattle.log_votes.specs.Outcome.{isOpen}
 use Rattle.log_core.specs.Replay.{replayOf}
 use Rattle.model_steps.specs.declared.Step.{Step}
 use Rattle.model_steps.specs.Limits.{instances}

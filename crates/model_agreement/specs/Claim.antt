@@ -6,11 +6,10 @@ use mathlib.Core.List.{List, [], _∷_, _++_, List·Memᴰ}
 use lib.ListN.{getD, length, take}
 use Rattle.log_entry.specs.declared.Entry.{Entry}
 use Rattle.log_core.specs.declared.Log.{Log}
-use Rattle.log_core.specs.declared.Outcome.{Outcome}
-use Rattle.log_core.specs.declared.Outcome.the-variants.{Open}
+use Rattle.log_votes.specs.declared.Outcome.{Outcome}
+use Rattle.log_votes.specs.declared.Outcome.the-variants.{Open}
 use Rattle.log_core.specs.Enter.{feed}
-use Rattle.log_core.specs.Log.{emptyLog, holderOf}
-use Rattle.log_core.specs.Outcome.{outcomeOf}
+use Rattle.log_core.specs.Log.{emptyLog, holderOf, outcomeOf}
 use Rattle.log_core.specs.Replay.{replayOf}
 use Rattle.model_steps.specs.declared.Step.{Step}
 use Rattle.model_protocol.specs.declared.Batch.{Batch}

@@ -1,7 +1,7 @@
 -- What a message says, by its kind.
 use Prim.Native.Nat.{ℕ}
 use Rattle.log_entry.specs.declared.Entry.{Entry}
-use Rattle.log_core.specs.declared.Outcome.{Outcome}
+use Rattle.log_votes.specs.declared.Outcome.{Outcome}
 use Rattle.log_core.specs.declared.Replay.{Replay}
 use Rattle.model_paxos.specs.Messages.{Paxos, accept, accepted, prepare, promise}
 use Rattle.model_protocol.specs.declared.Batch.{Batch}

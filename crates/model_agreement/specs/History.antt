@@ -8,8 +8,8 @@ use lib.Dec.{T, eqb, ltb}
 use Rattle.log_entry.specs.declared.Entry.{Entry}
 use Rattle.log_entry.specs.Bits.{has}
 use Rattle.log_entry.specs.Refusal as refusal
-use Rattle.log_core.specs.declared.Outcome.{Outcome}
-use Rattle.log_core.specs.declared.Outcome.the-variants as outcome
+use Rattle.log_votes.specs.declared.Outcome.{Outcome}
+use Rattle.log_votes.specs.declared.Outcome.the-variants as outcome
 use Rattle.log_core.specs.declared.Replay.{Replay}
 use Rattle.model_steps.specs.declared.Step.{Step}
 use Rattle.model_steps.specs.declared.Step.the-variants.{Setup, Request, Open, Propose, Deliver, Tell, Restore, Crash}

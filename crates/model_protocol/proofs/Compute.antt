@@ -6,9 +6,9 @@ use Rattle.log_entry.specs.Refusal.{firstRefusal}
 use Rattle.log_core.specs.Enter.{afterEntry, enter, feed, refusalOf, voted}
 use Rattle.log_core.specs.Group.{committing, remembered, runningSet}
 use Rattle.log_core.specs.Log.{emptyLog}
-use Rattle.log_core.specs.Outcome.{outcomeOfVotes, running}
+use Rattle.log_votes.specs.Outcome.{outcomeOfVotes, running}
 use Rattle.log_core.specs.Replay.{groupReplay, replayFrom, replayOf}
-use Rattle.log_core.specs.Scan.{allFrom, anyFrom}
+use Rattle.log_votes.specs.Scan.{allFrom, anyFrom}
 use Rattle.model_steps.specs.declared.Step.{Step}
 use Rattle.model_steps.specs.Limits.{outsideStep}
 use Rattle.model_protocol.specs.declared.World.{World}

@@ -11,7 +11,8 @@ use Rattle.log_entry.specs.Limits.{stores}
 use Rattle.log_entry.specs.Refusal.{accepted, check, Check, firstRefusal, illFormedVote, noPlace, notMet, notSentYet, outsideLimits, partyDown}
 use Rattle.log_core.specs.declared.Log.{Log}
 use Rattle.log_core.specs.Enter.{feed}
-use Rattle.log_core.specs.Outcome.{isOpen, outcomeOf}
+use Rattle.log_votes.specs.Outcome.{isOpen}
+use Rattle.log_core.specs.Log.{outcomeOf}
 use Rattle.log_core.specs.Replay.{replayOf}
 use Rattle.model_steps.specs.declared.Role.the-variants.{Coord, Proc}
 use Rattle.model_steps.specs.declared.Step.{Step}

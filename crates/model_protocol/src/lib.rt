@@ -1,9 +1,9 @@
 // The coordinated commit service: messages, acceptors, coordinators, processes, and the world that joins them.
 // These are the values; what each step does to them stands in specs/.
 use log_core::Log;
-use log_core::Outcome;
 use log_core::Replay;
 use log_entry::Entry;
+use log_votes::Outcome;
 
 // A batch: its first `count` entries.
 pub struct Batch {

@@ -13,8 +13,10 @@ use Rattle.log_entry.specs.Entry.{illFormed, outside}
 use Rattle.log_entry.specs.Refusal.{accepted, firstRefusal, holdsOrHeld, illFormedVote, keptAlready, notHolder, otherList, outsideLimits, unreadable}
 use Rattle.log_core.specs.declared.Log.{Log}
 use Rattle.log_core.specs.Enter.{afterEntry, answered, enter, refusalOf}
-use Rattle.log_core.specs.Log.{heldBefore, holderOf, noVote, rowOf}
-use Rattle.log_core.specs.Refusal.{anyClash, holdsAny, takeChecks, voteChecks}
+use Rattle.log_core.specs.Log.{heldBefore, holderOf, rowOf}
+use Rattle.log_votes.specs.Row.{noVote}
+use Rattle.log_votes.specs.Refusal.{anyClash, voteChecks}
+use Rattle.log_core.specs.Refusal.{holdsAny, takeChecks}
 use Rattle.text_entry.specs.Entry.{HasText, readEntry, text}
 use Rattle.text_entry.proofs.Agreement.{IsText, read-is-text, text-reads-back}
 use Rattle.text_lines.specs.Lines.{longest}

@@ -15,7 +15,8 @@ use Rattle.log_entry.specs.Refusal.{firstRefusal, outsideLimits, unreadable}
 use Rattle.log_core.specs.declared.Log.{Log}
 use Rattle.log_core.specs.Enter.{answered, enter, refusalOf}
 use Rattle.log_core.specs.Log.{holderOf, rowOf}
-use Rattle.log_core.specs.Refusal.{takeChecks, voteChecks}
+use Rattle.log_core.specs.Refusal.{takeChecks}
+use Rattle.log_votes.specs.Refusal.{voteChecks}
 use Rattle.text_entry.specs.declared.Reading.{Reading}
 use Rattle.text_entry.specs.declared.Reading.the-variants.{Read, Outside, Unreadable}
 use Rattle.text_entry.specs.Entry.{beyond, readEntry, reading, readingOf}

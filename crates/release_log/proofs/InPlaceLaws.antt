@@ -15,13 +15,15 @@ use Rattle.log_core.proofs.EnterLaws.{refused-with, take-stored, vote-entered, 
 use Rattle.log_core.proofs.GroupLaws.{begun-with, commit-joins}
 use Rattle.log_core.proofs.RefusalLaws.{take-accepted, take-holds-or-held, vote-checked}
 use Rattle.log_core.specs.declared.Log.{Log}
-use Rattle.log_core.specs.declared.Row.{Row}
-use Rattle.log_core.specs.declared.Vote.{Vote}
+use Rattle.log_votes.specs.declared.Row.{Row}
+use Rattle.log_votes.specs.declared.Vote.{Vote}
 use Rattle.log_core.specs.Enter.{answered, enter, voted}
 use Rattle.log_core.specs.Group.{nextGroup, remembered, runningSet}
-use Rattle.log_core.specs.Log.{heldBefore, holderOf, inGroup, rowOf, voteOfEntry, withGroup, withRow}
-use Rattle.log_core.specs.Outcome.{isCommitted, outcomeOfVotes}
-use Rattle.log_core.specs.Refusal.{holdsAny, voteRefusal}
+use Rattle.log_core.specs.Log.{heldBefore, holderOf, rowOf, withGroup, withRow}
+use Rattle.log_votes.specs.Row.{inGroup, voteOfEntry}
+use Rattle.log_votes.specs.Outcome.{isCommitted, outcomeOfVotes}
+use Rattle.log_core.specs.Refusal.{holdsAny}
+use Rattle.log_votes.specs.Refusal.{voteRefusal}
 
 module _ (l : Log) (e : Entry) (inside : outside e ≡ false) (take : e .take ≡ true) where
   pub take-refused : (holdsAny (l .holders) (e .process) || heldBefore l (e .process) (e .store)) ≡ true → answered l holdsOrHeld ≡ enter l e

@@ -9,8 +9,9 @@ use Rattle.log_entry.specs.Limits.{stores, transactions}
 use Rattle.log_entry.specs.Refusal.{accepted, check, firstRefusal, outsideLimits, noPlace}
 use Rattle.log_core.specs.declared.Entered.{Entered}
 use Rattle.log_core.specs.declared.Replayed.{Replayed}
-use Rattle.log_core.specs.Involvement.{involvementNumber, involvementOf}
-use Rattle.log_core.specs.Outcome.{outcomeNumber, outcomeOf}
+use Rattle.log_votes.specs.Involvement.{involvementNumber}
+use Rattle.log_core.specs.Log.{involvementOf, outcomeOf}
+use Rattle.log_votes.specs.Outcome.{outcomeNumber}
 use Rattle.log_core.specs.Replay.{replayRows}
 use Rattle.host_records.specs.Record.{lowFirst, updateSize}
 use Rattle.release_log.specs.Add.{passing}

@@ -3,14 +3,12 @@ ghost use mathlib.Core.Path.{_≡_};
 ghost use Prim.Native.Nat.{ℕ};
 ghost use lib.ListN.{replicate};
 ghost use Rattle.log_entry.specs.Limits.{stores};
-ghost use Rattle.log_core.specs.Log.{noVote};
+ghost use Rattle.log_votes.specs.Row.{noVote};
 ghost use Rattle.host_records.specs.declared.Reading.the-variants.{Refused};
 ghost use Rattle.release_log.specs.Behind.{logBehind};
 use host_records::RECORD_SIZE;
 use host_records::Reading;
 use log_core::Log;
-use log_core::Row;
-use log_core::Vote;
 use log_core::group::remembered_in;
 use log_core::refusal::holds_or_held;
 use log_entry::limits::STORE_PLACES;
@@ -19,6 +17,8 @@ use log_entry::refusal::ACCEPTED;
 use log_entry::refusal::HOLDS_OR_HELD;
 use log_entry::refusal::OUTSIDE_LIMITS;
 use log_entry::sets;
+use log_votes::Row;
+use log_votes::Vote;
 
 // The number of a refusal that was read.
 fn refusal_in(reading: Reading) -> u8

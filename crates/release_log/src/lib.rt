@@ -13,12 +13,12 @@ use host_records::Numbers;
 use host_records::RECORD_SIZE;
 use host_records::Reading;
 use log_core::Log;
-use log_core::Row;
 use log_entry::Entry;
 use log_entry::limits::STORES;
 use log_entry::limits::TRANSACTIONS;
 use log_entry::refusal::ACCEPTED;
 use log_entry::refusal::OUTSIDE_LIMITS;
+use log_votes::Row;
 
 mod behind;
 mod bytes;

@@ -8,8 +8,8 @@ use lib.Seq.{getD-take}
 use Rattle.text_ascii.specs.Decimal.{decimal}
 use Rattle.text_ascii.proofs.Decimals.{decimal-length}
 use Rattle.text_ascii.proofs.Writing.{wrote-more, wrote-nothing}
-use Rattle.log_core.specs.declared.Outcome.{Outcome}
-use Rattle.log_core.specs.declared.Outcome.the-variants.{Open, Commit, Abort}
+use Rattle.log_votes.specs.declared.Outcome.{Outcome}
+use Rattle.log_votes.specs.declared.Outcome.the-variants.{Open, Commit, Abort}
 use Rattle.text_report.specs.Report.{outcomeWord, each}
 use Rattle.text_report.specs.Within.{Within}
 

@@ -5,10 +5,10 @@ use mathlib.Core.List.{[]}
 use mathlib.Core.Path.{_≡_, _∙_, ap}
 use borrow.Author.Tests.{eq-eqb, ne-eqb}
 use Rattle.log_core.specs.declared.Log.{Log}
-use Rattle.log_core.specs.declared.Outcome.{Outcome}
-use Rattle.log_core.specs.Log.{groupOf, holderOf, rowOf}
-use Rattle.log_core.specs.Outcome.{isKept, outcomeOf}
-use Rattle.log_core.specs.Scan.{anyFrom}
+use Rattle.log_votes.specs.declared.Outcome.{Outcome}
+use Rattle.log_core.specs.Log.{groupOf, holderOf, rowOf, outcomeOf}
+use Rattle.log_votes.specs.Outcome.{isKept}
+use Rattle.log_votes.specs.Scan.{anyFrom}
 use Rattle.text_report.specs.Report.{holderLine, holderText, txLine, txText}
 
 module _ (l : Log) (tx : ℕ) where

@@ -10,14 +10,14 @@ use Rattle.text_ascii.specs.Decimal.{decimal}
 use Rattle.text_ascii.specs.Hex.{hex}
 use Rattle.log_entry.specs.Limits.{stores, transactions}
 use Rattle.log_core.specs.declared.Log.{Log}
-use Rattle.log_core.specs.declared.Outcome.{Outcome}
-use Rattle.log_core.specs.declared.Outcome.the-variants.{Open, Commit, Abort}
+use Rattle.log_votes.specs.declared.Outcome.{Outcome}
+use Rattle.log_votes.specs.declared.Outcome.the-variants.{Open, Commit, Abort}
 use Rattle.log_core.specs.declared.Replay.{Replay}
 use Rattle.log_core.specs.declared.Replayed.{Replayed}
-use Rattle.log_core.specs.Log.{groupOf, holderOf, rowOf}
-use Rattle.log_core.specs.Outcome.{isKept, outcomeOf}
+use Rattle.log_core.specs.Log.{groupOf, holderOf, rowOf, outcomeOf}
+use Rattle.log_votes.specs.Outcome.{isKept}
 use Rattle.log_core.specs.Replay.{noReplayed, replayRows}
-use Rattle.log_core.specs.Scan.{anyFrom}
+use Rattle.log_votes.specs.Scan.{anyFrom}
 
 -- the texts of 0 to n - 1, one behind the other
 unfoldable pub each : (ℕ → List ℕ) → ℕ → List ℕ

@@ -7,10 +7,10 @@ ghost use Rattle.text_lines.specs.Answers.{answersOf};
 ghost use Rattle.text_report.specs.Report.{answersText, each, field, holderLine, holderText, logText, outcomeWord, replayLine, replayText, rowsOf, stepLine, txLine, txText};
 ghost use Rattle.text_report.specs.Within.{Within, longestAnswers, longestLine, longestLog, longestReplay};
 use log_core::Log;
-use log_core::Outcome;
 use log_core::Replay;
 use log_entry::limits::STORES;
 use log_entry::limits::TRANSACTIONS;
+use log_votes::Outcome;
 use text_lines::Answers;
 use text_lines::MOST;
 

@@ -11,7 +11,7 @@ use denote.Struct.Declared.{row}
 use lib.ListN.{drop, getD, length, length-map, length-set, replicate, set, take}
 use lib.Seq.{set-getD, sets}
 use mir.Val.{Val}
-use Rattle.log_core.proofs.InList.{in-list}
+use Rattle.log_votes.proofs.InList.{in-list}
 use Rattle.log_core.specs.declared.Log.{Log}
 use Rattle.log_core.specs.Enter.{feed}
 use Rattle.log_core.specs.Log.{emptyLog}

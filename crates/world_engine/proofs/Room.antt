@@ -8,7 +8,7 @@ use lib.Dec.{eqb, leb, ltb}
 use Rattle.log_entry.specs.Limits.{stores}
 use Rattle.log_entry.specs.Refusal.{firstRefusal, outsideLimits}
 use Rattle.log_entry.specs.Entry.{illFormed}
-use Rattle.log_core.specs.Outcome.{isOpen}
+use Rattle.log_votes.specs.Outcome.{isOpen}
 use Rattle.model_steps.specs.declared.Role.the-variants.{Coord, Proc}
 use Rattle.model_steps.specs.declared.Step.{Step}
 use Rattle.model_steps.specs.declared.Step.the-variants.{Setup, Request, Open, Propose, Deliver, Tell, Restore, Crash}

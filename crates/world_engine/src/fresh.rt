@@ -2,7 +2,7 @@
 ghost use mathlib.Core.Path.{_≡_};
 ghost use Rattle.model_protocol.specs.World.{allUp, emptyCell, freshProcess, freshWorld};
 use log_core::Log;
-use log_core::Outcome;
+use log_votes::Outcome;
 use model_protocol::Cell;
 use model_protocol::Down;
 use model_protocol::Heard;

@@ -1,10 +1,10 @@
 // The messages of each kind. What a kind does not use is 0.
 ghost use mathlib.Core.Path.{_≡_};
 ghost use Rattle.model_protocol.specs.Message.{acceptTo, acceptedFrom, balloting, mail, noReplay, prepareTo, promiseFrom, requestTo, restoreTo, tellTo};
-use log_core::Outcome;
 use log_core::Replay;
 use log_core::Replayed;
 use log_entry::Entry;
+use log_votes::Outcome;
 use model_protocol::Batch;
 use model_protocol::Kind;
 use model_protocol::Message;

@@ -7,7 +7,7 @@ use denote.Struct.Declared.{row}
 use lib.ListN.{length, length-map, set}
 use lib.Seq.{set-out}
 use mir.Val.{Val}
-use Rattle.log_core.specs.declared.Outcome.{Outcome}
+use Rattle.log_votes.specs.declared.Outcome.{Outcome}
 use Rattle.model_protocol.proofs.Process.{the-type}
 use Rattle.model_protocol.specs.declared.Process.{Process}
 use Rattle.model_protocol.specs.Process.{hearingOutcome}

@@ -1,9 +1,9 @@
 // What a process hears, takes and believes.
 ghost use mathlib.Core.Path.{_≡_};
 ghost use Rattle.model_protocol.specs.Process.{believes, hearingOutcome, taking};
-use log_core::Outcome;
 use log_core::Replay;
 use log_entry::limits::TRANSACTIONS;
+use log_votes::Outcome;
 use model_protocol::Heard;
 use model_protocol::Process;
 

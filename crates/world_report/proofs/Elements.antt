@@ -4,7 +4,7 @@ use native.Mathlib.Numerals.{add-one}
 use mathlib.Core.List.{List, _++_}
 use mathlib.Core.Path.{_≡_, _∙_, ap}
 use lib.ListN.{getD, length}
-use Rattle.log_core.proofs.InList.{in-list}
+use Rattle.log_votes.proofs.InList.{in-list}
 use Rattle.text_report.specs.Report.{each}
 use Rattle.text_report.proofs.Lengths.{each-more}
 

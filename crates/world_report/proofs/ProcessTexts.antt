@@ -7,9 +7,9 @@ use mathlib.Core.Path.{_≡_, refl, sym, ap}
 use borrow.Author.Tests.{eq-eqb, ne-eqb}
 use denote.Enum.Declared.{tagOf}
 use types.Run.{OneOf}
-use Rattle.log_core.specs.declared.Outcome.{Outcome}
-use Rattle.log_core.specs.declared.Outcome.the-variants.{Open, Commit, Abort}
-use Rattle.log_core.proofs.Outcome.{the-type as outcome-type}
+use Rattle.log_votes.specs.declared.Outcome.{Outcome}
+use Rattle.log_votes.specs.declared.Outcome.the-variants.{Open, Commit, Abort}
+use Rattle.log_votes.proofs.Outcome.{the-type as outcome-type}
 use Rattle.model_protocol.specs.declared.Process.{Process}
 use Rattle.text_report.specs.Report.{replayText, rowsOf}
 use Rattle.world_report.specs.Processes.{heardLine, outcomeText, restoreLine, restoreText}

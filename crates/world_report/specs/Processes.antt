@@ -6,9 +6,9 @@ use lib.Dec.{eqb}
 use lib.ListN.{getD}
 use Rattle.text_ascii.specs.Bytes.{ascii}
 use Rattle.log_entry.specs.Limits.{processes, transactions}
-use Rattle.log_core.specs.declared.Outcome.{Outcome}
-use Rattle.log_core.specs.declared.Outcome.the-variants.{Open}
-use Rattle.log_core.specs.Outcome.{isOpen}
+use Rattle.log_votes.specs.declared.Outcome.{Outcome}
+use Rattle.log_votes.specs.declared.Outcome.the-variants.{Open}
+use Rattle.log_votes.specs.Outcome.{isOpen}
 use Rattle.model_protocol.specs.declared.Process.{Process}
 use Rattle.model_protocol.specs.World.{freshProcess}
 use Rattle.text_report.specs.Report.{each, end, field, outcomeWord, replayText, rowsOf}

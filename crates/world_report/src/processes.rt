@@ -4,9 +4,9 @@ ghost use Rattle.log_entry.specs.Limits.{processes};
 ghost use Rattle.text_report.specs.Within.{Within, longestLine};
 ghost use Rattle.world_report.specs.Longest.{longestHeard, longestRestore};
 ghost use Rattle.world_report.specs.Processes.{byProcess, heardLine, heardText, outcomeText, restoreLine, restoreText};
-use log_core::Outcome;
 use log_entry::limits::PROCESSES;
 use log_entry::limits::TRANSACTIONS;
+use log_votes::Outcome;
 use model_protocol::Process;
 
 pub fn heard_line(out: &mut [u8], at: usize, proc: u8, tx: u8, outcome: Outcome) -> usize

@@ -5,7 +5,8 @@ use mathlib.Core.List.{[], _∷_}
 use mathlib.Core.Path.{ap, _∙_}
 use Rattle.log_entry.specs.Limits.{stores, transactions}
 use Rattle.log_core.specs.declared.Log.{Log}
-use Rattle.log_core.specs.Involvement.{involvementNumber, involvementOf}
+use Rattle.log_votes.specs.Involvement.{involvementNumber}
+use Rattle.log_core.specs.Log.{involvementOf}
 use Rattle.release_log.proofs.BehindLaws.{whole-of}
 use Rattle.release_log.proofs.QueryLaws.{numbers-outside, records-refused, value-placed}
 use Rattle.release_log.proofs.release_log_involvement.Statement.{statement}

@@ -6,7 +6,7 @@ use mathlib.Core.Path.{ap, _∙_}
 use native.Mathlib.Omega.{arith}
 use lib.ListN.{length}
 use Rattle.log_entry.specs.Limits.{stores, transactions}
-use Rattle.log_core.proofs.Good.{rows-length}
+use Rattle.log_core.proofs.Lengths.{rows-length}
 use Rattle.log_core.proofs.ReplayLength.{replay-length}
 use Rattle.log_core.specs.declared.Log.{Log}
 use Rattle.log_core.specs.declared.Replayed.{Replayed}

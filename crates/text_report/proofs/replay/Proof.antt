@@ -1,7 +1,7 @@
 use native.Mathlib.Omega.{arith}
 use borrow.Author.Needs.{needs}
 use mathlib.Core.Path.{ap}
-use Rattle.log_core.proofs.Good.{rows-length}
+use Rattle.log_core.proofs.Lengths.{rows-length}
 use Rattle.log_core.proofs.ReplayLength.{replay-length}
 use Rattle.text_report.specs.Report.{replayText}
 use Rattle.text_report.proofs.Lengths.{within-as}

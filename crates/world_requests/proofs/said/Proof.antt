@@ -1,6 +1,6 @@
 use borrow.Author.Needs.{needs}
 use mathlib.Core.Path.{ap, sym, _∙_}
-use Rattle.log_core.specs.declared.Outcome.{Outcome}
+use Rattle.log_votes.specs.declared.Outcome.{Outcome}
 use Rattle.model_steps.specs.declared.Step.{Step}
 use Rattle.model_protocol.specs.Message.{tellTo}
 use Rattle.model_protocol.specs.Step.{messageFor}

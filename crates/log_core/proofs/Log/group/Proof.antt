@@ -1,6 +1,6 @@
 use borrow.Author.Needs.{needs}
 use mathlib.Core.Path.{ap, sym}
-use Rattle.log_core.specs.declared.Row.{Row}
+use Rattle.log_votes.specs.declared.Row.{Row}
 use Rattle.log_core.proofs.Absent.{no-row}
 use Rattle.log_core.proofs.Log.group.Statement.{statement}
 use Rattle.log_core.proofs.Log.group.Tie as tie

@@ -1,8 +1,9 @@
 use borrow.Author.Needs.{needs}
 use mathlib.Core.Path.{ap, sym, _∙_}
-use Rattle.log_core.specs.declared.Row.{Row}
-use Rattle.log_core.specs.Involvement.{involvementOfVotes}
-use Rattle.log_core.proofs.Absent.{no-row, unknown-without-votes}
+use Rattle.log_votes.specs.declared.Row.{Row}
+use Rattle.log_votes.specs.Involvement.{involvementOfVotes}
+use Rattle.log_core.proofs.Absent.{no-row}
+use Rattle.log_votes.proofs.Absent.{unknown-without-votes}
 use Rattle.log_core.proofs.Log.involvement.Statement.{statement}
 use Rattle.log_core.proofs.Log.involvement.Tie as tie
 

@@ -1,8 +1,9 @@
 use borrow.Author.Needs.{needs}
 use mathlib.Core.Path.{ap, sym, _∙_}
-use Rattle.log_core.specs.declared.Row.{Row}
-use Rattle.log_core.specs.Outcome.{outcomeOfVotes}
-use Rattle.log_core.proofs.Absent.{no-row, open-without-votes}
+use Rattle.log_votes.specs.declared.Row.{Row}
+use Rattle.log_votes.specs.Outcome.{outcomeOfVotes}
+use Rattle.log_core.proofs.Absent.{no-row}
+use Rattle.log_votes.proofs.Absent.{open-without-votes}
 use Rattle.log_core.proofs.Log.outcome.Statement.{statement}
 use Rattle.log_core.proofs.Log.outcome.Tie as tie
 

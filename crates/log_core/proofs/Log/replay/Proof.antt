@@ -5,9 +5,9 @@ use mathlib.Core.List.{_∷_}
 use native.Mathlib.Omega.{arith}
 use borrow.Author.Tests.{not-false, not-true}
 use lib.ListN.{getD, length}
-use Rattle.log_core.specs.Log.{noRow}
+use Rattle.log_votes.specs.Row.{noRow}
 use Rattle.log_core.specs.Replay.{replayFrom}
-use Rattle.log_core.proofs.Good.{rows-length}
+use Rattle.log_core.proofs.Lengths.{rows-length}
 use Rattle.log_core.proofs.ReplayLaws.{Filled, filled-end, filled-more, filled-same, filled-start, left, left-all, left-end, left-hit, left-miss, left-none, left-start, other-group}
 use Rattle.log_core.proofs.ReplayLength.{replay-length}
 use Rattle.log_core.proofs.Log.replay.Statement.{statement}

@@ -7,8 +7,9 @@ use native.Mathlib.Omega.{arith}
 use Prim.Native.Nat.{ℕ}
 use lib.ListN.{drop, length}
 use Rattle.log_core.specs.Group.{runningSet}
-use Rattle.log_core.proofs.Good.{rows-length}
-use Rattle.log_core.proofs.GroupLaws.{digit-small, running-none, running-room, running-step}
+use Rattle.log_core.proofs.Lengths.{rows-length}
+use Rattle.log_votes.proofs.CommitSetLaws.{digit-small}
+use Rattle.log_core.proofs.GroupLaws.{running-none, running-room, running-step}
 use Rattle.log_core.proofs.Log.running_set.Statement.{statement}
 use Rattle.log_core.proofs.Log.running_set.Tie as tie
 

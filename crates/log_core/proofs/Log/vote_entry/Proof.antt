@@ -7,7 +7,7 @@ use Rattle.log_entry.specs.Entry.{outside}
 use Rattle.log_entry.specs.Refusal.{accepted}
 use Rattle.log_entry.proofs.InsideLaws.{inside-store, inside-vote}
 use Rattle.log_core.specs.declared.Log.{Log}
-use Rattle.log_core.specs.declared.Vote.{Vote}
+use Rattle.log_votes.specs.declared.Vote.{Vote}
 use Rattle.log_core.specs.Enter.{answered, refusalOf, voted}
 use Rattle.log_core.specs.Log.{rowOf}
 use Rattle.log_core.proofs.EnterLaws.{refused-with, vote-entered}

@@ -1,6 +1,6 @@
 use borrow.Author.Needs.{needs}
 use mathlib.Core.Path.{_≡_, ap, sym, _∙_}
-use Rattle.log_core.specs.Outcome.{isCommitted, outcomeOfVotes}
+use Rattle.log_votes.specs.Outcome.{isCommitted, outcomeOfVotes}
 use Rattle.log_core.proofs.EnterLaws.{voted-commits, voted-only}
 use Rattle.log_core.proofs.Log.voted.Statement.{statement}
 use Rattle.log_core.proofs.Log.voted.Tie as tie

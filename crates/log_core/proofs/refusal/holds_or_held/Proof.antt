@@ -8,8 +8,8 @@ use borrow.Author.Tests.{eq-eqb, ne-eqb}
 use lib.ListN.{drop, length}
 use Rattle.log_entry.specs.Bits.{has}
 use Rattle.log_core.specs.Refusal.{isHolder}
-use Rattle.log_core.specs.Scan.{anyFrom}
-use Rattle.log_core.proofs.ScanLaws.{any-end, any-hit, any-miss}
+use Rattle.log_votes.specs.Scan.{anyFrom}
+use Rattle.log_votes.proofs.ScanLaws.{any-end, any-hit, any-miss}
 use Rattle.log_core.proofs.refusal.holds_or_held.Statement.{statement}
 use Rattle.log_core.proofs.refusal.holds_or_held.Tie as tie
 

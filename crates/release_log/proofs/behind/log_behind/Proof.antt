@@ -15,7 +15,7 @@ use Rattle.log_core.specs.declared.Log.{Log}
 use Rattle.log_core.specs.Enter.{answered, enter}
 use Rattle.log_core.specs.Group.{remembered}
 use Rattle.log_core.specs.Log.{emptyLog, rowOf}
-use Rattle.log_core.specs.Outcome.{isCommitted, outcomeOfVotes}
+use Rattle.log_votes.specs.Outcome.{isCommitted, outcomeOfVotes}
 use Rattle.host_records.proofs.RecordReadings.{record-inside, record-refusal}
 use Rattle.host_records.specs.declared.Reading.the-variants.{Of, Refused}
 use Rattle.host_records.specs.Record.{readRecord, recordSize}

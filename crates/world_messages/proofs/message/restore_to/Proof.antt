@@ -1,7 +1,7 @@
 use borrow.Author.Needs.{needs}
 use mathlib.Core.Path.{ap, ap₂, _∙_}
 use Rattle.log_entry.specs.declared.Entry.{Entry}
-use Rattle.log_core.specs.declared.Outcome.the-variants.{Open}
+use Rattle.log_votes.specs.declared.Outcome.the-variants.{Open}
 use Rattle.log_core.specs.declared.Replay.{Replay}
 use Rattle.model_protocol.specs.Message.{mail}
 use Rattle.model_protocol.specs.declared.Kind.the-variants.{Restore}

@@ -8,7 +8,7 @@ use Rattle.text_report.specs.Report.{each}
 use Rattle.text_report.specs.Within.{Within, longestLine}
 use Rattle.text_report.proofs.Lengths.{each-more, each-none, within-as, within-more, within-nothing, within-room}
 use Rattle.log_entry.specs.Limits.{transactions}
-use Rattle.log_core.specs.declared.Outcome.the-variants.{Open}
+use Rattle.log_votes.specs.declared.Outcome.the-variants.{Open}
 use Rattle.world_report.specs.Processes.{outcomeText}
 use Rattle.world_report.proofs.processes.put_heard.Statement.{statement}
 use Rattle.world_report.proofs.processes.put_heard.Tie as tie

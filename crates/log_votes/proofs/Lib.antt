@@ -1,0 +1,6 @@
+pub mod Absent
+pub mod CommitSetLaws
+pub mod InList
+pub mod Lengths
+pub mod RefusalLaws
+pub mod ScanLaws

@@ -1,0 +1,48 @@
+-- The answer to a vote, by the tests that lead to it.
+use Prim.Native.Nat.{ℕ}
+use mathlib.Core.Bool.{Bool, cond, false, false≢true, true, true≢false}
+use mathlib.Core.Path.{_≡_, refl}
+use borrow.Author.Tests.{eq-eqb, ne-eqb}
+use Rattle.log_entry.specs.declared.Entry.{Entry}
+use Rattle.log_entry.specs.Entry.{illFormed, outside}
+use Rattle.log_entry.specs.Refusal.{accepted, firstRefusal, illFormedVote, keptAlready, notHolder, otherList, outsideLimits}
+use Rattle.log_votes.specs.declared.Row.{Row}
+use Rattle.log_votes.specs.Refusal.{anyClash, voteRefusal}
+use Rattle.log_votes.specs.Row.{voteOfStore}
+
+pub cond-true : {A : Type 0} (b : Bool) (x y : A) → b ≡ true → cond b x y ≡ x
+cond-true true x y h = refl
+cond-true false x y h = absurd (false≢true h)
+
+pub cond-false : {A : Type 0} (b : Bool) (x y : A) → b ≡ false → cond b x y ≡ y
+cond-false true x y h = absurd (true≢false h)
+cond-false false x y h = refl
+
+module _ (r : Row) (holder : ℕ) (e : Entry) where
+  pub vote-outside : outside e ≡ true → outsideLimits ≡ voteRefusal r holder e
+  unfolding voteRefusal firstRefusal
+  vote-outside h = rw h
+
+  module _ (inside : outside e ≡ false) where
+    pub vote-ill-formed : illFormed e ≡ true → illFormedVote ≡ voteRefusal r holder e
+    unfolding voteRefusal firstRefusal
+    vote-ill-formed h = rw (inside, h)
+
+    module _ (formed : illFormed e ≡ false) where
+      pub vote-not-holder : (holder ≡ e .process → ⊥) → notHolder ≡ voteRefusal r holder e
+      unfolding voteRefusal firstRefusal
+      vote-not-holder h = rw (inside, formed, ne-eqb holder (e .process) h)
+
+      module _ (holds : holder ≡ e .process) where
+        pub vote-other-list : anyClash e (r .votes) ≡ true → otherList ≡ voteRefusal r holder e
+        unfolding voteRefusal firstRefusal
+        vote-other-list h = rw (inside, formed, eq-eqb holder (e .process) holds, h)
+
+        module _ (agrees : anyClash e (r .votes) ≡ false) where
+          pub vote-kept-already : voteOfStore (e .store) r .kept ≡ true → keptAlready ≡ voteRefusal r holder e
+          unfolding voteRefusal firstRefusal
+          vote-kept-already h = rw (inside, formed, eq-eqb holder (e .process) holds, agrees, h)
+
+          pub vote-accepted : voteOfStore (e .store) r .kept ≡ false → accepted ≡ voteRefusal r holder e
+          unfolding voteRefusal firstRefusal
+          vote-accepted h = rw (inside, formed, eq-eqb holder (e .process) holds, agrees, h)

@@ -1,0 +1,5 @@
+pub mod Involvement
+pub mod Outcome
+pub mod Refusal
+pub mod Row
+pub mod Scan

@@ -1,0 +1,48 @@
+// Why a vote is refused.
+ghost use mathlib.Core.Path.{_≡_};
+ghost use Rattle.log_votes.specs.Refusal.{anyClash, voteRefusal};
+use crate::Row;
+use log_entry::Entry;
+use log_entry::limits::STORE_PLACES;
+use log_entry::refusal;
+
+impl Row {
+    // Whether the vote clashes with the list of a kept commit vote.
+    pub fn any_clash(self, e: Entry) -> bool
+        ensures { λ r. ⌜ r ≡ anyClash e (self .votes) ⌝ }
+    {
+        let mut i: usize = 0;
+        while i < STORE_PLACES {
+            let v = self.votes[i];
+            if v.clashes(e) {
+                return true;
+            }
+            i += 1;
+        }
+        false
+    }
+
+    // The answer to a vote on the transaction, where `holder` holds the store in `by`.
+    pub fn vote_refusal(self, holder: u8, e: Entry) -> u8
+        ensures { λ r. ⌜ r ≡ voteRefusal self holder e ⌝ }
+    {
+        if e.outside() {
+            return refusal::OUTSIDE_LIMITS;
+        }
+        if e.ill_formed() {
+            return refusal::ILL_FORMED_VOTE;
+        }
+        if holder != e.process {
+            return refusal::NOT_HOLDER;
+        }
+        if self.any_clash(e) {
+            return refusal::OTHER_LIST;
+        }
+        let store = e.store as usize;
+        let v = self.votes[store];
+        if v.kept {
+            return refusal::KEPT_ALREADY;
+        }
+        refusal::ACCEPTED
+    }
+}

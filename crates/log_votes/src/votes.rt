@@ -1,0 +1,86 @@
+// Tests of one kept vote.
+ghost use mathlib.Core.Path.{_≡_};
+ghost use mathlib.Core.Bool.{_&&_, cond, not};
+ghost use Rattle.log_entry.specs.Bits.{has, within};
+ghost use Rattle.log_votes.specs.Row.{voteOfEntry};
+ghost use Rattle.log_votes.specs.Refusal.{clashes};
+use crate::Vote;
+use log_entry::Entry;
+use log_entry::sets;
+
+impl Vote {
+    // What is kept of a vote: all it said.
+    pub fn of(e: Entry) -> Vote
+        ensures { λ r. ⌜ r ≡ voteOfEntry e ⌝ }
+    {
+        Vote {
+            kept: true,
+            commit: e.commit,
+            participants: e.participants,
+            process: e.process,
+            by: e.by,
+            update: e.update,
+        }
+    }
+
+    pub fn is_commit(self) -> bool
+        ensures { λ r. ⌜ r ≡ (self .kept && self .commit) ⌝ }
+    {
+        if self.kept {
+            return self.commit;
+        }
+        false
+    }
+
+    pub fn is_abort(self) -> bool
+        ensures { λ r. ⌜ r ≡ (self .kept && not (self .commit)) ⌝ }
+    {
+        if self.kept {
+            return !self.commit;
+        }
+        false
+    }
+
+    // Whether the vote is kept and lists the store.
+    pub fn lists(self, store: u8) -> bool
+        ensures { λ r. ⌜ r ≡ (self .kept && has (self .participants) store) ⌝ }
+    {
+        if self.kept {
+            return sets::has8(self.participants, store);
+        }
+        false
+    }
+
+    // 1 for a kept commit vote.
+    pub fn commit_digit(self) -> u8
+        ensures { λ r. ⌜ r ≡ cond (self .kept && self .commit) 1 0 ⌝ }
+    {
+        if self.is_commit() {
+            return 1;
+        }
+        0
+    }
+
+    // Whether the vote is kept and its list within the set.
+    pub fn is_within(self, set: u8) -> bool
+        ensures { λ r. ⌜ r ≡ (self .kept && within (self .participants) set) ⌝ }
+    {
+        if self.kept {
+            return sets::within8(self.participants, set);
+        }
+        false
+    }
+
+    // Whether this is a kept commit vote with whose list the entry clashes.
+    pub fn clashes(self, e: Entry) -> bool
+        ensures { λ r. ⌜ r ≡ (self .kept && self .commit && clashes e (self .participants)) ⌝ }
+    {
+        if !self.is_commit() {
+            return false;
+        }
+        if e.commit {
+            return self.participants != e.participants;
+        }
+        !sets::within8(e.participants, self.participants)
+    }
+}
