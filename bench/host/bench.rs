@@ -1,5 +1,7 @@
-//! The cost of each entry point, beside the Rust implementation of the tests on the same bytes. With no arguments: the times, as a table.
-//! With `SIDE CALL RECORDS TIMES`: so many calls of one side (`library` or `rust`) and nothing else, for a counter of instructions.
+//! The cost of each entry point, beside the Rust implementation of the tests on the same bytes.
+//! With no arguments: the times, as a table.
+//! With `SIDE CALL RECORDS TIMES`: TIMES calls of one side (`library` or `rust`) and nothing else,
+//! for a counter of instructions.
 
 #[path = "../../tests/host/library.rs"]
 mod library;

@@ -1,117 +1,17 @@
-//! Random calls of the library beside the Rust implementation: answers and both buffers must be equal. Prints how often each answer
-//! occurred, and fails if one that can occur never did.
+//! Random calls of the library beside the Rust implementation: answers and both buffers must be
+//! equal. Prints how often each answer occurred, and fails if one that can occur never did.
 
 mod library;
 mod longest;
 mod plain_log;
+mod random;
 
-use plain_log::{log_behind, Entry, Log, Numbers, Vote, RECORD, ROW};
+use plain_log::{log_behind, Numbers, RECORD, ROW};
+use random::{sensible, History, Random};
 
 const CALLS: usize = 200_000;
 const HISTORIES: usize = 300;
 const ANSWERS: usize = 12;
-
-/// splitmix64
-struct Random(u64);
-
-impl Random {
-    fn next(&mut self) -> u64 {
-        self.0 = self.0.wrapping_add(0x9e37_79b9_7f4a_7c15);
-        let mut z = self.0;
-        z = (z ^ z >> 30).wrapping_mul(0xbf58_476d_1ce4_e5b9);
-        z = (z ^ z >> 27).wrapping_mul(0x94d0_49bb_1331_11eb);
-        z ^ z >> 31
-    }
-
-    fn below(&mut self, n: usize) -> usize {
-        (self.next() % n as u64) as usize
-    }
-
-    /// True once in n.
-    fn once_in(&mut self, n: usize) -> bool {
-        self.below(n) == 0
-    }
-
-    fn pick<T: Copy>(&mut self, of: &[T]) -> T {
-        of[self.below(of.len())]
-    }
-
-    fn bytes(&mut self, n: usize) -> Vec<u8> {
-        (0..n).map(|_| self.next() as u8).collect()
-    }
-}
-
-/// Lists that the votes of a transaction use, so that many agree.
-fn list_of(r: &mut Random, tx: u8) -> u8 {
-    const LISTS: [u8; 8] = [0x03, 0x01, 0x07, 0xff, 0x18, 0x82, 0x0f, 0x41];
-    if r.once_in(8) {
-        r.next() as u8
-    } else {
-        LISTS[tx as usize % 8]
-    }
-}
-
-/// An entry within its limits that a log may well accept.
-fn sensible(r: &mut Random, holders: &[u8; 8]) -> Entry {
-    let tx = r.below(32) as u8;
-    let list = list_of(r, tx);
-    let mut store = r.below(8) as u8;
-    while list >> store & 1 == 0 && !r.once_in(8) {
-        store = (store + 1) % 8;
-    }
-    if r.once_in(6) || holders[store as usize] == 0 {
-        let process = r.below(15) as u8 + 1;
-        return Entry::Take { process, store };
-    }
-    let commit = !r.once_in(8);
-    let by = if commit { store } else { r.below(8) as u8 };
-    let held_by = holders[by as usize];
-    Entry::Vote(Vote {
-        process: if held_by == 0 { r.below(15) as u8 + 1 } else { held_by },
-        by,
-        store,
-        tx,
-        list,
-        commit,
-        update: if commit { r.next() as u32 } else { 0 },
-    })
-}
-
-/// Entries that a log accepts in turn.
-struct History {
-    entries: Vec<Entry>,
-}
-
-impl History {
-    fn grown(r: &mut Random) -> History {
-        let length = r.pick(&[3, 20, 60, 120, 376]);
-        let (mut log, mut holders, mut entries) = (Log::new(), [0u8; 8], Vec::new());
-        for _ in 0..length * 4 {
-            let e = sensible(r, &holders);
-            if log.enter(&e) == 0 {
-                if let Entry::Take { process, store } = e {
-                    holders[store as usize] = process;
-                }
-                entries.push(e);
-            }
-            if entries.len() == length {
-                break;
-            }
-        }
-        History { entries }
-    }
-
-    /// The holders after the first n entries.
-    fn holders(&self, n: usize) -> [u8; 8] {
-        let mut holders = [0; 8];
-        for e in &self.entries[..n] {
-            if let Entry::Take { process, store } = *e {
-                holders[store as usize] = process;
-            }
-        }
-        holders
-    }
-}
 
 /// One fault in the records.
 fn damage(r: &mut Random, bytes: &mut [u8], h: &History) {
@@ -227,7 +127,10 @@ impl Seen {
                 println!();
             }
         }
-        println!("outcomes open {}, commit {}, abort {}", self.outcomes[0], self.outcomes[1], self.outcomes[2]);
+        println!(
+            "outcomes open {}, commit {}, abort {}",
+            self.outcomes[0], self.outcomes[1], self.outcomes[2]
+        );
         let [no, yes, unknown] = self.involvements;
         println!("involvements no {no}, yes {yes}, unknown {unknown}");
         let [none, some, most] = self.rows;
@@ -280,13 +183,21 @@ fn one(r: &mut Random, histories: &[History], seen: &mut Seen) {
             let n = numbers_for(r, &h.holders(k));
             both(&c, |b, _| library::add(b, count, &n), |b, _| plain_log::add(b, count, &n))
         }
-        1 => both(&c, |b, o| library::outcome(b, count, tx, o), |b, o| plain_log::outcome(b, count, tx, o)),
+        1 => both(
+            &c,
+            |b, o| library::outcome(b, count, tx, o),
+            |b, o| plain_log::outcome(b, count, tx, o),
+        ),
         2 => both(
             &c,
             |b, o| library::involvement(b, count, tx, store, o),
             |b, o| plain_log::involvement(b, count, tx, store, o),
         ),
-        _ => both(&c, |b, o| library::replay(b, count, store, o), |b, o| plain_log::replay(b, count, store, o)),
+        _ => both(
+            &c,
+            |b, o| library::replay(b, count, store, o),
+            |b, o| plain_log::replay(b, count, store, o),
+        ),
     };
     seen.note(call, &c.records, count, answer);
     if answer == 0 {

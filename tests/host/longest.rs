@@ -2,8 +2,8 @@
 
 use crate::plain_log::{Entry, Log, Vote};
 
-/// 120 takes and 256 votes, mixed and all accepted: no log accepts more, since each process takes a store at most once and each store
-/// votes on a transaction at most once.
+/// 120 takes and 256 votes, mixed and all accepted: no log accepts more, since each process takes a
+/// store at most once and each store votes on a transaction at most once.
 pub fn longest() -> Vec<Entry> {
     let mut holders = [0u8; 8];
     let mut entries = Vec::new();

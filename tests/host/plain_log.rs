@@ -1,20 +1,48 @@
-//! The plain log of document 01 and the hosts' calls on it, written from the document by itself. The tests set the library beside it.
+//! The plain log of document 01 and the hosts' calls on it, written from the document by itself.
+//! The tests set the library and the example host beside it, and the benchmarks measure with it.
+
+// A program that uses this module need not use all of it.
+#![allow(dead_code)]
 
 pub const RECORD: usize = 12;
 pub const ROW: usize = 6;
 
-const STORES: usize = 8;
-const TRANSACTIONS: usize = 32;
-const PROCESSES: u8 = 15;
+pub const STORES: usize = 8;
+pub const TRANSACTIONS: usize = 32;
+pub const PROCESSES: u8 = 15;
 
-#[derive(Clone, Copy, PartialEq)]
+/// An answer: 0, or the number of the refusal.
+pub mod answer {
+    pub const ACCEPTED: u32 = 0;
+    pub const UNREADABLE: u32 = 1;
+    pub const OUTSIDE: u32 = 2;
+    pub const NO_PLACE: u32 = 6;
+    pub const ILL_FORMED: u32 = 7;
+    pub const NOT_HOLDER: u32 = 8;
+    pub const OTHER_LIST: u32 = 9;
+    pub const KEPT_ALREADY: u32 = 10;
+    pub const HOLDS_OR_HELD: u32 = 11;
+}
+use answer::*;
+
+#[derive(Clone, Copy, PartialEq, Eq, Debug)]
 pub enum Outcome {
     Open,
     Commit,
     Abort,
 }
 
-#[derive(Clone, Copy)]
+impl Outcome {
+    pub fn word(self) -> &'static str {
+        match self {
+            Outcome::Open => "open",
+            Outcome::Commit => "commit",
+            Outcome::Abort => "abort",
+        }
+    }
+}
+
+#[derive(Clone, Copy, PartialEq, Eq, Debug)]
 pub struct Vote {
     pub process: u8,
     pub by: u8,
@@ -25,7 +53,7 @@ pub struct Vote {
     pub update: u32,
 }
 
-#[derive(Clone, Copy)]
+#[derive(Clone, Copy, PartialEq, Eq, Debug)]
 pub enum Entry {
     Take { process: u8, store: u8 },
     Vote(Vote),
@@ -41,7 +69,7 @@ impl Entry {
         match kind {
             0 if by | tx | list | say | update == 0 => {}
             1 if say <= 1 => {}
-            _ => return Err(1),
+            _ => return Err(UNREADABLE),
         }
         if process == 0
             || process > PROCESSES as u32
@@ -50,13 +78,10 @@ impl Entry {
             || tx >= TRANSACTIONS as u32
             || list > 0xff
         {
-            return Err(2);
+            return Err(OUTSIDE);
         }
         if kind == 0 {
-            return Ok(Entry::Take {
-                process: process as u8,
-                store: store as u8,
-            });
+            return Ok(Entry::Take { process: process as u8, store: store as u8 });
         }
         Ok(Entry::Vote(Vote {
             process: process as u8,
@@ -87,7 +112,7 @@ impl Entry {
 
     pub fn from_record(r: &[u8]) -> Result<Entry, u32> {
         if r[7] != 0 {
-            return Err(1);
+            return Err(UNREADABLE);
         }
         let mut n: Numbers = [0; 8];
         for i in 0..7 {
@@ -150,11 +175,29 @@ impl Log {
         Outcome::Open
     }
 
+    /// Whether a vote on the transaction is kept.
+    pub fn has_vote(&self, tx: u8) -> bool {
+        self.votes[tx as usize].iter().any(|v| v.is_some())
+    }
+
+    pub fn kept(&self, tx: u8, store: u8) -> Option<Vote> {
+        self.votes[tx as usize][store as usize]
+    }
+
+    /// The group of a committed transaction; 0 if none.
+    pub fn group(&self, tx: u8) -> u8 {
+        self.group[tx as usize]
+    }
+
+    /// The process that holds the store; 0 if none.
+    pub fn holder(&self, store: u8) -> u8 {
+        self.holders[store as usize]
+    }
+
     fn running(&self) -> u32 {
         let mut set = 0;
         for tx in 0..TRANSACTIONS as u8 {
-            let some = self.votes[tx as usize].iter().any(|v| v.is_some());
-            if some && self.outcome(tx) == Outcome::Open {
+            if self.has_vote(tx) && self.outcome(tx) == Outcome::Open {
                 set |= 1 << tx;
             }
         }
@@ -164,11 +207,11 @@ impl Log {
     fn take(&mut self, process: u8, store: u8) -> u32 {
         let s = store as usize;
         if self.holders.contains(&process) || self.held[s] >> process & 1 == 1 {
-            return 11;
+            return HOLDS_OR_HELD;
         }
         self.holders[s] = process;
         self.held[s] |= 1 << process;
-        0
+        ACCEPTED
     }
 
     fn vote(&mut self, v: Vote) -> u32 {
@@ -177,27 +220,27 @@ impl Log {
             || v.commit && v.by != v.store
             || !v.commit && v.update != 0
         {
-            return 7;
+            return ILL_FORMED;
         }
         if self.holders[v.by as usize] != v.process {
-            return 8;
+            return NOT_HOLDER;
         }
         let row = &self.votes[v.tx as usize];
         let clash = |k: &Vote| {
             k.commit && (if v.commit { k.list != v.list } else { v.list & !k.list != 0 })
         };
         if row.iter().flatten().any(clash) {
-            return 9;
+            return OTHER_LIST;
         }
         if row[v.store as usize].is_some() {
-            return 10;
+            return KEPT_ALREADY;
         }
-        let running = row.iter().any(|k| k.is_some());
+        let running = self.has_vote(v.tx);
         self.votes[v.tx as usize][v.store as usize] = Some(v);
         if self.outcome(v.tx) == Outcome::Commit {
             self.commit(v.tx, running);
         }
-        0
+        ACCEPTED
     }
 
     /// The transaction commits; it was running just before or not.
@@ -243,46 +286,46 @@ impl Log {
     }
 }
 
-/// The log behind the lent records, or the first refusal found.
+/// The log after the lent records, or the first refusal found.
 pub fn log_behind(records: &[u8], count: usize) -> Result<Log, u32> {
     if count > records.len() / RECORD {
-        return Err(2);
+        return Err(OUTSIDE);
     }
     let mut log = Log::new();
     for r in records.chunks_exact(RECORD).take(count) {
         let answer = log.enter(&Entry::from_record(r)?);
-        if answer != 0 {
+        if answer != ACCEPTED {
             return Err(answer);
         }
     }
     Ok(log)
 }
 
-fn answer(r: Result<(), u32>) -> u32 {
-    r.err().unwrap_or(0)
+fn answered(r: Result<(), u32>) -> u32 {
+    r.err().unwrap_or(ACCEPTED)
 }
 
 fn write(out: &mut [u8], value: &[u8]) -> Result<(), u32> {
-    out.get_mut(..value.len()).ok_or(6u32)?.copy_from_slice(value);
+    out.get_mut(..value.len()).ok_or(NO_PLACE)?.copy_from_slice(value);
     Ok(())
 }
 
 pub fn add(records: &mut [u8], count: usize, n: &Numbers) -> u32 {
-    answer((|| {
+    answered((|| {
         let mut log = log_behind(records, count)?;
         let e = Entry::read(n)?;
         match log.enter(&e) {
-            0 => write(&mut records[count * RECORD..], &e.to_record()),
+            ACCEPTED => write(&mut records[count * RECORD..], &e.to_record()),
             refused => Err(refused),
         }
     })())
 }
 
 pub fn outcome(records: &[u8], count: usize, tx: u32, out: &mut [u8]) -> u32 {
-    answer((|| {
+    answered((|| {
         let log = log_behind(records, count)?;
         if tx >= TRANSACTIONS as u32 {
-            return Err(2);
+            return Err(OUTSIDE);
         }
         let value = match log.outcome(tx as u8) {
             Outcome::Open => 0,
@@ -294,20 +337,20 @@ pub fn outcome(records: &[u8], count: usize, tx: u32, out: &mut [u8]) -> u32 {
 }
 
 pub fn involvement(records: &[u8], count: usize, tx: u32, store: u32, out: &mut [u8]) -> u32 {
-    answer((|| {
+    answered((|| {
         let log = log_behind(records, count)?;
         if tx >= TRANSACTIONS as u32 || store >= STORES as u32 {
-            return Err(2);
+            return Err(OUTSIDE);
         }
         write(out, &[log.involvement(tx as u8, store as u8)])
     })())
 }
 
 pub fn replay(records: &[u8], count: usize, store: u32, out: &mut [u8]) -> u32 {
-    answer((|| {
+    answered((|| {
         let log = log_behind(records, count)?;
         if store >= STORES as u32 {
-            return Err(2);
+            return Err(OUTSIDE);
         }
         let rows = log.replay(store as u8);
         let mut value = Vec::with_capacity(1 + rows.len() * ROW);

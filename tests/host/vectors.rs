@@ -1,4 +1,5 @@
-//! The calls of data/*.calls, by the library and by the Rust implementation, against data/*.out. README.md of data says what the lines hold.
+//! The calls of data/*.calls, by the library and by the Rust implementation, against data/*.out.
+//! README.md of data says what the lines hold.
 
 mod library;
 mod plain_log;
@@ -9,7 +10,9 @@ use std::fs;
 /// `-` is an empty buffer.
 fn bytes(hex: &str) -> Vec<u8> {
     let digits = if hex == "-" { "" } else { hex };
-    (0..digits.len() / 2).map(|i| u8::from_str_radix(&digits[2 * i..2 * i + 2], 16).expect("hex")).collect()
+    (0..digits.len() / 2)
+        .map(|i| u8::from_str_radix(&digits[2 * i..2 * i + 2], 16).expect("hex"))
+        .collect()
 }
 
 fn hex(bytes: &[u8]) -> String {
@@ -31,8 +34,18 @@ struct Host {
 }
 
 const HOSTS: [Host; 2] = [
-    Host { add: library::add, outcome: library::outcome, involvement: library::involvement, replay: library::replay },
-    Host { add: plain_log::add, outcome: plain_log::outcome, involvement: plain_log::involvement, replay: plain_log::replay },
+    Host {
+        add: library::add,
+        outcome: library::outcome,
+        involvement: library::involvement,
+        replay: library::replay,
+    },
+    Host {
+        add: plain_log::add,
+        outcome: plain_log::outcome,
+        involvement: plain_log::involvement,
+        replay: plain_log::replay,
+    },
 ];
 
 fn called(host: &Host, line: &str) -> String {
