@@ -1,10 +1,10 @@
 /*
- * release_log: a commit log behind records that the host keeps.
+ * release_log: a commit log, told from records that the host keeps.
  *
- * The library has no state. The host keeps the accepted entries as records
- * of RELEASE_LOG_RECORD_SIZE bytes in a buffer of its own, oldest first, and
- * lends the buffer and the count of its records to each call. The library
- * goes through the lent records, so a call takes longer the more there are.
+ * The library has no state. The host keeps the accepted entries as records of
+ * RELEASE_LOG_RECORD_SIZE bytes in a buffer of its own, oldest first. It lends
+ * the buffer and the count of its records to each call. The library goes
+ * through the lent records, so a call takes longer the more there are.
  *
  * A record:
  *
@@ -12,21 +12,21 @@
  *     byte  1      process   1 to 15
  *     byte  2      by        0 to 7, the store that the voting process holds
  *     byte  3      store     0 to 7
- *     byte  4      tx        0 to 31
+ *     byte  4      tx        0 to 31, the transaction
  *     byte  5      list      bit s for store s
  *     byte  6      say       0 abort, 1 commit
  *     byte  7      0
  *     bytes 8-11   update    low byte first
  *
- * A take has a kind, a process and a store; its other numbers are 0, in a
+ * A take has a kind, a process and a store. Its other numbers are 0, in a
  * record and in a call.
  *
  * Buffers
- *   Every buffer is the host's before, during and after a call; the library
- *   keeps no pointer. It reads the first count records and no byte behind
+ *   Every buffer is the host's before, during and after a call. The library
+ *   keeps no pointer. It reads the first `count` records and no byte after
  *   them, and writes only what is named at the function. A buffer of length 0
- *   may be NULL. The record buffer and `out` must not overlap.
- *   At every answer other than 0 both buffers are as they were.
+ *   may be NULL. `records` and `out` must not overlap.
+ *   At every answer other than RELEASE_LOG_OK both buffers are as they were.
  *
  * Threads
  *   Calls may run at the same time in any threads, as long as no buffer that
@@ -37,9 +37,12 @@
  *   A call takes less than 48 KiB of stack and no heap, and makes no system
  *   call.
  *
- * Answers. The count is tried first, then the records in turn, then the new
- * entry's or the query's own numbers, then place. The first that is wrong
- * decides, and within one entry 1 goes before 2 and 2 before the others.
+ * Order of the refusals
+ *   The count is tried first, then the records in turn, then the call's own
+ *   numbers, and the place for what is written last. The first that is wrong
+ *   decides. Within one entry, a lent one or the new one, the lowest number
+ *   that applies is given: RELEASE_LOG_UNREADABLE, then RELEASE_LOG_OUTSIDE,
+ *   then the log's own refusals, 7 to 11.
  */
 #ifndef RELEASE_LOG_H
 #define RELEASE_LOG_H
@@ -51,8 +54,17 @@
 extern "C" {
 #endif
 
+/*
+ * The version of this header. MAJOR changes if a host must be changed: a name
+ * or a value is another, or a call answers otherwise. MINOR changes if
+ * something is added.
+ */
+#define RELEASE_LOG_VERSION_MAJOR 1
+#define RELEASE_LOG_VERSION_MINOR 0
+
+/* The answer of a call: RELEASE_LOG_OK, or the refusal. */
 enum {
-	/* Accepted; a query's value is in `out`. */
+	/* Accepted, or the value is in `out`. */
 	RELEASE_LOG_OK = 0,
 	/* A wrong kind or say, or a number or byte that should be 0. */
 	RELEASE_LOG_UNREADABLE = 1,
@@ -74,77 +86,168 @@ enum {
 	RELEASE_LOG_HOLDS_OR_HELD = 11
 };
 
+/* The kind of an entry. */
 enum {
-	RELEASE_LOG_TAKE = 0,
-	RELEASE_LOG_VOTE = 1
+	RELEASE_LOG_KIND_TAKE = 0,
+	RELEASE_LOG_KIND_VOTE = 1
 };
 
+/* What a vote says. */
 enum {
-	RELEASE_LOG_ABORT = 0,
-	RELEASE_LOG_COMMIT = 1
+	RELEASE_LOG_SAY_ABORT = 0,
+	RELEASE_LOG_SAY_COMMIT = 1
 };
 
-/* The byte that release_log_outcome writes. */
+/* The byte that release_log_outcome writes. Note that an outcome is numbered
+   otherwise than what a vote says. */
 enum {
-	RELEASE_LOG_IS_OPEN = 0,
-	RELEASE_LOG_IS_COMMIT = 1,
-	RELEASE_LOG_IS_ABORT = 2
+	RELEASE_LOG_OUTCOME_OPEN = 0,
+	RELEASE_LOG_OUTCOME_COMMIT = 1,
+	RELEASE_LOG_OUTCOME_ABORT = 2
 };
 
 /* The byte that release_log_involvement writes. */
 enum {
-	RELEASE_LOG_NOT_INVOLVED = 0,
-	RELEASE_LOG_INVOLVED = 1,
-	RELEASE_LOG_UNKNOWN = 2
+	RELEASE_LOG_INVOLVED_NO = 0,
+	RELEASE_LOG_INVOLVED_YES = 1,
+	RELEASE_LOG_INVOLVED_UNKNOWN = 2
 };
+
+/* Limits. Processes are 1 to 15; stores and transactions count from 0. */
+#define RELEASE_LOG_PROCESSES 15
+#define RELEASE_LOG_STORES 8
+#define RELEASE_LOG_TRANSACTIONS 32
 
 /* The bytes of a record, and of a row that release_log_replay writes. */
 #define RELEASE_LOG_RECORD_SIZE 12
 #define RELEASE_LOG_ROW_SIZE 6
 
-/* A log accepts at most 120 takes and 256 votes, so a record buffer of
-   RELEASE_LOG_RECORDS_MOST * RELEASE_LOG_RECORD_SIZE bytes is never full
-   for an accepted entry. */
+/*
+ * The most records that a log accepts: each process takes each store at most
+ * once, and each store votes on each transaction at most once. This bound is
+ * counted by hand and not proved. A host that relies on it is still safe: an
+ * entry without place is refused, RELEASE_LOG_NO_PLACE.
+ */
 #define RELEASE_LOG_RECORDS_MOST 376
 
-/* The most bytes that release_log_replay writes. */
-#define RELEASE_LOG_REPLAY_MOST (1 + 32 * RELEASE_LOG_ROW_SIZE)
+/* The bytes of a record buffer that has room for all of these. */
+#define RELEASE_LOG_RECORDS_ROOM \
+	(RELEASE_LOG_RECORDS_MOST * RELEASE_LOG_RECORD_SIZE)
+
+/* The bytes of an `out` that has room for every replay: the number of rows,
+   and at most a row for each transaction. */
+#define RELEASE_LOG_REPLAY_ROOM \
+	(1 + RELEASE_LOG_TRANSACTIONS * RELEASE_LOG_ROW_SIZE)
 
 /*
- * A new entry. If it is accepted, its record is written behind the lent ones,
- * at records + count * RELEASE_LOG_RECORD_SIZE, and all else in the buffer
- * stays; the host then adds one to its count. Answers: any of the above.
+ * A new entry.
+ *
+ * Takes the record buffer, its length in bytes and the count of its records,
+ * and the entry's numbers; of a take all but kind, process and store are 0.
+ *
+ * Answers, in this order:
+ *   RELEASE_LOG_OUTSIDE     count records are more than records_len bytes
+ *   a record's refusal      the first lent record that is refused: 1, 2, 7-11
+ *   RELEASE_LOG_UNREADABLE  another kind or say; a take with a number too many
+ *   RELEASE_LOG_OUTSIDE     a number outside its limits
+ *   RELEASE_LOG_ILL_FORMED, RELEASE_LOG_NOT_HOLDER, RELEASE_LOG_OTHER_LIST,
+ *   RELEASE_LOG_KEPT_ALREADY (a vote), RELEASE_LOG_HOLDS_OR_HELD (a take)
+ *   RELEASE_LOG_NO_PLACE    less than a record's bytes after the lent records
+ *   RELEASE_LOG_OK          accepted
+ *
+ * Writes, if accepted, the entry's record after the lent ones, that is at
+ * records + count * RELEASE_LOG_RECORD_SIZE, and nothing else. The host then
+ * adds one to its count.
  */
 uint32_t release_log_add(uint8_t *records, size_t records_len, size_t count,
     uint32_t kind, uint32_t process, uint32_t by, uint32_t store, uint32_t tx,
     uint32_t list, uint32_t say, uint32_t update);
 
 /*
- * The outcome of a transaction: one byte, RELEASE_LOG_IS_OPEN, _COMMIT or
- * _ABORT. The rest of `out` stays. Answers: 0, a refusal of the records, 2
- * for a tx above 31, 6 for an `out` of length 0.
+ * The outcome of a transaction.
+ *
+ * Takes the record buffer, its length and count, the transaction, and the
+ * buffer for the value with its length.
+ *
+ * Answers, in this order:
+ *   RELEASE_LOG_OUTSIDE     count records are more than records_len bytes
+ *   a record's refusal      the first lent record that is refused: 1, 2, 7-11
+ *   RELEASE_LOG_OUTSIDE     a tx above 31
+ *   RELEASE_LOG_NO_PLACE    out_len is 0
+ *   RELEASE_LOG_OK
+ *
+ * Writes, if OK, out[0]: RELEASE_LOG_OUTCOME_OPEN, _COMMIT or _ABORT.
  */
 uint32_t release_log_outcome(const uint8_t *records, size_t records_len,
     size_t count, uint32_t tx, uint8_t *out, size_t out_len);
 
 /*
- * Whether a store is involved in a transaction: one byte,
- * RELEASE_LOG_NOT_INVOLVED, _INVOLVED or _UNKNOWN. The rest of `out` stays.
- * Answers: 0, a refusal of the records, 2 for a tx above 31 or a store above
- * 7, 6 for an `out` of length 0.
+ * Whether a store is involved in a transaction.
+ *
+ * Takes the record buffer, its length and count, the transaction and the
+ * store, and the buffer for the value with its length.
+ *
+ * Answers, in this order:
+ *   RELEASE_LOG_OUTSIDE     count records are more than records_len bytes
+ *   a record's refusal      the first lent record that is refused: 1, 2, 7-11
+ *   RELEASE_LOG_OUTSIDE     a tx above 31 or a store above 7
+ *   RELEASE_LOG_NO_PLACE    out_len is 0
+ *   RELEASE_LOG_OK
+ *
+ * Writes, if OK, out[0]: RELEASE_LOG_INVOLVED_NO, _YES or _UNKNOWN.
  */
 uint32_t release_log_involvement(const uint8_t *records, size_t records_len,
     size_t count, uint32_t tx, uint32_t store, uint8_t *out, size_t out_len);
 
 /*
- * The replay of a store: a byte with the number of rows, then of each row its
- * group, its tx and its update (four bytes, low byte first), by group and
- * then by tx. The rest of `out` stays. Answers: 0, a refusal of the records,
- * 2 for a store above 7, 6 if `out` is too short for these rows; one of
- * RELEASE_LOG_REPLAY_MOST bytes never is.
+ * The replay of a store: its updates of the committed transactions, by group
+ * and then by transaction.
+ *
+ * Takes the record buffer, its length and count, the store, and the buffer
+ * for the value with its length. A length of RELEASE_LOG_REPLAY_ROOM is
+ * enough for every replay.
+ *
+ * Answers, in this order:
+ *   RELEASE_LOG_OUTSIDE     count records are more than records_len bytes
+ *   a record's refusal      the first lent record that is refused: 1, 2, 7-11
+ *   RELEASE_LOG_OUTSIDE     a store above 7
+ *   RELEASE_LOG_NO_PLACE    out_len is below 1 + 6 times the number of rows
+ *   RELEASE_LOG_OK
+ *
+ * Writes, if OK, the number of rows to out[0], and then each row in
+ * RELEASE_LOG_ROW_SIZE bytes: group, tx, and the update in four bytes, low
+ * byte first. The rest of `out` stays.
  */
 uint32_t release_log_replay(const uint8_t *records, size_t records_len,
     size_t count, uint32_t store, uint8_t *out, size_t out_len);
+
+/* A new take: release_log_add with a take's numbers. */
+static inline uint32_t release_log_add_take(uint8_t *records,
+    size_t records_len, size_t count, uint32_t process, uint32_t store)
+{
+	return release_log_add(records, records_len, count,
+	    RELEASE_LOG_KIND_TAKE, process, 0, store, 0, 0, 0, 0);
+}
+
+/* The numbers of a vote, by name. */
+struct release_log_vote {
+	uint32_t process;
+	uint32_t by;
+	uint32_t store;
+	uint32_t tx;
+	uint32_t list;
+	uint32_t say;
+	uint32_t update;
+};
+
+/* A new vote: release_log_add with these numbers. `vote` is not NULL. */
+static inline uint32_t release_log_add_vote(uint8_t *records,
+    size_t records_len, size_t count, const struct release_log_vote *vote)
+{
+	return release_log_add(records, records_len, count,
+	    RELEASE_LOG_KIND_VOTE, vote->process, vote->by, vote->store,
+	    vote->tx, vote->list, vote->say, vote->update);
+}
 
 #ifdef __cplusplus
 }

@@ -1,5 +1,5 @@
-/* Calls every entry point with buffers of the exact size, each from the heap, so that a memory checker sees a byte too far. Bytes that the
-   library must not look at are never written. */
+/* Calls every entry point with buffers of the exact size, each from the heap, so that a memory
+   checker sees a byte too far. Bytes that the library must not look at are never written. */
 #include <stdio.h>
 #include <stdlib.h>
 #include <string.h>
@@ -46,6 +46,24 @@ static uint32_t add(uint8_t *records, size_t len, size_t count, const uint32_t n
 	return release_log_add(records, len, count, n[0], n[1], n[2], n[3], n[4], n[5], n[6], n[7]);
 }
 
+/* The queries on a buffer as long as the story. */
+static uint32_t outcome(const uint8_t *records, size_t count, uint32_t tx, uint8_t *out, size_t len)
+{
+	return release_log_outcome(records, sizeof story, count, tx, out, len);
+}
+
+static uint32_t involvement(const uint8_t *records, size_t count, uint32_t tx, uint32_t store,
+    uint8_t *out, size_t len)
+{
+	return release_log_involvement(records, sizeof story, count, tx, store, out, len);
+}
+
+static uint32_t replay(const uint8_t *records, size_t count, uint32_t store, uint8_t *out,
+    size_t len)
+{
+	return release_log_replay(records, sizeof story, count, store, out, len);
+}
+
 /* The story, entry by entry, into a buffer that grows by one record of bytes never written. */
 static void test_add(void)
 {
@@ -65,7 +83,7 @@ static void test_add(void)
 	}
 }
 
-/* Each refusal of a new entry behind the story, in a buffer without and with place. */
+/* Each refusal of a new entry after the story, in a buffer without and with place. */
 static void test_add_refused(void)
 {
 	static const struct {
@@ -101,9 +119,10 @@ static void test_no_place(void)
 	expect("full", add(records, sizeof story, 4, take), RELEASE_LOG_NO_PLACE);
 	expect_bytes("full", records, story[0], sizeof story);
 	free(records);
-	records = malloc(sizeof story + RELEASE_LOG_RECORD_SIZE - 1);
+	size_t short_of_it = sizeof story + RELEASE_LOG_RECORD_SIZE - 1;
+	records = malloc(short_of_it);
 	memcpy(records, story, sizeof story);
-	expect("a byte short", add(records, sizeof story + RELEASE_LOG_RECORD_SIZE - 1, 4, take), RELEASE_LOG_NO_PLACE);
+	expect("a byte short", add(records, short_of_it, 4, take), RELEASE_LOG_NO_PLACE);
 	free(records);
 	expect("no buffer", add(NULL, 0, 0, take), RELEASE_LOG_NO_PLACE);
 }
@@ -113,13 +132,14 @@ static void test_count(void)
 {
 	static const uint32_t take[8] = {0, 3, 0, 2, 0, 0, 0, 0};
 	size_t wraps = SIZE_MAX / RELEASE_LOG_RECORD_SIZE + 1;
-	size_t counts[] = {5, SIZE_MAX, SIZE_MAX - 1, SIZE_MAX / 2, SIZE_MAX / RELEASE_LOG_RECORD_SIZE, wraps, wraps + 1, wraps + 4, 2 * wraps};
+	size_t counts[] = {5, SIZE_MAX, SIZE_MAX - 1, SIZE_MAX / 2, wraps - 1, wraps, wraps + 1,
+	    wraps + 4, 2 * wraps};
 	uint8_t *records = lent(story, sizeof story), *out = lent("x", 1);
 	for (size_t i = 0; i < sizeof counts / sizeof *counts; i++) {
 		expect("count", add(records, sizeof story, counts[i], take), RELEASE_LOG_OUTSIDE);
-		expect("count", release_log_outcome(records, sizeof story, counts[i], 4, out, 1), RELEASE_LOG_OUTSIDE);
-		expect("count", release_log_involvement(records, sizeof story, counts[i], 4, 0, out, 1), RELEASE_LOG_OUTSIDE);
-		expect("count", release_log_replay(records, sizeof story, counts[i], 0, out, 1), RELEASE_LOG_OUTSIDE);
+		expect("count", outcome(records, counts[i], 4, out, 1), RELEASE_LOG_OUTSIDE);
+		expect("count", involvement(records, counts[i], 4, 0, out, 1), RELEASE_LOG_OUTSIDE);
+		expect("count", replay(records, counts[i], 0, out, 1), RELEASE_LOG_OUTSIDE);
 	}
 	expect("count of no buffer", release_log_outcome(NULL, 0, 1, 4, out, 1), RELEASE_LOG_OUTSIDE);
 	expect_bytes("count", records, story[0], sizeof story);
@@ -137,7 +157,8 @@ static void test_records(void)
 		uint8_t byte;
 	} faults[] = {
 		{1, 0, 2},  {1, 2, 1},  {1, 7, 1},   {1, 11, 1}, {1, 24 + 6, 2}, {1, 36 + 7, 9}, {2, 1, 0},
-		{2, 13, 16}, {2, 3, 8}, {2, 24 + 4, 32}, {2, 24 + 2, 8}, {7, 24 + 5, 2}, {8, 24 + 1, 2}, {9, 36 + 5, 7}, {11, 13, 1},
+		{2, 13, 16}, {2, 3, 8}, {2, 24 + 4, 32}, {2, 24 + 2, 8}, {7, 24 + 5, 2}, {8, 24 + 1, 2},
+		{9, 36 + 5, 7}, {11, 13, 1},
 	};
 	static const uint32_t bad[8] = {9, 0, 0, 0, 0, 0, 0, 0};
 	for (size_t i = 0; i < sizeof faults / sizeof *faults; i++) {
@@ -145,22 +166,22 @@ static void test_records(void)
 		records[faults[i].at] = faults[i].byte;
 		before = lent(records, sizeof story);
 		expect("records", add(records, sizeof story, 4, bad), faults[i].answer);
-		expect("records", release_log_outcome(records, sizeof story, 4, 99, &out, 0), faults[i].answer);
-		expect("records", release_log_involvement(records, sizeof story, 4, 99, 99, &out, 0), faults[i].answer);
-		expect("records", release_log_replay(records, sizeof story, 4, 99, &out, 0), faults[i].answer);
+		expect("records", outcome(records, 4, 99, &out, 0), faults[i].answer);
+		expect("records", involvement(records, 4, 99, 99, &out, 0), faults[i].answer);
+		expect("records", replay(records, 4, 99, &out, 0), faults[i].answer);
 		expect_bytes("records", records, before, sizeof story);
 		expect("records", out, 'x');
 		free(records);
 		free(before);
 	}
-	/* The same vote twice is 10, and what stands behind the counted records is not looked at. */
+	/* The same vote twice is 10, and what stands after the counted records is not looked at. */
 	uint8_t *records = malloc(sizeof story);
 	memcpy(records, story, 3 * RELEASE_LOG_RECORD_SIZE);
 	uint8_t *out = malloc(1);
-	expect("three", release_log_outcome(records, sizeof story, 3, 4, out, 1), RELEASE_LOG_OK);
-	expect("three", out[0], RELEASE_LOG_IS_OPEN);
+	expect("three", outcome(records, 3, 4, out, 1), RELEASE_LOG_OK);
+	expect("three", out[0], RELEASE_LOG_OUTCOME_OPEN);
 	memcpy(records + 36, story[2], RELEASE_LOG_RECORD_SIZE);
-	expect("twice", release_log_outcome(records, sizeof story, 4, 4, out, 1), RELEASE_LOG_KEPT_ALREADY);
+	expect("twice", outcome(records, 4, 4, out, 1), RELEASE_LOG_KEPT_ALREADY);
 	free(records);
 	free(out);
 }
@@ -168,33 +189,35 @@ static void test_records(void)
 static void test_outcome(void)
 {
 	uint8_t *records = lent(story, sizeof story), *out = lent("xyz", 3);
-	expect("outcome", release_log_outcome(records, sizeof story, 4, 4, out, 3), RELEASE_LOG_OK);
+	expect("outcome", outcome(records, 4, 4, out, 3), RELEASE_LOG_OK);
 	expect_bytes("outcome", out, (const uint8_t *)"\1yz", 3);
-	expect("outcome", release_log_outcome(records, sizeof story, 3, 4, out, 1), RELEASE_LOG_OK);
-	expect("outcome", out[0], RELEASE_LOG_IS_OPEN);
-	expect("outcome of 32", release_log_outcome(records, sizeof story, 4, 32, out, 0), RELEASE_LOG_OUTSIDE);
-	expect("outcome of 260", release_log_outcome(records, sizeof story, 4, 260, out, 1), RELEASE_LOG_OUTSIDE);
-	expect("outcome without place", release_log_outcome(records, sizeof story, 4, 4, NULL, 0), RELEASE_LOG_NO_PLACE);
+	expect("outcome", outcome(records, 3, 4, out, 1), RELEASE_LOG_OK);
+	expect("outcome", out[0], RELEASE_LOG_OUTCOME_OPEN);
+	expect("outcome of 32", outcome(records, 4, 32, out, 0), RELEASE_LOG_OUTSIDE);
+	expect("outcome of 260", outcome(records, 4, 260, out, 1), RELEASE_LOG_OUTSIDE);
+	expect("outcome without place", outcome(records, 4, 4, NULL, 0), RELEASE_LOG_NO_PLACE);
+	expect("outcome of nothing", release_log_outcome(NULL, 0, 0, 4, out, 1), RELEASE_LOG_OK);
+	expect("outcome of nothing", out[0], RELEASE_LOG_OUTCOME_OPEN);
 	free(records);
 	free(out);
-	expect("outcome of nothing", release_log_outcome(NULL, 0, 0, 4, (uint8_t[1]){9}, 1), RELEASE_LOG_OK);
 }
 
 static void test_involvement(void)
 {
-	static const uint8_t wanted[3] = {RELEASE_LOG_INVOLVED, RELEASE_LOG_INVOLVED, RELEASE_LOG_NOT_INVOLVED};
+	static const uint8_t wanted[3] = {
+		RELEASE_LOG_INVOLVED_YES, RELEASE_LOG_INVOLVED_YES, RELEASE_LOG_INVOLVED_NO};
 	uint8_t *records = lent(story, sizeof story), *out = lent("xy", 2);
 	for (uint32_t store = 0; store < 3; store++) {
-		expect("involvement", release_log_involvement(records, sizeof story, 4, 4, store, out, 2), RELEASE_LOG_OK);
+		expect("involvement", involvement(records, 4, 4, store, out, 2), RELEASE_LOG_OK);
 		expect("involvement", out[0], wanted[store]);
 		expect("involvement", out[1], 'y');
 	}
-	expect("involvement", release_log_involvement(records, sizeof story, 4, 5, 0, out, 1), RELEASE_LOG_OK);
-	expect("involvement", out[0], RELEASE_LOG_UNKNOWN);
-	expect("involvement of tx 32", release_log_involvement(records, sizeof story, 4, 32, 0, out, 1), RELEASE_LOG_OUTSIDE);
-	expect("involvement of store 8", release_log_involvement(records, sizeof story, 4, 4, 8, out, 0), RELEASE_LOG_OUTSIDE);
-	expect("involvement without place", release_log_involvement(records, sizeof story, 4, 4, 0, out, 0), RELEASE_LOG_NO_PLACE);
-	expect("involvement", out[0], RELEASE_LOG_UNKNOWN);
+	expect("involvement", involvement(records, 4, 5, 0, out, 1), RELEASE_LOG_OK);
+	expect("involvement", out[0], RELEASE_LOG_INVOLVED_UNKNOWN);
+	expect("involvement of tx 32", involvement(records, 4, 32, 0, out, 1), RELEASE_LOG_OUTSIDE);
+	expect("involvement of store 8", involvement(records, 4, 4, 8, out, 0), RELEASE_LOG_OUTSIDE);
+	expect("involvement without place", involvement(records, 4, 4, 0, out, 0), RELEASE_LOG_NO_PLACE);
+	expect("involvement", out[0], RELEASE_LOG_INVOLVED_UNKNOWN);
 	free(records);
 	free(out);
 }
@@ -203,17 +226,17 @@ static void test_replay(void)
 {
 	static const uint8_t row[7] = {1, 1, 4, 0x0d, 0x0c, 0x0b, 0x0a};
 	uint8_t *records = lent(story, sizeof story), *out = lent("........", 8), *exact = malloc(7);
-	expect("replay", release_log_replay(records, sizeof story, 4, 0, exact, 7), RELEASE_LOG_OK);
+	expect("replay", replay(records, 4, 0, exact, 7), RELEASE_LOG_OK);
 	expect_bytes("replay", exact, row, 7);
-	expect("replay a byte short", release_log_replay(records, sizeof story, 4, 0, out, 6), RELEASE_LOG_NO_PLACE);
+	expect("replay a byte short", replay(records, 4, 0, out, 6), RELEASE_LOG_NO_PLACE);
 	expect_bytes("replay a byte short", out, (const uint8_t *)"........", 8);
-	expect("replay", release_log_replay(records, sizeof story, 4, 0, out, 8), RELEASE_LOG_OK);
+	expect("replay", replay(records, 4, 0, out, 8), RELEASE_LOG_OK);
 	expect_bytes("replay", out, row, 7);
 	expect("replay", out[7], '.');
-	expect("replay of no row", release_log_replay(records, sizeof story, 4, 2, out, 1), RELEASE_LOG_OK);
+	expect("replay of no row", replay(records, 4, 2, out, 1), RELEASE_LOG_OK);
 	expect("replay of no row", out[0], 0);
-	expect("replay of store 8", release_log_replay(records, sizeof story, 4, 8, out, 0), RELEASE_LOG_OUTSIDE);
-	expect("replay without place", release_log_replay(records, sizeof story, 4, 2, NULL, 0), RELEASE_LOG_NO_PLACE);
+	expect("replay of store 8", replay(records, 4, 8, out, 0), RELEASE_LOG_OUTSIDE);
+	expect("replay without place", replay(records, 4, 2, NULL, 0), RELEASE_LOG_NO_PLACE);
 	free(records);
 	free(out);
 	free(exact);

@@ -1,0 +1,191 @@
+//! Files that are not as a host left them: what was not written to its end is dropped, and any
+//! other damage is named and left as it is.
+
+use crate::host::{answer, crc32, slot, slots, Bench, SLOT};
+use crate::longest::longest;
+use crate::plain_log::{Entry, Log, RECORD};
+
+/// The host starts, says that it drops this record, and leaves the file so.
+fn dropped(b: &Bench, bytes: &[u8], record: usize, left: &[u8]) {
+    b.put(bytes);
+    let ran = b.run(b"outcome 31\n");
+    let said = format!("record {record} was not written to its end and is dropped\n");
+    assert!(ran.err.ends_with(&said), "{:?} of {bytes:?}", ran.err);
+    assert_eq!((ran.code, &ran.out[..]), (Some(0), "tx=31 outcome=open\n"));
+    assert_eq!(b.bytes(), left, "what is left of {bytes:?}");
+    let again = b.run(b"");
+    assert_eq!((again.code, &again.err[..]), (Some(0), ""));
+}
+
+/// The host names this record and stops; it answers nothing and leaves the file as it was.
+fn damaged(b: &Bench, bytes: &[u8], record: usize, why: &str) {
+    b.put(bytes);
+    let ran = b.run(b"take 15 7\noutcome 0\n");
+    let said = format!("record {record} is damaged: {why}");
+    assert!(ran.err.contains(&said), "{:?}, not {said:?}, of {bytes:?}", ran.err);
+    assert_eq!((ran.code, &ran.out[..]), (Some(1), ""));
+    assert!(b.bytes() == bytes, "the host changed a damaged file");
+}
+
+fn with_tail(entries: &[Entry], tail: &[u8]) -> Vec<u8> {
+    [&slots(entries), tail].concat()
+}
+
+/// A last slot that was cut short, of zeros, or begun and then zeros.
+fn torn(b: &Bench) {
+    let entries = longest();
+    for n in [0, 1, 9, 375] {
+        let (before, good) = (&entries[..n], slots(&entries[..n]));
+        let next = &slots(&entries[..n + 1])[n * SLOT..];
+        for length in 1..SLOT {
+            dropped(b, &with_tail(before, &next[..length]), n + 1, &good);
+            dropped(b, &with_tail(before, &[0; SLOT][..length]), n + 1, &good);
+        }
+        dropped(b, &with_tail(before, &[0; SLOT]), n + 1, &good);
+        for written in 1..SLOT {
+            let begun = [&next[..written], &[0; SLOT][written..]].concat();
+            if written <= RECORD {
+                dropped(b, &with_tail(before, &begun), n + 1, &good);
+            } else {
+                /* Part of a checksum: as with a spoiled byte, so nothing is dropped. */
+                damaged(b, &with_tail(before, &begun), n + 1, "checksum wrong, answer=0");
+            }
+        }
+    }
+}
+
+/// Only the last slot can be one that was not written to its end.
+fn more_than_the_last(b: &Bench) {
+    let entries = &longest()[..6];
+    damaged(b, &with_tail(entries, &[0; 2 * SLOT]), 7, "checksum wrong, answer=2");
+    damaged(b, &with_tail(entries, &[0; SLOT + 1]), 7, "checksum wrong");
+    damaged(b, &[0; 64], 1, "checksum wrong");
+    let mut cut = slots(entries);
+    cut[3 * SLOT + RECORD..4 * SLOT].fill(0);
+    damaged(b, &cut, 4, "checksum wrong, answer=0");
+    for byte in 0..SLOT {
+        let mut shorter = slots(entries);
+        shorter.remove(2 * SLOT + byte);
+        damaged(b, &shorter, 3, "checksum wrong");
+    }
+}
+
+/// A byte spoiled, at every byte of every record; in the last one to every value.
+fn spoiled(b: &Bench) {
+    let entries = &longest()[..24];
+    let good = slots(entries);
+    for at in 0..good.len() {
+        let record = at / SLOT + 1;
+        let last = record == entries.len();
+        for change in 1..=255u8 {
+            let zeroed = good[at] ^ change == 0;
+            if last || zeroed || [0x01, 0x10, 0x80, 0xff].contains(&change) {
+                let mut bytes = good.clone();
+                bytes[at] ^= change;
+                damaged(b, &bytes, record, "checksum wrong, answer=");
+            }
+        }
+    }
+}
+
+/// Good slots in places that are not theirs.
+fn misplaced(b: &Bench) {
+    let good = slots(&longest()[..8]);
+    for at in 0..7 {
+        let (here, there) = (at * SLOT, (at + 1) * SLOT);
+        let mut swapped = good.clone();
+        (0..SLOT).for_each(|i| swapped.swap(here + i, there + i));
+        damaged(b, &swapped, at + 1, "checksum wrong");
+        let mut missing = good.clone();
+        missing.drain(here..there);
+        damaged(b, &missing, at + 1, "checksum wrong");
+        let twice = [&good[..there], &good[here..]].concat();
+        damaged(b, &twice, at + 2, "checksum wrong");
+    }
+}
+
+/// Bytes of somebody else at the end, or from the start.
+fn garbage(b: &Bench) {
+    let text = "Somebody wrote a text of some length to the end of the file of records.\n";
+    for length in 1..=text.len() {
+        damaged(b, &with_tail(&longest()[..3], &text.as_bytes()[..length]), 4, "checksum wrong");
+        damaged(b, &text.as_bytes()[..length], 1, "checksum wrong, answer=1");
+    }
+    damaged(b, &with_tail(&longest()[..3], b"\n"), 4, "checksum wrong");
+    damaged(b, &with_tail(&longest()[..3], &[0xff; SLOT]), 4, "checksum wrong");
+    /* Records without checksums, as a host may keep them elsewhere. */
+    let plain: Vec<u8> = longest()[..4].iter().flat_map(|e| e.to_record()).collect();
+    damaged(b, &plain, 1, "checksum wrong, answer=0");
+}
+
+/// Whole slots with a record that the log refuses: the record and its refusal are named.
+fn refused(b: &Bench) {
+    let start = [Entry::Take { process: 1, store: 0 }, Entry::Take { process: 2, store: 1 }];
+    let vote = [1, 1, 0, 0, 4, 3, 1, 0, 10, 0, 0, 0];
+    let mut before = slots(&start);
+    before.extend(slot(2, &vote));
+    for (record, refusal) in [
+        ([2, 3, 0, 2, 0, 0, 0, 0, 0, 0, 0, 0], 1),
+        ([0, 3, 0, 2, 0, 0, 0, 1, 0, 0, 0, 0], 1),
+        ([0, 16, 0, 2, 0, 0, 0, 0, 0, 0, 0, 0], 2),
+        ([0, 3, 0, 8, 0, 0, 0, 0, 0, 0, 0, 0], 2),
+        ([1, 2, 1, 1, 4, 1, 1, 0, 0, 0, 0, 0], 7),
+        ([1, 3, 1, 1, 4, 3, 1, 0, 0, 0, 0, 0], 8),
+        ([1, 2, 1, 1, 4, 7, 1, 0, 0, 0, 0, 0], 9),
+        (vote, 10),
+        ([0, 1, 0, 2, 0, 0, 0, 0, 0, 0, 0, 0], 11),
+    ] {
+        let mut bytes = [&before[..], &slot(3, &record)].concat();
+        let why = format!("checksum right, {}\n", answer(refusal));
+        damaged(b, &bytes, 4, &why);
+        bytes.extend(slot(4, &[0, 3, 0, 2, 0, 0, 0, 0, 0, 0, 0, 0]));
+        damaged(b, &bytes, 4, &why);
+    }
+}
+
+/// More than a log can have.
+fn too_many(b: &Bench) {
+    let entries = longest();
+    for tail in [&slot(376, &entries[0].to_record())[..], &[0; SLOT], b"x", &[1; 5 * SLOT]] {
+        let bytes = with_tail(&entries, tail);
+        b.put(&bytes);
+        let ran = b.run(b"outcome 0\n");
+        if tail == [0; SLOT] {
+            assert!(ran.err.contains("record 377 was not written to its end and is dropped"));
+        } else {
+            assert!(ran.err.contains("record 377 is damaged: a log has no more than 376"));
+            assert!(ran.code == Some(1) && b.bytes() == bytes);
+        }
+    }
+}
+
+/// No change of one byte leaves a checksum as it was or makes it 0: all 12 bytes, all changes.
+fn checksum() {
+    assert_eq!(crc32(b"123456789"), 0xcbf4_3926);
+    let (mut log, entries) = (Log::new(), longest());
+    entries.iter().for_each(|e| assert_eq!(log.enter(e), 0));
+    for (index, e) in entries.iter().enumerate() {
+        let record = e.to_record();
+        let sum = &slot(index, &record)[RECORD..];
+        assert!(sum.iter().filter(|&&byte| byte != 0).count() >= 2);
+        for at in 0..RECORD {
+            for change in 1..=255 {
+                let mut other = record;
+                other[at] ^= change;
+                assert_ne!(&slot(index, &other)[RECORD..], sum);
+            }
+        }
+    }
+}
+
+pub fn all(b: &Bench) {
+    checksum();
+    torn(b);
+    more_than_the_last(b);
+    spoiled(b);
+    misplaced(b);
+    garbage(b);
+    refused(b);
+    too_many(b);
+    println!("it drops what was not written to its end, and names any other damage");
+}

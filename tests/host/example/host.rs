@@ -1,0 +1,152 @@
+//! Runs of the example host, and the bytes of its file as the comment of host.c has them.
+
+use crate::plain_log::{Entry, RECORD};
+use std::fs;
+use std::io::{BufRead, BufReader, Write};
+use std::path::{Path, PathBuf};
+use std::process::{Child, ChildStdin, ChildStdout, Command, Stdio};
+
+pub const SLOT: usize = 16;
+
+/// A file that is emptied first may go to the disk when it is closed, which takes a while.
+fn write_in_place(path: &Path, bytes: &[u8]) {
+    let file = fs::OpenOptions::new().write(true).create(true).truncate(false).open(path);
+    let mut file = file.expect("a file");
+    file.write_all(bytes).expect("its bytes");
+    file.set_len(bytes.len() as u64).expect("its length");
+}
+
+/// What a run printed, and how it ended: an exit code, or none if it was killed.
+pub struct Ran {
+    pub out: String,
+    pub err: String,
+    pub code: Option<i32>,
+}
+
+/// The host's program, the library of faults, and a folder for files.
+pub struct Bench {
+    pub program: PathBuf,
+    pub faults: PathBuf,
+    pub dir: PathBuf,
+}
+
+impl Bench {
+    pub fn file(&self) -> PathBuf {
+        self.dir.join("records")
+    }
+
+    pub fn put(&self, bytes: &[u8]) {
+        write_in_place(&self.file(), bytes);
+    }
+
+    pub fn bytes(&self) -> Vec<u8> {
+        fs::read(self.file()).expect("the file is read")
+    }
+
+    pub fn command(&self, file: &Path) -> Command {
+        let mut command = Command::new(&self.program);
+        command.arg(file);
+        command
+    }
+
+    /// A host to which the system does what FAULT says.
+    pub fn faulty(&self, fault: &str) -> Command {
+        let mut command = self.command(&self.file());
+        command.env("LD_PRELOAD", &self.faults).env("FAULT", fault);
+        command
+    }
+
+    /// The input goes through a file, so that neither side waits for the other.
+    pub fn run_with(&self, mut command: Command, input: &[u8]) -> Ran {
+        let lines = self.dir.join("lines");
+        write_in_place(&lines, input);
+        command.stdin(fs::File::open(&lines).expect("the input"));
+        let output = command.output().expect("the host runs");
+        Ran {
+            out: String::from_utf8_lossy(&output.stdout).into_owned(),
+            err: String::from_utf8_lossy(&output.stderr).into_owned(),
+            code: output.status.code(),
+        }
+    }
+
+    pub fn run(&self, input: &[u8]) -> Ran {
+        self.run_with(self.command(&self.file()), input)
+    }
+}
+
+/// A host that is running, asked line by line.
+pub struct Running {
+    pub child: Child,
+    pub input: ChildStdin,
+    pub output: BufReader<ChildStdout>,
+}
+
+impl Running {
+    pub fn start(mut command: Command) -> Running {
+        command.stdin(Stdio::piped()).stdout(Stdio::piped()).stderr(Stdio::null());
+        let mut child = command.spawn().expect("the host starts");
+        let input = child.stdin.take().expect("its input");
+        let output = BufReader::new(child.stdout.take().expect("its output"));
+        Running { child, input, output }
+    }
+
+    pub fn ask(&mut self, line: &str) -> String {
+        writeln!(self.input, "{line}").expect("the host reads");
+        let mut answer = String::new();
+        self.output.read_line(&mut answer).expect("the host answers");
+        answer
+    }
+
+    pub fn kill(&mut self) {
+        self.child.kill().expect("the host is killed");
+        self.child.wait().expect("the host ended");
+    }
+}
+
+/// CRC-32, bit by bit.
+pub fn crc32(bytes: &[u8]) -> u32 {
+    let step = |sum: u32| if sum & 1 == 1 { sum >> 1 ^ 0xedb8_8320 } else { sum >> 1 };
+    !bytes.iter().fold(!0, |sum, &b| (0..8).fold(sum ^ b as u32, |sum, _| step(sum)))
+}
+
+pub fn slot(index: usize, record: &[u8; RECORD]) -> [u8; SLOT] {
+    let mut slot = [0; SLOT];
+    slot[..RECORD].copy_from_slice(record);
+    let sum = crc32(&[&(index as u32).to_le_bytes()[..], record].concat()) | 0x8000_0001;
+    slot[RECORD..].copy_from_slice(&sum.to_le_bytes());
+    slot
+}
+
+/// The file that the host has after these entries.
+pub fn slots(entries: &[Entry]) -> Vec<u8> {
+    entries.iter().enumerate().flat_map(|(i, e)| slot(i, &e.to_record())).collect()
+}
+
+/// The entry as a command.
+pub fn line(e: &Entry) -> String {
+    match e {
+        Entry::Take { process, store } => format!("take {process} {store}"),
+        Entry::Vote(v) => {
+            let say = if v.commit { "commit" } else { "abort" };
+            let (process, by, store, tx) = (v.process, v.by, v.store, v.tx);
+            format!("vote {process} {by} {store} {tx} {:02x} {say} {:08x}", v.list, v.update)
+        }
+    }
+}
+
+/// The line that answers an entry.
+pub fn answer(number: u32) -> String {
+    let meaning = match number {
+        0 => "accepted",
+        1 => "does not read as an entry",
+        2 => "a number outside its limits",
+        6 => "no place left",
+        7 => "an ill-formed vote",
+        8 => "the process does not hold that store",
+        9 => "a commit vote with another list is kept",
+        10 => "a vote of that store is kept already",
+        11 => "holds or held a store",
+        _ => "unknown",
+    };
+    format!("answer={number} {meaning}")
+}

@@ -1,0 +1,260 @@
+//! Lines, good and bad: what they are answered, and that a bad one changes nothing.
+
+use crate::host::{answer, line, slots, Bench};
+use crate::longest::longest;
+use crate::plain_log::{Entry, Log, STORES, TRANSACTIONS};
+
+const TAKES: [Entry; 2] =
+    [Entry::Take { process: 1, store: 0 }, Entry::Take { process: 2, store: 1 }];
+
+const USAGE: &str = "error: unknown command; usage: take PROCESS STORE, \
+    vote PROCESS BY STORE TX LIST commit|abort UPDATE, outcome TX, involvement TX STORE, \
+    replay STORE";
+
+/// Each line is given to a host that has TAKES. It must be answered so, and the file must stay.
+fn unchanged(b: &Bench, cases: &[(Vec<u8>, String)]) {
+    b.put(&slots(&TAKES));
+    let input: Vec<u8> = cases.iter().flat_map(|(line, _)| [&line[..], b"\n"].concat()).collect();
+    let ran = b.run(&input);
+    let out: Vec<&str> = ran.out.lines().collect();
+    for (i, (line, expected)) in cases.iter().enumerate() {
+        let line = String::from_utf8_lossy(line);
+        assert_eq!(out.get(i), Some(&&expected[..]), "{:?}", &line[..line.len().min(120)]);
+    }
+    assert_eq!((out.len(), ran.code, &ran.err[..]), (cases.len(), Some(0), ""));
+    assert_eq!(b.bytes(), slots(&TAKES), "a line that was refused changed the file");
+}
+
+fn case(line: &str, expected: &str) -> (Vec<u8>, String) {
+    (line.as_bytes().to_vec(), expected.to_string())
+}
+
+/// The line of README.md, twice, and every command.
+fn answers(b: &Bench) {
+    b.put(b"");
+    let readme = b"take 1 0\nvote 1 0 0 4 01 commit 0000000a\noutcome 4\n";
+    assert_eq!(b.run(readme).out, "answer=0 accepted\nanswer=0 accepted\ntx=4 outcome=commit\n");
+    let again = [&answer(11), &answer(10), "tx=4 outcome=commit\n"].join("\n");
+    assert_eq!(b.run(readme).out, again);
+    let more = "take 2 1\nvote 2 1 1 5 03 abort 00000000\noutcome 5\noutcome 6\n\
+        involvement 5 0\ninvolvement 4 7\ninvolvement 6 0\nreplay 0\nreplay 1";
+    let expected = "answer=0 accepted\nanswer=0 accepted\ntx=5 outcome=abort\ntx=6 outcome=open\n\
+        tx=5 store=0 involved=yes\ntx=4 store=7 involved=no\ntx=6 store=0 involved=unknown\n\
+        store=0 group=1 tx=4 upd=0000000a\nrows=1\nrows=0\n";
+    assert_eq!(b.run(more.as_bytes()).out, expected);
+}
+
+const NO_DECIMALS: [&str; 19] = [
+    "4294967297",
+    "-4294967294",
+    "4294967296",
+    "18446744073709551617",
+    "99999999999999999999999",
+    "-1",
+    "+1",
+    "-0",
+    "01",
+    "00",
+    "0x1",
+    "1a",
+    "a",
+    "1.0",
+    "1e0",
+    "\t1",
+    "1\r",
+    "1\t",
+    "٣",
+];
+
+const NO_LISTS: [&str; 12] =
+    ["1", "001", "100", "0g", "0A", "FF", "0x", "-1", "+1", "1\t", "\r1", "٣"];
+
+const NO_UPDATES: [&str; 11] = [
+    "a",
+    "0000000",
+    "000000000",
+    "10000000a",
+    "0000000A",
+    "0x00000a",
+    "-0000001",
+    "+000000a",
+    "0000000g",
+    "100000000",
+    "0000000\r",
+];
+
+const NO_SAYS: [&str; 7] = ["Commit", "ABORT", "commi", "commits", "0", "1", "abort\r"];
+
+/// Words that are no number, in each place for one.
+fn numbers(b: &Bench) {
+    let vote = "vote 1 0 0 4 01 commit 0000000a";
+    let mut cases = Vec::new();
+    for (good, places) in [
+        ("take 3 2", 1..3),
+        (vote, 1..5),
+        ("outcome 4", 1..2),
+        ("involvement 4 0", 1..3),
+        ("replay 0", 1..2),
+    ] {
+        for place in places {
+            put_in(&mut cases, good, place, &NO_DECIMALS, "is no decimal of 0 to 4294967295");
+        }
+    }
+    put_in(&mut cases, vote, 5, &NO_LISTS, "is not 2 lower-case hexadecimal digits");
+    put_in(&mut cases, vote, 6, &NO_SAYS, "is neither commit nor abort");
+    put_in(&mut cases, vote, 7, &NO_UPDATES, "is not 8 lower-case hexadecimal digits");
+    unchanged(b, &cases);
+}
+
+/// The good line with each bad word in that place.
+fn put_in(cases: &mut Vec<(Vec<u8>, String)>, good: &str, place: usize, bad: &[&str], why: &str) {
+    for word in bad {
+        let mut words: Vec<&str> = good.split(' ').collect();
+        words[place] = word;
+        cases.push(case(&words.join(" "), &format!("error: '{word}' {why}")));
+    }
+}
+
+/// Numbers that read and are outside their limits: the library's 2, not another number.
+fn limits(b: &Bench) {
+    let lines = [
+        "take 0 2",
+        "take 16 2",
+        "take 257 2",
+        "take 4294967295 2",
+        "take 3 8",
+        "take 3 256",
+        "vote 1 8 0 4 01 commit 0000000a",
+        "vote 1 0 256 4 01 commit 0000000a",
+        "vote 1 0 0 32 01 commit 0000000a",
+        "vote 16 0 0 4 01 commit 0000000a",
+        "outcome 32",
+        "outcome 4294967295",
+        "involvement 32 0",
+        "involvement 0 8",
+        "replay 8",
+        "replay 256",
+    ];
+    let mut cases: Vec<_> = lines.iter().map(|line| case(line, &answer(2))).collect();
+    cases.push(case("vote 1 0 0 4 00 commit 0000000a", &answer(7)));
+    cases.push(case("vote 1 1 1 4 ff commit ffffffff", &answer(8)));
+    unchanged(b, &cases);
+}
+
+/// No command, words missing and words too many; one space between two.
+fn words(b: &Bench) {
+    let unknown = [
+        "",
+        " ",
+        "  ",
+        "tak 1 0",
+        "taken 1 0",
+        "Take 3 2",
+        "TAKE 3 2",
+        " take 3 2",
+        "take\t3\t2",
+        "what?",
+        "take3 2",
+        "\r",
+        "votes 1 0 0 4 01 commit 0000000a",
+        "help",
+        "usage",
+        "outcome4",
+        "do=take proc=3 store=2",
+        "a b c d e f g h i j k l m n o p q r s t u v w x y z",
+    ];
+    let mut cases: Vec<_> = unknown.iter().map(|line| case(line, USAGE)).collect();
+    for (form, good) in [
+        ("take PROCESS STORE", "take 3 2"),
+        ("vote PROCESS BY STORE TX LIST commit|abort UPDATE", "vote 1 0 0 4 01 commit 0000000a"),
+        ("outcome TX", "outcome 4"),
+        ("involvement TX STORE", "involvement 4 0"),
+        ("replay STORE", "replay 0"),
+    ] {
+        let usage = format!("error: usage: {form}");
+        let words: Vec<&str> = good.split(' ').collect();
+        for n in 1..words.len() {
+            cases.push(case(&words[..n].join(" "), &usage));
+            let doubled = [words[..n].join(" "), words[n..].join(" ")].join("  ");
+            cases.push(case(&doubled, &usage));
+        }
+        for more in [" ", " 0", " 0 0 0 0 0 0 0 0 0 0 0 0", " x", " \r"] {
+            cases.push(case(&format!("{good}{more}"), &usage));
+        }
+    }
+    unchanged(b, &cases);
+}
+
+/// Lines of every length around the limit, and long ones: the end of each is a good command, so
+/// a host that cuts lines would obey it.
+fn lengths(b: &Bench) {
+    let mut cases = Vec::new();
+    let long = "error: a line of more than 100 bytes";
+    for length in (8..=330).chain([511, 512, 1000, 4095, 4096, 4097, 8200, 65_536, 1 << 20]) {
+        for fill in ["x", " "] {
+            let line = fill.repeat(length - 8) + "take 3 2";
+            let expected = if length > 100 { long } else { USAGE };
+            if length > 8 {
+                cases.push(case(&line, expected));
+            }
+        }
+        let zeros = "0".repeat(length);
+        let line = format!("outcome {zeros}");
+        let no_decimal = format!("error: '{zeros}' is no decimal of 0 to 4294967295");
+        cases.push(case(&line, if line.len() > 100 { long } else { &no_decimal }));
+    }
+    for line in [&b"take 3 2\0"[..], b"\0", b"\0take 3 2", b"take\x003 2", b"take 3 2\0 0"] {
+        cases.push((line.to_vec(), "error: a line with a zero byte".to_string()));
+    }
+    unchanged(b, &cases);
+}
+
+/// The last line may lack its LF.
+fn last_line(b: &Bench) {
+    b.put(b"");
+    assert_eq!(b.run(b"take 1 0").out, answer(0) + "\n");
+    assert_eq!(b.bytes(), slots(&TAKES[..1]));
+    assert_eq!(b.run(b"").out, "");
+    let long = [b'x'; 101];
+    assert_eq!(b.run(&long).out, "error: a line of more than 100 bytes\n");
+}
+
+/// As many entries as a log accepts; a new host then tells of them what the plain log does.
+fn whole_log(b: &Bench) {
+    let entries = longest();
+    let lines = |entries: &[Entry]| -> String { entries.iter().map(|e| line(e) + "\n").collect() };
+    b.put(b"");
+    let ran = b.run(lines(&entries).as_bytes());
+    assert_eq!(ran.out, (answer(0) + "\n").repeat(entries.len()));
+    assert_eq!(b.bytes(), slots(&entries));
+    let mut log = Log::new();
+    entries.iter().for_each(|e| assert_eq!(log.enter(e), 0));
+    let (mut asked, mut expected) = (String::new(), String::new());
+    for store in 0..STORES as u8 {
+        let rows = log.replay(store);
+        asked += &format!("replay {store}\n");
+        for (group, tx, upd) in &rows {
+            expected += &format!("store={store} group={group} tx={tx} upd={upd:08x}\n");
+        }
+        expected += &format!("rows={}\n", rows.len());
+    }
+    for tx in 0..TRANSACTIONS as u8 {
+        asked += &format!("outcome {tx}\n");
+        expected += &format!("tx={tx} outcome={}\n", log.outcome(tx).word());
+    }
+    assert_eq!(b.run(asked.as_bytes()).out, expected);
+    let again: String = entries.iter().map(|e| answer(log.clone().enter(e)) + "\n").collect();
+    assert_eq!(b.run(lines(&entries).as_bytes()).out, again);
+    assert_eq!(b.bytes(), slots(&entries));
+}
+
+pub fn all(b: &Bench) {
+    answers(b);
+    numbers(b);
+    limits(b);
+    words(b);
+    lengths(b);
+    last_line(b);
+    whole_log(b);
+    println!("the example host answers good lines, and refuses bad ones without a change");
+}

@@ -1,0 +1,66 @@
+/* The header by itself, as C and as C++: no value changes, and the helpers are the calls they
+   stand for. */
+#include "release_log.h"
+
+#include <stdio.h>
+#include <string.h>
+
+#define SAME(name, value) typedef char name##_is_##value[(name) == (value) ? 1 : -1]
+
+SAME(RELEASE_LOG_OK, 0);
+SAME(RELEASE_LOG_UNREADABLE, 1);
+SAME(RELEASE_LOG_OUTSIDE, 2);
+SAME(RELEASE_LOG_NO_PLACE, 6);
+SAME(RELEASE_LOG_ILL_FORMED, 7);
+SAME(RELEASE_LOG_NOT_HOLDER, 8);
+SAME(RELEASE_LOG_OTHER_LIST, 9);
+SAME(RELEASE_LOG_KEPT_ALREADY, 10);
+SAME(RELEASE_LOG_HOLDS_OR_HELD, 11);
+SAME(RELEASE_LOG_KIND_TAKE, 0);
+SAME(RELEASE_LOG_KIND_VOTE, 1);
+SAME(RELEASE_LOG_SAY_ABORT, 0);
+SAME(RELEASE_LOG_SAY_COMMIT, 1);
+SAME(RELEASE_LOG_OUTCOME_OPEN, 0);
+SAME(RELEASE_LOG_OUTCOME_COMMIT, 1);
+SAME(RELEASE_LOG_OUTCOME_ABORT, 2);
+SAME(RELEASE_LOG_INVOLVED_NO, 0);
+SAME(RELEASE_LOG_INVOLVED_YES, 1);
+SAME(RELEASE_LOG_INVOLVED_UNKNOWN, 2);
+SAME(RELEASE_LOG_PROCESSES, 15);
+SAME(RELEASE_LOG_STORES, 8);
+SAME(RELEASE_LOG_TRANSACTIONS, 32);
+SAME(RELEASE_LOG_RECORD_SIZE, 12);
+SAME(RELEASE_LOG_ROW_SIZE, 6);
+SAME(RELEASE_LOG_RECORDS_MOST, 376);
+SAME(RELEASE_LOG_RECORDS_ROOM, 4512);
+SAME(RELEASE_LOG_REPLAY_ROOM, 193);
+SAME(RELEASE_LOG_VERSION_MAJOR, 1);
+
+int main(void)
+{
+	uint8_t ours[2 * RELEASE_LOG_RECORD_SIZE] = {0}, plain[2 * RELEASE_LOG_RECORD_SIZE] = {0};
+	uint8_t value = RELEASE_LOG_OUTCOME_OPEN;
+	struct release_log_vote vote;
+	int same;
+	vote.process = 3;
+	vote.by = 5;
+	vote.store = 5;
+	vote.tx = 9;
+	vote.list = 0x20;
+	vote.say = RELEASE_LOG_SAY_COMMIT;
+	vote.update = 0x01020304;
+
+	same = release_log_add_take(ours, sizeof ours, 0, 3, 5) == RELEASE_LOG_OK;
+	same &= release_log_add_vote(ours, sizeof ours, 1, &vote) == RELEASE_LOG_OK;
+	same &= release_log_add(plain, sizeof plain, 0, 0, 3, 0, 5, 0, 0, 0, 0) == RELEASE_LOG_OK;
+	same &= release_log_add(plain, sizeof plain, 1, 1, 3, 5, 5, 9, 0x20, 1, 0x01020304) ==
+	    RELEASE_LOG_OK;
+	same &= memcmp(ours, plain, sizeof ours) == 0;
+	same &= release_log_outcome(ours, sizeof ours, 2, 9, &value, 1) == RELEASE_LOG_OK;
+	same &= value == RELEASE_LOG_OUTCOME_COMMIT;
+	same &= release_log_add_take(ours, sizeof ours, 2, 3, 6) == RELEASE_LOG_HOLDS_OR_HELD;
+	same &= release_log_add_take(ours, sizeof ours, 2, 4, 6) == RELEASE_LOG_NO_PLACE;
+	same &= release_log_add_vote(ours, sizeof ours, 2, &vote) == RELEASE_LOG_KEPT_ALREADY;
+	puts(same ? "the header's values and helpers as expected" : "a helper is not its call");
+	return !same;
+}
