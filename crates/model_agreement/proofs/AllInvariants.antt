@@ -22,15 +22,15 @@ use Rattle.model_protocol.specs.declared.Heard.{Heard}
 use Rattle.model_protocol.specs.declared.Message.{Message}
 use Rattle.model_protocol.specs.declared.World.{World}
 use Rattle.model_protocol.specs.Batch.{noEntry}
-use Rattle.model_protocol.specs.Limits.{cellPlaces, processPlaces, queuePlaces}
+use Rattle.model_protocol.specs.Limits.{slotPlaces, processPlaces, queuePlaces}
 use Rattle.model_protocol.specs.Message.{noMessage}
 use Rattle.model_protocol.specs.Queue.{queueOf}
 use Rattle.model_protocol.specs.Step.{run, stepOf}
-use Rattle.model_protocol.specs.World.{emptyCell, freshCoordinator, freshProcess, freshWorld}
+use Rattle.model_protocol.specs.World.{emptySlot, freshCoordinator, freshProcess, freshWorld}
 use Rattle.model_agreement.specs.Bounds.{CellRange, CoRange}
 use Rattle.model_agreement.specs.Claim.{plainLog}
 use Rattle.model_agreement.specs.Content.{Content}
-use Rattle.model_agreement.specs.History.{Accepts, Event, Got, LastOpened, Learns, Since, acceptors, asked, before, delivered, here, history, heardOf, historyFrom, kept, later, learns, noted, opened, restoredOf, restoring, setup, still, there}
+use Rattle.model_agreement.specs.History.{Accepts, Event, Got, LastOpened, Learns, Since, acceptors, asked, before, delivered, here, history, heardOf, historyFrom, kept, later, learns, noted, opened, restoredOf, restoring, setup, withoutMessages, there}
 use Rattle.model_agreement.proofs.HistoryKept.{Hist, hist-move}
 use Rattle.model_agreement.proofs.BallotInvariant.{Inv, Said, attempt, holding, inv-move, sent-up}
 use Rattle.model_agreement.proofs.ProcessesKeep.{Keeps, Kept, kept-move}
@@ -162,7 +162,7 @@ no-accepts (only-setup n) (later y) = elim y [ ]
 
 no-last : {n : ℕ} {h : List Event} {k i b : ℕ} → Blank n h → LastOpened k i b h → ⊥
 no-last nothing y = elim y [ ]
-no-last (only-setup n) (still o y) = elim y [ ]
+no-last (only-setup n) (withoutMessages o y) = elim y [ ]
 
 no-since : {n : ℕ} {h : List Event} {k i b a : ℕ} → Blank n h → Since k i b a h → ⊥
 no-since nothing y = elim y [ ]
@@ -208,7 +208,7 @@ module _ (n : ℕ) where
   fresh-shape : Shape (withAcceptors freshWorld n)
   unfolding freshWorld
   fresh-shape = record {
-    cell-row = length-replicate cellPlaces emptyCell;
+    slot-row = length-replicate slotPlaces emptySlot;
     co-row = length-replicate coordinators freshCoordinator;
     log-row = length-replicate coordinators emptyLog;
     process-row = length-replicate processPlaces freshProcess;
@@ -228,14 +228,14 @@ module _ (n : ℕ) where
   unfolding freshWorld freshCoordinator
   fresh-range = record {
     sent = λ a. absurd (at-none a);
-    cells = λ k. subst (λ x. CellRange x) (same-each cellPlaces k emptyCell) (record { promised = omega arith; ballot = omega arith });
+    slots = λ k. subst (λ x. CellRange x) (same-each slotPlaces k emptySlot) (record { promised = omega arith; ballot = omega arith });
     cos =
         λ k. subst (λ c. CoRange n c) (same-each coordinators k freshCoordinator)
         (record {
           applied = omega arith;
           room = λ h. absurd (omega arith);
           ballot = omega arith;
-          held = omega arith;
+          accepted = omega arith;
           promises = pow-pos n;
           acceptances = pow-pos n;
         });
@@ -249,7 +249,7 @@ module _ (n : ℕ) where
     positive = λ s. absurd (nothing-sent s);
     why = λ s. absurd (nothing-sent s);
     bound = λ s. absurd (nothing-sent s);
-    held = λ s. absurd (nothing-sent s);
+    accepted = λ s. absurd (nothing-sent s);
     prior = λ s. absurd (nothing-sent s);
   }
 
@@ -270,7 +270,7 @@ module _ (n : ℕ) where
   fresh-inv = record {
     core = fresh-core;
     acc =
-        λ a i g. subst (λ x. AccOk (Said (replicate messages noMessage) 0) a i (holding x)) (same-each cellPlaces (a * instances + i) emptyCell)
+        λ a i g. subst (λ x. AccOk (Said (replicate messages noMessage) 0) a i (holding x)) (same-each slotPlaces (a * instances + i) emptySlot)
         (record { promises = λ s. absurd (nothing-sent s); votes = λ s. absurd (nothing-sent s); order = omega arith; pair = inl refl });
     co =
         λ k. subst (λ c. CoOk n (Said (replicate messages noMessage) 0) k (c .applied) (attempt (c .round)))
@@ -297,7 +297,7 @@ module _ (n : ℕ) where
     unfolding freshWorld
     fresh-hist = record {
       acc =
-          λ a i g. subst (λ x. AccHist h (Said (replicate messages noMessage) 0) a i (x .promised)) (same-each cellPlaces (a * instances + i) emptyCell)
+          λ a i g. subst (λ x. AccHist h (Said (replicate messages noMessage) 0) a i (x .promised)) (same-each slotPlaces (a * instances + i) emptySlot)
           (record {
             top = record { prepares = λ y. absurd (no-got z y); accepts = λ y. absurd (no-got z y) };
             least = λ b N. omega arith;

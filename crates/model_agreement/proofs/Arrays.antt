@@ -32,13 +32,13 @@ module _ {X : Type 0} where
       go (no h) = subst (λ y. P (getD y j d)) (sym (set-out l k x (omega arith))) (f j)
 
   -- a row by acceptor and instance: the element of a and i changes
-  pub cell-ind : (P : ℕ → ℕ → X → Type 0) (l : List X) (d : X) (a i : ℕ) (x : X)
+  pub slot-ind : (P : ℕ → ℕ → X → Type 0) (l : List X) (d : X) (a i : ℕ) (x : X)
       → i < instances
       → a * instances + i < length l
       → P a i x
       → ((b j : ℕ) → j < instances → (a ≢ b) ⊎ (i ≢ j) → P b j (getD l (b * instances + j) d))
       → (b j : ℕ) → j < instances → P b j (getD (set l (a * instances + i) x) (b * instances + j) d)
-  cell-ind P l d a i x g h p f b j q = go (ℕ-discrete a b) (ℕ-discrete i j)
+  slot-ind P l d a i x g h p f b j q = go (ℕ-discrete a b) (ℕ-discrete i j)
     where
       k : ℕ
       k = a * instances + i
@@ -53,8 +53,8 @@ module _ {X : Type 0} where
       go (no d′) (no e) = other (inl d′) (omega arith)
 
 -- at a and i, and elsewhere, where nothing is stored
-pub cell-cases : (P : ℕ → ℕ → Type 0) (a i : ℕ) → P a i → ((b j : ℕ) → (a ≢ b) ⊎ (i ≢ j) → P b j) → (b j : ℕ) → P b j
-cell-cases P a i p f b j = go (ℕ-discrete a b) (ℕ-discrete i j)
+pub slot-cases : (P : ℕ → ℕ → Type 0) (a i : ℕ) → P a i → ((b j : ℕ) → (a ≢ b) ⊎ (i ≢ j) → P b j) → (b j : ℕ) → P b j
+slot-cases P a i p f b j = go (ℕ-discrete a b) (ℕ-discrete i j)
   where
     go : Dec (a ≡ b) → Dec (i ≡ j) → P b j
     go (yes d) (yes e) = rw (← d, ← e) p

@@ -15,7 +15,7 @@ use Rattle.model_paxos.proofs.Grow.{AccOk, Attempt, Best, CoOk, Holding, New, N
 use Rattle.model_paxos.proofs.Local.{acc-accepted, acc-promise, co-count, co-hear, co-learn, co-open, co-others, co-propose}
 use Rattle.model_paxos.proofs.Sets.{majority→, with-lt}
 use Rattle.model_protocol.specs.declared.Batch.{Batch}
-use Rattle.model_protocol.specs.declared.Cell.{Cell}
+use Rattle.model_protocol.specs.declared.AcceptorSlot.{AcceptorSlot}
 use Rattle.model_protocol.specs.declared.Coordinator.{Coordinator}
 use Rattle.model_protocol.specs.declared.Message.{Message}
 use Rattle.model_protocol.specs.declared.Round.{Round}
@@ -23,10 +23,10 @@ use Rattle.model_protocol.specs.declared.World.{World}
 use Rattle.model_protocol.specs.Batch.{noBatch}
 use Rattle.model_protocol.specs.Coordinator.{batchToPropose, counting, hearing, learning, withRound}
 use Rattle.model_protocol.specs.Queue.{firstBatch}
-use Rattle.model_protocol.specs.World.{cellOf, coordinatorOf, emptyCell, freshCoordinator}
+use Rattle.model_protocol.specs.World.{slotOf, coordinatorOf, emptySlot, freshCoordinator}
 use Rattle.model_agreement.specs.Content.{Content, paxos, request, restore, tell}
 use Rattle.model_agreement.specs.History.{Event}
-use Rattle.model_agreement.proofs.Arrays.{cell-ind, set-ind}
+use Rattle.model_agreement.proofs.Arrays.{slot-ind, set-ind}
 use Rattle.model_agreement.proofs.Range.{Range}
 use Rattle.model_agreement.proofs.Shape.{Shape}
 use Rattle.model_agreement.proofs.StepEffects.{Higher, Move, asks, counts, crashes, hears, is-told, joins, learns, opens, ours, passes-accept, passes-accepted, passes-prepare, passes-promise, passes-request, passes-restore, promises, proposes, restores, takes, tells, theirs, votes}
@@ -93,29 +93,29 @@ pub data Mail : Content → Type 0 where
   is-tell : (p t : ℕ) (o : _) → Mail (tell p t o)
   is-restore : (p s i : ℕ) (r : _) → Mail (restore p s i r)
 
-no-mail : {y : Content} {m : Paxos Batch} → Mail y → New y (paxos m) → ⊥
-no-mail (is-request k e) t = elim t [ ]
-no-mail (is-tell p t o) t′ = elim t′ [ ]
-no-mail (is-restore p s i r) t = elim t [ ]
+no-direct-message : {y : Content} {m : Paxos Batch} → Mail y → New y (paxos m) → ⊥
+no-direct-message (is-request k e) t = elim t [ ]
+no-direct-message (is-tell p t o) t′ = elim t′ [ ]
+no-direct-message (is-restore p s i r) t = elim t [ ]
 
-pub said-mail : {ms : List Message} {k : ℕ} {ms′ : List Message} {k′ : ℕ} {y : Content} → Mail y → Posts ms k ms′ k′ (OneNew k y)
+pub said-direct-message : {ms : List Message} {k : ℕ} {ms′ : List Message} {k′ : ℕ} {y : Content} → Mail y → Posts ms k ms′ k′ (OneNew k y)
     → (m : Paxos Batch) → Said ms′ k′ m → Said ms k m
-said-mail {ms} {k} {ms′} {k′} {y} z p m s = go z (p .splits (s .sent .at))
+said-direct-message {ms} {k} {ms′} {k′} {y} z p m s = go z (p .splits (s .sent .at))
   where
     go : Mail y → At ms k (s .sent .number) (paxos m) ⊎ OneNew k y (s .sent .number) (paxos m) → Said ms k m
     go z (inl a) = said-at a
-    go z (inr t) = absurd (no-mail z (t .1))
+    go z (inr t) = absurd (no-direct-message z (t .1))
 
 -- ---- the invariant
 
-abbrev pub holding : Cell → Holding Batch
+abbrev pub holding : AcceptorSlot → Holding Batch
 holding x = record { promised = x .promised; ballot = x .ballot; value = x .batch }
 
 abbrev pub attempt : Round → Attempt Batch
 attempt r = record {
   ballot = r .ballot;
   promises = r .promises;
-  held = r .held;
+  accepted = r .accepted;
   value = r .batch;
   proposed = r .proposed;
   proposal = r .proposal;
@@ -125,21 +125,21 @@ attempt r = record {
 abbrev pub CoAt : ℕ → (Paxos Batch → Type 0) → ℕ → Coordinator → Type 0
 CoAt n S k c = CoOk n S k (c .applied) (attempt (c .round))
 
--- by the number of acceptors, the messages, the cells and the coordinators
-pub record Ballots (n : ℕ) (S : Paxos Batch → Type 0) (cells : List Cell) (cos : List Coordinator) : Type 0 where
+-- by the number of acceptors, the messages, the slots and the coordinators
+pub record Ballots (n : ℕ) (S : Paxos Batch → Type 0) (slots : List AcceptorSlot) (cos : List Coordinator) : Type 0 where
   pub core : Core n S
-  pub acc : (a i : ℕ) → i < instances → AccOk S a i (holding (getD cells (a * instances + i) emptyCell))
+  pub acc : (a i : ℕ) → i < instances → AccOk S a i (holding (getD slots (a * instances + i) emptySlot))
   pub co : (k : ℕ) → CoAt n S k (getD cos k freshCoordinator)
 
 abbrev pub Inv : World → Type 0
-Inv w = Ballots (w .acceptors) (Said (w .messages) (w .sent)) (w .cells) (w .coordinators)
+Inv w = Ballots (w .acceptors) (Said (w .messages) (w .sent)) (w .slots) (w .coordinators)
 
 -- nothing of the ballots is sent
-inv-same : {n : ℕ} {S S′ : Paxos Batch → Type 0} {cells : List Cell} {cos : List Coordinator}
+inv-same : {n : ℕ} {S S′ : Paxos Batch → Type 0} {slots : List AcceptorSlot} {cos : List Coordinator}
     → ((m : Paxos Batch) → S m → S′ m)
     → ((m : Paxos Batch) → S′ m → S m)
-    → Ballots n S cells cos
-    → Ballots n S′ cells cos
+    → Ballots n S slots cos
+    → Ballots n S′ slots cos
 inv-same up dn I = record {
   core = core-open up (I .core) (λ m _ s. dn m s);
   acc = λ a i g. acc-up up (I .acc a i g) (λ b d v s. dn _ s) (λ b s. dn _ s);
@@ -147,22 +147,22 @@ inv-same up dn I = record {
 }
 
 -- a coordinator's state changes, and nothing is sent
-inv-co : {n : ℕ} {S : Paxos Batch → Type 0} {cells : List Cell} {cos : List Coordinator} (k : ℕ) (c : Coordinator)
+inv-co : {n : ℕ} {S : Paxos Batch → Type 0} {slots : List AcceptorSlot} {cos : List Coordinator} (k : ℕ) (c : Coordinator)
     → k < length cos
-    → Ballots n S cells cos
+    → Ballots n S slots cos
     → CoAt n S k c
-    → Ballots n S cells (set cos k c)
-inv-co {n} {S} {cells} {cos} k c h I o = record {
+    → Ballots n S slots (set cos k c)
+inv-co {n} {S} {slots} {cos} k c h I o = record {
   core = I .core;
   acc = I .acc;
   co = set-ind (λ j x. CoAt n S j x) cos freshCoordinator k c h o (λ j _. I .co j);
 }
 
 -- an acceptor's state changes as it sends x
-inv-acc : {n : ℕ} {S S′ : Paxos Batch → Type 0} {cells : List Cell} {cos : List Coordinator} (a i : ℕ) (y : Cell) (x : Paxos Batch)
+inv-acc : {n : ℕ} {S S′ : Paxos Batch → Type 0} {slots : List AcceptorSlot} {cos : List Coordinator} (a i : ℕ) (y : AcceptorSlot) (x : Paxos Batch)
     → i < instances
-    → a * instances + i < length cells
-    → Ballots n S cells cos
+    → a * instances + i < length slots
+    → Ballots n S slots cos
     → ((m : Paxos Batch) → S m → S′ m)
     → ((m : Paxos Batch) → S′ m → S m ⊎ New x m)
     → ((m : Paxos Batch) → kind m ≢ kind x → S′ m → S m)
@@ -171,11 +171,11 @@ inv-acc : {n : ℕ} {S S′ : Paxos Batch → Type 0} {cells : List Cell} {cos :
     → kind x ≢ 2
     → ((b d a′ i′ : ℕ) (v : Batch) → (a ≢ a′) ⊎ (i ≢ i′) → New x (promise i′ b a′ d v) → ⊥)
     → ((b a′ i′ : ℕ) → (a ≢ a′) ⊎ (i ≢ i′) → New x (accepted i′ b a′) → ⊥)
-    → Ballots n S′ (set cells (a * instances + i) y) cos
-inv-acc {n} {S} {S′} {cells} {cos} a i y x g l I up dn old C A e p q =
+    → Ballots n S′ (set slots (a * instances + i) y) cos
+inv-acc {n} {S} {S′} {slots} {cos} a i y x g l I up dn old C A e p q =
     record {
       core = C;
-      acc = cell-ind (λ a′ i′ z. AccOk S′ a′ i′ (holding z)) cells emptyCell a i y g l A others;
+      acc = slot-ind (λ a′ i′ z. AccOk S′ a′ i′ (holding z)) slots emptySlot a i y g l A others;
       co = λ k. co-up up (I .co k) (λ i b a v _. old _ (λ f. e (sym f)));
     }
   where
@@ -183,7 +183,7 @@ inv-acc {n} {S} {S′} {cells} {cos} a i y x g l I up dn old C A e p q =
     go f (inl s) = s
     go f (inr t) = absurd (f t)
 
-    others : (a′ i′ : ℕ) → i′ < instances → (a ≢ a′) ⊎ (i ≢ i′) → AccOk S′ a′ i′ (holding (getD cells (a′ * instances + i′) emptyCell))
+    others : (a′ i′ : ℕ) → i′ < instances → (a ≢ a′) ⊎ (i ≢ i′) → AccOk S′ a′ i′ (holding (getD slots (a′ * instances + i′) emptySlot))
     others a′ i′ g′ f =
         acc-up up (I .acc a′ i′ g′) (λ b d v s. go (p b d a′ i′ v f) (dn _ s)) (λ b s. go (q b a′ i′ f) (dn _ s))
 
@@ -206,13 +206,13 @@ module _ {w : World} (s : Shape w) (few : w .acceptors ≤ mostAcceptors) (R : R
   inv-promise : (i b a : ℕ) (ms : List Message) (c : ℕ)
       → i < instances
       → a < w .acceptors
-      → cellOf w a i .promised < b
-      → Posts (w .messages) (w .sent) ms c (OneNew (w .sent) (paxos (promise i b a (cellOf w a i .ballot) (cellOf w a i .batch))))
+      → slotOf w a i .promised < b
+      → Posts (w .messages) (w .sent) ms c (OneNew (w .sent) (paxos (promise i b a (slotOf w a i .ballot) (slotOf w a i .batch))))
       → Ballots (w .acceptors) (Said ms c)
-      (set (w .cells) (a * instances + i) (record { promised = b; ballot = cellOf w a i .ballot; batch = cellOf w a i .batch }))
+      (set (w .slots) (a * instances + i) (record { promised = b; ballot = slotOf w a i .ballot; batch = slotOf w a i .batch }))
       (w .coordinators)
   inv-promise i b a ms c g l h p =
-      inv-acc a i _ x g (rw (s .cell-row) (omega arith)) I (said-up p) (said-one p) (said-other p)
+      inv-acc a i _ x g (rw (s .slot-row) (omega arith)) I (said-up p) (said-one p) (said-other p)
       (core-promise (said-up p) (I .core) i b a y (I .acc a i g) h (said-one p) (said-other p))
       (acc-promise (said-up p) i b a y (I .acc a i g) h (said-one p) (said-other p))
       (omega arith)
@@ -220,10 +220,10 @@ module _ {w : World} (s : Shape w) (few : w .acceptors ≤ mostAcceptors) (R : R
       (λ b′ a′ i′ f t. not-accepted t)
     where
       y : Holding Batch
-      y = holding (cellOf w a i)
+      y = holding (slotOf w a i)
 
       x : Paxos Batch
-      x = promise i b a (cellOf w a i .ballot) (cellOf w a i .batch)
+      x = promise i b a (slotOf w a i .ballot) (slotOf w a i .batch)
 
       not-promise : {b′ d a′ i′ : ℕ} {v : Batch} → (a ≢ a′) ⊎ (i ≢ i′) → New x (promise i′ b′ a′ d v) → ⊥
       not-promise (inl f) new = f refl
@@ -236,13 +236,13 @@ module _ {w : World} (s : Shape w) (few : w .acceptors ≤ mostAcceptors) (R : R
       → i < instances
       → a < w .acceptors
       → S (accept i b a v)
-      → cellOf w a i .promised ≤ b
+      → slotOf w a i .promised ≤ b
       → Posts (w .messages) (w .sent) ms c (OneNew (w .sent) (paxos (accepted i b a)))
       → Ballots (w .acceptors) (Said ms c)
-      (set (w .cells) (a * instances + i) (record { promised = b; ballot = b; batch = v }))
+      (set (w .slots) (a * instances + i) (record { promised = b; ballot = b; batch = v }))
       (w .coordinators)
   inv-vote i b a v ms c g l r h p =
-      inv-acc a i _ x g (rw (s .cell-row) (omega arith)) I (said-up p) (said-one p) (said-other p)
+      inv-acc a i _ x g (rw (s .slot-row) (omega arith)) I (said-up p) (said-one p) (said-other p)
       (core-accepted (said-up p) (I .core) i b a v y (I .acc a i g) h r (said-one p) (said-other p))
       (acc-accepted (said-up p) i b a y (I .acc a i g) v h r (said-one p) (said-other p))
       (omega arith)
@@ -250,7 +250,7 @@ module _ {w : World} (s : Shape w) (few : w .acceptors ≤ mostAcceptors) (R : R
       (λ b′ a′ i′ f t. not-accepted f t)
     where
       y : Holding Batch
-      y = holding (cellOf w a i)
+      y = holding (slotOf w a i)
 
       x : Paxos Batch
       x = accepted i b a
@@ -263,12 +263,12 @@ module _ {w : World} (s : Shape w) (few : w .acceptors ≤ mostAcceptors) (R : R
       not-promise t = elim t [ ]
 
   -- what is proposed, where some promise had an accepted pair
-  proposal-is : (c : Coordinator) → (c .round .held ≡ 0) ⊎ (batchToPropose c ≡ c .round .batch)
+  proposal-is : (c : Coordinator) → (c .round .accepted ≡ 0) ⊎ (batchToPropose c ≡ c .round .batch)
   unfolding batchToPropose
-  proposal-is c = go (eqb (c .round .held) 0) (eqb→eq (c .round .held) 0)
+  proposal-is c = go (eqb (c .round .accepted) 0) (eqb→eq (c .round .accepted) 0)
     where
-      go : (t : Bool) → (T t → c .round .held ≡ 0)
-          → (c .round .held ≡ 0) ⊎ (cond t (firstBatch (c .queue)) (c .round .batch) ≡ c .round .batch)
+      go : (t : Bool) → (T t → c .round .accepted ≡ 0)
+          → (c .round .accepted ≡ 0) ⊎ (cond t (firstBatch (c .queue)) (c .round .batch) ≡ c .round .batch)
       go true f = inl (f tt)
       go false f = inr refl
 
@@ -277,7 +277,7 @@ module _ {w : World} (s : Shape w) (few : w .acceptors ≤ mostAcceptors) (R : R
       → Higher (coordinatorOf w (owner b) .round) d v d′ v′
       → CoAt (w .acceptors) S (owner b) (withRound (coordinatorOf w (owner b)) (hearing (coordinatorOf w (owner b) .round) a d′ v′))
   inv-hear a d v b r (theirs h) =
-      co-hear (I .co (owner b)) a d v d v r (omega arith) (omega arith) (above (I .core .held r .0) (I .core .held r .1))
+      co-hear (I .co (owner b)) a d v d v r (omega arith) (omega arith) (above (I .core .accepted r .0) (I .core .accepted r .1))
     where
       c : Coordinator
       c = coordinatorOf w (owner b)
@@ -301,7 +301,7 @@ module _ {w : World} (s : Shape w) (few : w .acceptors ≤ mostAcceptors) (R : R
       e = omega (arith, I .co (owner b) .room (I .core .positive (I .core .asked r .1)))
 
   pub inv-move : {w′ : World} {h h′ : List Event} → Move w h w′ h′ → Inv w′
-  inv-move (asks e k ms c g p) = inv-same (said-up p) (said-mail (is-request k e) p) I
+  inv-move (asks e k ms c g p) = inv-same (said-up p) (said-direct-message (is-request k e) p) I
   inv-move (opens k i b ms c h g l e f u p) =
       record {
         core = core-open (said-up p) (I .core) old;
@@ -345,8 +345,8 @@ module _ {w : World} (s : Shape w) (few : w .acceptors ≤ mostAcceptors) (R : R
 
       old : (m : Paxos Batch) → kind m ≢ 2 → Said ms c m → Said (w .messages) (w .sent) m
       old = said-others 2 (λ a. refl) p
-  inv-move (tells k q tx ms c _ _ _ p) = inv-same (said-up p) (said-mail (is-tell q tx _) p) I
-  inv-move (restores k q ms c _ _ _ p) = inv-same (said-up p) (said-mail (is-restore q _ _ _) p) I
+  inv-move (tells k q tx ms c _ _ _ p) = inv-same (said-up p) (said-direct-message (is-tell q tx _) p) I
+  inv-move (restores k q ms c _ _ _ p) = inv-same (said-up p) (said-direct-message (is-restore q _ _ _) p) I
   inv-move (crashes d) = I
   inv-move (promises j i b a ms c t g p) = inv-promise i b a ms c (R .sent t .inst) (R .sent t .acceptor) g p
   inv-move (passes-prepare j i b a _ _) = I

@@ -5,7 +5,7 @@ use lib.ListN.{set}
 use Rattle.log_core.specs.Enter.{feed}
 use Rattle.model_steps.specs.Limits.{instances}
 use Rattle.model_protocol.specs.declared.Batch.{Batch}
-use Rattle.model_protocol.specs.declared.Cell.{Cell}
+use Rattle.model_protocol.specs.declared.AcceptorSlot.{AcceptorSlot}
 use Rattle.model_protocol.specs.declared.Coordinator.{Coordinator}
 use Rattle.model_protocol.specs.declared.Down.{Down}
 use Rattle.model_protocol.specs.declared.Message.{Message}
@@ -13,17 +13,17 @@ use Rattle.model_protocol.specs.declared.Places.{Places}
 use Rattle.model_protocol.specs.declared.Process.{Process}
 use Rattle.model_protocol.specs.declared.World.{World}
 use Rattle.model_protocol.specs.Batch.{entriesOf, noBatch}
-use Rattle.model_protocol.specs.Change.{acceptorsNow, cellNow, coordinatorNow, done, downNow, learns, processNow, sending}
+use Rattle.model_protocol.specs.Change.{acceptorsNow, slotNow, coordinatorNow, done, downNow, learns, processNow, sending}
 use Rattle.model_protocol.specs.Message.{acceptTo, prepareTo}
 use Rattle.model_protocol.specs.Send.{copyOf, sendToAll}
 use Rattle.model_protocol.specs.Step.{changed, partsAt, putBack}
 use Rattle.model_protocol.specs.World.{logOf, withMessage}
-use Rattle.model_protocol.proofs.PutBack.{all-back, none-sent, nothing-changed, same-cells, same-coordinators, same-logs, same-processes}
+use Rattle.model_protocol.proofs.PutBack.{all-back, none-sent, nothing-changed, same-slots, same-coordinators, same-logs, same-processes}
 
 abbrev pub withAcceptors : World → ℕ → World
 withAcceptors w n = record {
   acceptors = n;
-  cells = w .cells;
+  slots = w .slots;
   coordinators = w .coordinators;
   logs = w .logs;
   processes = w .processes;
@@ -32,10 +32,10 @@ withAcceptors w n = record {
   sent = w .sent;
 }
 
-abbrev pub withCell : World → ℕ → ℕ → Cell → World
-withCell w a i x = record {
+abbrev pub withSlot : World → ℕ → ℕ → AcceptorSlot → World
+withSlot w a i x = record {
   acceptors = w .acceptors;
-  cells = set (w .cells) (a * instances + i) x;
+  slots = set (w .slots) (a * instances + i) x;
   coordinators = w .coordinators;
   logs = w .logs;
   processes = w .processes;
@@ -47,7 +47,7 @@ withCell w a i x = record {
 abbrev pub withCoordinator : World → ℕ → Coordinator → World
 withCoordinator w c x = record {
   acceptors = w .acceptors;
-  cells = w .cells;
+  slots = w .slots;
   coordinators = set (w .coordinators) c x;
   logs = w .logs;
   processes = w .processes;
@@ -59,7 +59,7 @@ withCoordinator w c x = record {
 abbrev pub withProcess : World → ℕ → Process → World
 withProcess w p x = record {
   acceptors = w .acceptors;
-  cells = w .cells;
+  slots = w .slots;
   coordinators = w .coordinators;
   logs = w .logs;
   processes = set (w .processes) p x;
@@ -71,7 +71,7 @@ withProcess w p x = record {
 abbrev pub withDown : World → Down → World
 withDown w d = record {
   acceptors = w .acceptors;
-  cells = w .cells;
+  slots = w .slots;
   coordinators = w .coordinators;
   logs = w .logs;
   processes = w .processes;
@@ -84,7 +84,7 @@ withDown w d = record {
 abbrev pub withLearned : World → ℕ → Coordinator → Batch → World
 withLearned w c x b = record {
   acceptors = w .acceptors;
-  cells = w .cells;
+  slots = w .slots;
   coordinators = set (w .coordinators) c x;
   logs = set (w .logs) c (feed (logOf w c) (entriesOf b));
   processes = w .processes;
@@ -122,7 +122,7 @@ module _ (w : World) (at : Places) (d : Message) where
   coordinator-back : (c : Coordinator) → putBack w at (coordinatorNow (partsAt w at d) c) noBatch ≡ withCoordinator w (at .coordinator) c
   coordinator-back c = λ i. record {
     acceptors = w .acceptors;
-    cells = same-cells w at i;
+    slots = same-slots w at i;
     coordinators = set (w .coordinators) (at .coordinator) c;
     logs = same-logs w at i;
     processes = same-processes w at i;
@@ -147,7 +147,7 @@ module _ (w : World) (at : Places) (d : Message) where
       → changed w at (learns (coordinatorNow (partsAt w at d) c) b) ≡ withLearned w (at .coordinator) c b
   coordinator-learns c b = none-sent _ _ ∙ (λ i. record {
     acceptors = w .acceptors;
-    cells = same-cells w at i;
+    slots = same-slots w at i;
     coordinators = set (w .coordinators) (at .coordinator) c;
     logs = set (w .logs) (at .coordinator) (feed (logOf w (at .coordinator)) (entriesOf b));
     processes = same-processes w at i;
@@ -159,7 +159,7 @@ module _ (w : World) (at : Places) (d : Message) where
   pub process-changed : (h : Process) → changed w at (done (processNow (partsAt w at d) h)) ≡ withProcess w (at .process) h
   process-changed h = none-sent _ _ ∙ (λ i. record {
     acceptors = w .acceptors;
-    cells = same-cells w at i;
+    slots = same-slots w at i;
     coordinators = same-coordinators w at i;
     logs = same-logs w at i;
     processes = set (w .processes) (at .process) h;
@@ -185,18 +185,18 @@ module _ (w : World) (at : Places) (d : Message) where
       same-sent _ (copyOf (acceptTo i b v 0)) (acceptTo i b v) (accept-copy i b v) n
       ∙ ap (λ (u : World). sendToAll u n (acceptTo i b v)) (coordinator-back c)
 
--- at acceptor a's cell of instance i
-abbrev pub cellAt : ℕ → ℕ → Places
-cellAt a i = record { coordinator = 0; cell = a * instances + i; process = 0 }
+-- at acceptor a's slot of instance i
+abbrev pub slotAt : ℕ → ℕ → Places
+slotAt a i = record { coordinator = 0; slot = a * instances + i; process = 0 }
 
-pub cell-answers : (w : World) (d : Message) (a i : ℕ) (x : Cell) (m : Message)
-    → changed w (cellAt a i) (sending (cellNow (partsAt w (cellAt a i) d) x) 1 m) ≡ withMessage (withCell w a i x) m
-cell-answers w d a i x m = one-sent _ m ∙ (λ k. withMessage (record {
+pub slot-answers : (w : World) (d : Message) (a i : ℕ) (x : AcceptorSlot) (m : Message)
+    → changed w (slotAt a i) (sending (slotNow (partsAt w (slotAt a i) d) x) 1 m) ≡ withMessage (withSlot w a i x) m
+slot-answers w d a i x m = one-sent _ m ∙ (λ k. withMessage (record {
   acceptors = w .acceptors;
-  cells = set (w .cells) (a * instances + i) x;
-  coordinators = same-coordinators w (cellAt a i) k;
-  logs = same-logs w (cellAt a i) k;
-  processes = same-processes w (cellAt a i) k;
+  slots = set (w .slots) (a * instances + i) x;
+  coordinators = same-coordinators w (slotAt a i) k;
+  logs = same-logs w (slotAt a i) k;
+  processes = same-processes w (slotAt a i) k;
   down = w .down;
   messages = w .messages;
   sent = w .sent;

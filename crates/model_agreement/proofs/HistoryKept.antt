@@ -14,16 +14,16 @@ use Rattle.model_paxos.specs.Messages.{Paxos, accept, accepted, prepare, promis
 use Rattle.model_paxos.proofs.Grow.{New, kind, new}
 use Rattle.model_paxos.proofs.Sets.{majority←, majority→, with-lt}
 use Rattle.model_protocol.specs.declared.Batch.{Batch}
-use Rattle.model_protocol.specs.declared.Cell.{Cell}
+use Rattle.model_protocol.specs.declared.AcceptorSlot.{AcceptorSlot}
 use Rattle.model_protocol.specs.declared.Coordinator.{Coordinator}
 use Rattle.model_protocol.specs.declared.Message.{Message}
 use Rattle.model_protocol.specs.declared.World.{World}
 use Rattle.model_protocol.specs.Coordinator.{counting, learning}
-use Rattle.model_protocol.specs.World.{cellOf, coordinatorOf, emptyCell, freshCoordinator}
+use Rattle.model_protocol.specs.World.{slotOf, coordinatorOf, emptySlot, freshCoordinator}
 use Rattle.model_agreement.specs.Content.{Content, paxos, request}
-use Rattle.model_agreement.specs.History.{Accepts, Event, Got, LastOpened, Since, asked, delivered, first, heard, here, kept, later, opened, opening, restoring, setup, still, there}
-use Rattle.model_agreement.proofs.Arrays.{cell-cases, cell-ind, each-case, set-ind}
-use Rattle.model_agreement.proofs.BallotInvariant.{Inv, Mail, Said, accepted-positive, is-request, is-restore, is-tell, said-at, said-mail, said-one, said-other, said-others, said-up}
+use Rattle.model_agreement.specs.History.{Accepts, Event, Got, LastOpened, Since, asked, delivered, first, heard, here, kept, later, opened, opening, restoring, setup, withoutMessages, there}
+use Rattle.model_agreement.proofs.Arrays.{slot-cases, slot-ind, each-case, set-ind}
+use Rattle.model_agreement.proofs.BallotInvariant.{Inv, Mail, Said, accepted-positive, is-request, is-restore, is-tell, said-at, said-direct-message, said-one, said-other, said-others, said-up}
 use Rattle.model_agreement.proofs.Range.{Range}
 use Rattle.model_agreement.proofs.Recorded.{AccHist, CoHist, acc-frame, acc-passes, acc-prepares, acc-sent, acc-votes, co-counts, co-frame, co-learns, co-opens}
 use Rattle.model_agreement.proofs.Shape.{Shape}
@@ -86,40 +86,40 @@ module _ {h : List Event} where
   since-accepted f (kept o y) = y
 
   last-delivered : {j k i b : ℕ} {x : Content} → LastOpened k i b (delivered j x ∷ h) → LastOpened k i b h
-  last-delivered (still o y) = y
+  last-delivered (withoutMessages o y) = y
 
   last-other : {k i b j c d : ℕ} → k ≢ j → LastOpened k i b (opened j c d ∷ h) → LastOpened k i b h
   last-other f opening = absurd (f refl)
-  last-other f (still o y) = y
+  last-other f (withoutMessages o y) = y
 
--- ---- the relation, by the number of acceptors, the messages, the cells and the coordinators
+-- ---- the relation, by the number of acceptors, the messages, the slots and the coordinators
 
 -- coordinator k keeps what the history says
 abbrev pub CoSays : ℕ → List Event → ℕ → Coordinator → Type 0
 CoSays n h k c = CoHist n h k (c .applied) (c .round .ballot) (c .round .acceptances)
 
-pub record HistOf (n : ℕ) (h : List Event) (S : Paxos Batch → Type 0) (cells : List Cell) (cos : List Coordinator) : Type 0 where
-  pub acc : (a i : ℕ) → i < instances → AccHist h S a i (getD cells (a * instances + i) emptyCell .promised)
+pub record HistOf (n : ℕ) (h : List Event) (S : Paxos Batch → Type 0) (slots : List AcceptorSlot) (cos : List Coordinator) : Type 0 where
+  pub acc : (a i : ℕ) → i < instances → AccHist h S a i (getD slots (a * instances + i) emptySlot .promised)
   pub co : (k : ℕ) → CoSays n h k (getD cos k freshCoordinator)
 
 abbrev pub Hist : World → List Event → Type 0
-Hist w h = HistOf (w .acceptors) h (Said (w .messages) (w .sent)) (w .cells) (w .coordinators)
+Hist w h = HistOf (w .acceptors) h (Said (w .messages) (w .sent)) (w .slots) (w .coordinators)
 
-module _ {n : ℕ} {h : List Event} {S : Paxos Batch → Type 0} {cells : List Cell} {cos : List Coordinator} (H : HistOf n h S cells cos) where
+module _ {n : ℕ} {h : List Event} {S : Paxos Batch → Type 0} {slots : List AcceptorSlot} {cos : List Coordinator} (H : HistOf n h S slots cos) where
   -- messages are sent, no acceptance among them
   accs-sent : {S′ : Paxos Batch → Type 0} → ((m : Paxos Batch) → S m → S′ m) → ((m : Paxos Batch) → kind m ≡ 3 → S′ m → S m)
-      → (a i : ℕ) → i < instances → AccHist h S′ a i (getD cells (a * instances + i) emptyCell .promised)
+      → (a i : ℕ) → i < instances → AccHist h S′ a i (getD slots (a * instances + i) emptySlot .promised)
   accs-sent up old a i g = acc-sent up (H .acc a i g) (λ b s. old _ refl s)
 
   accs-aside : {S′ : Paxos Batch → Type 0} {e : Event} → Aside e → ((m : Paxos Batch) → S m → S′ m)
       → ((m : Paxos Batch) → kind m ≡ 3 → S′ m → S m)
-      → (a i : ℕ) → i < instances → AccHist (e ∷ h) S′ a i (getD cells (a * instances + i) emptyCell .promised)
+      → (a i : ℕ) → i < instances → AccHist (e ∷ h) S′ a i (getD slots (a * instances + i) emptySlot .promised)
   accs-aside {S′} {e} q up old a i g =
       acc-frame up (H .acc a i g) e (λ b s. old _ refl s) (λ c y. got-aside q y) (λ c v y. got-aside q y) (λ c v y. accepts-aside q y)
 
   -- a promise or an acceptance is delivered: nothing to an acceptor
   accs-kind : (j : ℕ) (x : Paxos Batch) → kind x ≢ 0 → kind x ≢ 2
-      → (a i : ℕ) → i < instances → AccHist (delivered j (paxos x) ∷ h) S a i (getD cells (a * instances + i) emptyCell .promised)
+      → (a i : ℕ) → i < instances → AccHist (delivered j (paxos x) ∷ h) S a i (getD slots (a * instances + i) emptySlot .promised)
   accs-kind j x d e a i g =
       acc-frame (λ m s. s) (H .acc a i g) _ (λ b s. s)
       (λ c y. got-kind (λ q. d (sym q)) y)
@@ -130,8 +130,8 @@ module _ {n : ℕ} {h : List Event} {S : Paxos Batch → Type 0} {cells : List C
   cos-kind : (j : ℕ) (x : Paxos Batch) → kind x ≢ 3 → (k : ℕ) → CoSays n (delivered j (paxos x) ∷ h) k (getD cos k freshCoordinator)
   cos-kind j x d k = co-frame (H .co k) tt (λ a y. since-kind (λ q. d (sym q)) y) (λ i c y. last-delivered y)
 
-  cos-mail : (j : ℕ) {x : Content} → Mail x → (k : ℕ) → CoSays n (delivered j x ∷ h) k (getD cos k freshCoordinator)
-  cos-mail j z k = co-frame (H .co k) tt (λ a y. since-aside (mailed j z) y) (λ i c y. last-delivered y)
+  cos-direct-message : (j : ℕ) {x : Content} → Mail x → (k : ℕ) → CoSays n (delivered j x ∷ h) k (getD cos k freshCoordinator)
+  cos-direct-message j z k = co-frame (H .co k) tt (λ a y. since-aside (mailed j z) y) (λ i c y. last-delivered y)
 
 -- ---- the moves
 
@@ -153,8 +153,8 @@ module _ {w : World} {h : List Event} (s : Shape w) (few : w .acceptors ≤ most
   owner-in : (b : ℕ) → owner b < length (w .coordinators)
   owner-in b = rw (s .co-row) (omega arith)
 
-  cell-in : {a i : ℕ} → a < w .acceptors → i < instances → a * instances + i < length (w .cells)
-  cell-in g l = rw (s .cell-row) (omega arith)
+  slot-in : {a i : ℕ} → a < w .acceptors → i < instances → a * instances + i < length (w .slots)
+  slot-in g l = rw (s .slot-row) (omega arith)
 
   -- ---- a prepare
 
@@ -168,30 +168,30 @@ module _ {w : World} {h : List Event} (s : Shape w) (few : w .acceptors ≤ most
 
     frame : {S′ : Paxos Batch → Type 0} → ((m : Paxos Batch) → S m → S′ m) → ((m : Paxos Batch) → kind m ≢ 1 → S′ m → S m)
         → (a′ i′ : ℕ) → i′ < instances → (a ≢ a′) ⊎ (i ≢ i′)
-        → AccHist (delivered j (paxos (prepare i b a)) ∷ h) S′ a′ i′ (cellOf w a′ i′ .promised)
+        → AccHist (delivered j (paxos (prepare i b a)) ∷ h) S′ a′ i′ (slotOf w a′ i′ .promised)
     frame up old a′ i′ g′ f =
         acc-frame up (H .acc a′ i′ g′) _ (λ c s. old _ (omega arith) s) (λ c z. other f z) (λ c v z. got-kind (omega arith) z)
         (λ c v z. accepts-kind (omega arith) z)
 
-    hist-promises : (ms : List Message) (c : ℕ) → a < w .acceptors → cellOf w a i .promised < b
-        → Posts (w .messages) (w .sent) ms c (OneNew (w .sent) (paxos (promise i b a (cellOf w a i .ballot) (cellOf w a i .batch))))
+    hist-promises : (ms : List Message) (c : ℕ) → a < w .acceptors → slotOf w a i .promised < b
+        → Posts (w .messages) (w .sent) ms c (OneNew (w .sent) (paxos (promise i b a (slotOf w a i .ballot) (slotOf w a i .batch))))
         → HistOf (w .acceptors) (delivered j (paxos (prepare i b a)) ∷ h) (Said ms c)
-        (set (w .cells) (a * instances + i) (record { promised = b; ballot = cellOf w a i .ballot; batch = cellOf w a i .batch }))
+        (set (w .slots) (a * instances + i) (record { promised = b; ballot = slotOf w a i .ballot; batch = slotOf w a i .batch }))
         (w .coordinators)
     hist-promises ms c l f p = record {
       acc =
-          cell-ind (λ a′ i′ z. AccHist (delivered j (paxos (prepare i b a)) ∷ h) (Said ms c) a′ i′ (z .promised)) (w .cells) emptyCell a i _ g (cell-in l g)
+          slot-ind (λ a′ i′ z. AccHist (delivered j (paxos (prepare i b a)) ∷ h) (Said ms c) a′ i′ (z .promised)) (w .slots) emptySlot a i _ g (slot-in l g)
           (acc-prepares (said-up p) (H .acc a i g) j b b (λ c s. said-other p _ (omega arith) s) (omega arith) (omega arith) (inr refl))
           (frame (said-up p) (said-other p));
       co = cos-kind H j (prepare i b a) (omega arith);
     }
 
-    hist-passes : b ≤ cellOf w a i .promised
-        → HistOf (w .acceptors) (delivered j (paxos (prepare i b a)) ∷ h) S (w .cells) (w .coordinators)
+    hist-passes : b ≤ slotOf w a i .promised
+        → HistOf (w .acceptors) (delivered j (paxos (prepare i b a)) ∷ h) S (w .slots) (w .coordinators)
     hist-passes f = record {
       acc =
-          cell-cases (λ a′ i′. i′ < instances → AccHist (delivered j (paxos (prepare i b a)) ∷ h) S a′ i′ (cellOf w a′ i′ .promised)) a i
-          (λ _. acc-prepares (λ m s. s) (H .acc a i g) j b (cellOf w a i .promised) (λ c s. s) (omega arith) f (inl refl))
+          slot-cases (λ a′ i′. i′ < instances → AccHist (delivered j (paxos (prepare i b a)) ∷ h) S a′ i′ (slotOf w a′ i′ .promised)) a i
+          (λ _. acc-prepares (λ m s. s) (H .acc a i g) j b (slotOf w a i .promised) (λ c s. s) (omega arith) f (inl refl))
           (λ a′ i′ d g′. frame (λ m s. s) (λ m _ s. s) a′ i′ g′ d);
       co = cos-kind H j (prepare i b a) (omega arith);
     }
@@ -215,7 +215,7 @@ module _ {w : World} {h : List Event} (s : Shape w) (few : w .acceptors ≤ most
     frame-accept : {S′ : Paxos Batch → Type 0} → ((m : Paxos Batch) → S m → S′ m)
         → (a′ i′ : ℕ) → i′ < instances → (a ≢ a′) ⊎ (i ≢ i′)
         → ((c : ℕ) → S′ (accepted i′ c a′) → S (accepted i′ c a′))
-        → AccHist (delivered j (paxos (accept i b a v)) ∷ h) S′ a′ i′ (cellOf w a′ i′ .promised)
+        → AccHist (delivered j (paxos (accept i b a v)) ∷ h) S′ a′ i′ (slotOf w a′ i′ .promised)
     frame-accept up a′ i′ g′ f old =
         acc-frame up (H .acc a′ i′ g′) _ old (λ c z. got-kind (omega arith) z) (λ c v z. other-got f z) (λ c v z. other-accepts f z)
 
@@ -230,26 +230,26 @@ module _ {w : World} {h : List Event} (s : Shape w) (few : w .acceptors ≤ most
     far (inl f) (inr new) = absurd (f refl)
     far (inr f) (inr new) = absurd (f refl)
 
-    hist-votes : (ms : List Message) (c : ℕ) → a < w .acceptors → S (accept i b a v) → cellOf w a i .promised ≤ b
+    hist-votes : (ms : List Message) (c : ℕ) → a < w .acceptors → S (accept i b a v) → slotOf w a i .promised ≤ b
         → Posts (w .messages) (w .sent) ms c (OneNew (w .sent) (paxos (accepted i b a)))
         → Said ms c (accepted i b a)
         → HistOf (w .acceptors) (delivered j (paxos (accept i b a v)) ∷ h) (Said ms c)
-        (set (w .cells) (a * instances + i) (record { promised = b; ballot = b; batch = v }))
+        (set (w .slots) (a * instances + i) (record { promised = b; ballot = b; batch = v }))
         (w .coordinators)
     hist-votes ms c l r f p t = record {
       acc =
-          cell-ind (λ a′ i′ z. AccHist (delivered j (paxos (accept i b a v)) ∷ h) (Said ms c) a′ i′ (z .promised)) (w .cells) emptyCell a i _ g (cell-in l g)
+          slot-ind (λ a′ i′ z. AccHist (delivered j (paxos (accept i b a v)) ∷ h) (Said ms c) a′ i′ (z .promised)) (w .slots) emptySlot a i _ g (slot-in l g)
           (acc-votes (said-up p) (H .acc a i g) j b v b f (omega arith) (inr refl) (λ c z. voted (said-one p _ z)) f t r)
           (λ a′ i′ g′ d. frame-accept (said-up p) a′ i′ g′ d (λ c z. far d (said-one p _ z)));
       co = cos-kind H j (accept i b a v) (omega arith);
     }
 
-    hist-passes-accept : b < cellOf w a i .promised
-        → HistOf (w .acceptors) (delivered j (paxos (accept i b a v)) ∷ h) S (w .cells) (w .coordinators)
+    hist-passes-accept : b < slotOf w a i .promised
+        → HistOf (w .acceptors) (delivered j (paxos (accept i b a v)) ∷ h) S (w .slots) (w .coordinators)
     hist-passes-accept f = record {
       acc =
-          cell-cases (λ a′ i′. i′ < instances → AccHist (delivered j (paxos (accept i b a v)) ∷ h) S a′ i′ (cellOf w a′ i′ .promised)) a i
-          (λ _. acc-passes (λ m s. s) (H .acc a i g) j b v (cellOf w a i .promised) (omega arith) (omega arith) (inl refl) (λ c z. z) f)
+          slot-cases (λ a′ i′. i′ < instances → AccHist (delivered j (paxos (accept i b a v)) ∷ h) S a′ i′ (slotOf w a′ i′ .promised)) a i
+          (λ _. acc-passes (λ m s. s) (H .acc a i g) j b v (slotOf w a i .promised) (omega arith) (omega arith) (inl refl) (λ c z. z) f)
           (λ a′ i′ d g′. frame-accept (λ m s. s) a′ i′ g′ d (λ c z. z));
       co = cos-kind H j (accept i b a v) (omega arith);
     }
@@ -270,14 +270,14 @@ module _ {w : World} {h : List Event} (s : Shape w) (few : w .acceptors ≤ most
         (λ i c y. last-delivered y)
 
     mine : (c : Coordinator) → CoSays (w .acceptors) after (owner b) c
-        → HistOf (w .acceptors) after S (w .cells) (set (w .coordinators) (owner b) c)
+        → HistOf (w .acceptors) after S (w .slots) (set (w .coordinators) (owner b) c)
     mine c o = record {
       acc = accs-kind H j (accepted i b a) (omega arith) (omega arith);
       co = set-ind (λ k z. CoSays (w .acceptors) after k z) (w .coordinators) freshCoordinator (owner b) c (owner-in b) o others;
     }
 
     pass : (i ≡ coordinatorOf w (owner b) .applied → b ≡ coordinatorOf w (owner b) .round .ballot → ⊥)
-        → HistOf (w .acceptors) after S (w .cells) (w .coordinators)
+        → HistOf (w .acceptors) after S (w .slots) (w .coordinators)
     pass f = record {
       acc = accs-kind H j (accepted i b a) (omega arith) (omega arith);
       co =
@@ -294,19 +294,19 @@ module _ {w : World} {h : List Event} (s : Shape w) (few : w .acceptors ≤ most
       → ((m : Paxos Batch) → S m → Said ms c m)
       → ((m : Paxos Batch) → Said ms c m → S m)
       → ((k : ℕ) → CoSays (w .acceptors) (e ∷ h) k (coordinatorOf w k))
-      → HistOf (w .acceptors) (e ∷ h) (Said ms c) (w .cells) (w .coordinators)
+      → HistOf (w .acceptors) (e ∷ h) (Said ms c) (w .slots) (w .coordinators)
   aside q up dn f = record { acc = accs-aside H q up (λ m _ s. dn m s); co = f }
 
-  mail : (j : ℕ) {x : Content} → Mail x → HistOf (w .acceptors) (delivered j x ∷ h) S (w .cells) (w .coordinators)
-  mail j z = aside (mailed j z) (λ m s. s) (λ m s. s) (cos-mail H j z)
+  directMessage : (j : ℕ) {x : Content} → Mail x → HistOf (w .acceptors) (delivered j x ∷ h) S (w .slots) (w .coordinators)
+  directMessage j z = aside (mailed j z) (λ m s. s) (λ m s. s) (cos-direct-message H j z)
 
   pub hist-move : {w′ : World} {h′ : List Event} → Move w h w′ h′ → Hist w′ h′
   unfolding learning
   hist-move (asks e k ms c g p) =
-      aside (asked-for e) (said-up p) (said-mail (is-request k e) p) (λ j. co-frame (H .co j) tt (λ a y. since-aside (asked-for e) y) (λ i c y. last-asked y))
+      aside (asked-for e) (said-up p) (said-direct-message (is-request k e) p) (λ j. co-frame (H .co j) tt (λ a y. since-aside (asked-for e) y) (λ i c y. last-asked y))
     where
       last-asked : {k i b : ℕ} → LastOpened k i b (asked e ∷ h) → LastOpened k i b h
-      last-asked (still o y) = y
+      last-asked (withoutMessages o y) = y
   hist-move (opens k i b ms c g _ _ e _ _ p) =
       record {
         acc = accs-aside H (opened-by k i b) (said-up p) (λ m d. said-others 0 (λ a. refl) p m (omega arith));
@@ -320,13 +320,13 @@ module _ {w : World} {h : List Event} (s : Shape w) (few : w .acceptors ≤ most
         acc = accs-sent H (said-up p) (λ m d. said-others 2 (λ a. refl) p m (omega arith));
         co = set-ind (λ j x. CoSays (w .acceptors) h j x) (w .coordinators) freshCoordinator k _ (co-in g) (H .co k) (λ j _. H .co j);
       }
-  hist-move (tells k q tx ms c _ _ _ p) = record { acc = accs-sent H (said-up p) (λ m _. said-mail (is-tell q tx _) p m); co = H .co }
+  hist-move (tells k q tx ms c _ _ _ p) = record { acc = accs-sent H (said-up p) (λ m _. said-direct-message (is-tell q tx _) p m); co = H .co }
   hist-move (restores k q ms c _ _ _ p) =
-      aside (restored-by k _) (said-up p) (said-mail (is-restore q _ _ _) p)
+      aside (restored-by k _) (said-up p) (said-direct-message (is-restore q _ _ _) p)
       (λ j. co-frame (H .co j) tt (λ a y. since-aside (restored-by k _) y) (λ i c y. last-restoring y))
     where
       last-restoring : {j i b m : ℕ} → LastOpened j i b (restoring k m ∷ h) → LastOpened j i b h
-      last-restoring (still o y) = y
+      last-restoring (withoutMessages o y) = y
   hist-move (crashes d) = H
   hist-move (promises j i b a ms c t g p) = hist-promises j i b a (R .sent t .inst) ms c (R .sent t .acceptor) g p
   hist-move (passes-prepare j i b a t g) = hist-passes j i b a (R .sent t .inst) g
@@ -355,13 +355,13 @@ module _ {w : World} {h : List Event} (s : Shape w) (few : w .acceptors ≤ most
   hist-move (passes-accepted j i b a t f) = pass j i b a t (λ d e. f (omega (arith, R .sent t .acceptor)) d e)
   hist-move (joins j k e t _) =
       record {
-        acc = mail j (is-request k e) .acc;
+        acc = directMessage j (is-request k e) .acc;
         co =
             set-ind (λ x c. CoSays (w .acceptors) (delivered j (request k e) ∷ h) x c) (w .coordinators) freshCoordinator k _ (co-in (R .sent t))
-            (mail j (is-request k e) .co k)
-            (λ x _. mail j (is-request k e) .co x);
+            (directMessage j (is-request k e) .co k)
+            (λ x _. directMessage j (is-request k e) .co x);
       }
-  hist-move (passes-request j k e _) = mail j (is-request k e)
-  hist-move (is-told j p tx o _) = mail j (is-tell p tx o)
-  hist-move (takes j p z i r _ _) = mail j (is-restore p z i r)
-  hist-move (passes-restore j p z i r _ _) = mail j (is-restore p z i r)
+  hist-move (passes-request j k e _) = directMessage j (is-request k e)
+  hist-move (is-told j p tx o _) = directMessage j (is-tell p tx o)
+  hist-move (takes j p z i r _ _) = directMessage j (is-restore p z i r)
+  hist-move (passes-restore j p z i r _ _) = directMessage j (is-restore p z i r)

@@ -239,10 +239,10 @@ first-fine {h} q o g f =
 
 module _ {w : World} {h : List Event} (s : Shape w) (O : Rest w h) (I : Inv w) where
   proposal-fine : (k : ℕ)
-      → T (not (eqb (coordinatorOf w k .round .held) 0 && eqb (coordinatorOf w k .queue .count) 0))
+      → T (not (eqb (coordinatorOf w k .round .accepted) 0 && eqb (coordinatorOf w k .queue .count) 0))
       → Fine h (batchToPropose (coordinatorOf w k))
   unfolding batchToPropose
-  proposal-fine k t = go (eqb (c .round .held) 0) (neqb→ne (c .round .held) 0) t
+  proposal-fine k t = go (eqb (c .round .accepted) 0) (neqb→ne (c .round .accepted) 0) t
     where
       c : Coordinator
       c = coordinatorOf w k
@@ -250,11 +250,11 @@ module _ {w : World} {h : List Event} (s : Shape w) (O : Rest w h) (I : Inv w) w
       some : (n : ℕ) → T (not (eqb n 0)) → 0 < n
       some n t = omega (arith, neqb→ne n 0 t)
 
-      kept : Best (Said (w .messages) (w .sent)) (c .applied) (attempt (c .round)) → c .round .held ≢ 0 → Fine h (c .round .batch)
+      kept : Best (Said (w .messages) (w .sent)) (c .applied) (attempt (c .round)) → c .round .accepted ≢ 0 → Fine h (c .round .batch)
       kept (inl e) d = absurd (d e)
       kept (inr t) d = fine-of (O .sent (t .1 .1 .sent .at))
 
-      go : (b : Bool) → (T (not b) → c .round .held ≢ 0) → T (not (b && eqb (c .queue .count) 0))
+      go : (b : Bool) → (T (not b) → c .round .accepted ≢ 0) → T (not (b && eqb (c .queue .count) 0))
           → Fine h (cond b (firstBatch (c .queue)) (c .round .batch))
       go true f t = first-fine (c .queue) (s .queues k) (some (c .queue .count) t) (O .cos k .queue)
       go false f t = kept (I .co k .best) (f tt)

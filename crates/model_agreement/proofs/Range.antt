@@ -1,4 +1,4 @@
--- Every number in a message, a cell and a round is in its range, and sets of acceptors hold acceptors only.
+-- Every number in a message, a slot and a round is in its range, and sets of acceptors hold acceptors only.
 use Prim.Native.Nat.{ℕ, _≤_, _<_}
 use mathlib.Core.Logic.{_⊎_, inl, inr}
 use mathlib.Core.List.{List}
@@ -10,12 +10,12 @@ use Rattle.model_paxos.specs.Ballot.{owner}
 use Rattle.model_paxos.proofs.Grow.{New, NewAll, new, newAt}
 use Rattle.model_paxos.proofs.Sets.{with-lt}
 use Rattle.model_protocol.specs.declared.Batch.{Batch}
-use Rattle.model_protocol.specs.declared.Cell.{Cell}
+use Rattle.model_protocol.specs.declared.AcceptorSlot.{AcceptorSlot}
 use Rattle.model_protocol.specs.declared.Coordinator.{Coordinator}
 use Rattle.model_protocol.specs.declared.Message.{Message}
 use Rattle.model_protocol.specs.declared.World.{World}
 use Rattle.model_protocol.specs.Coordinator.{hearing, learning}
-use Rattle.model_protocol.specs.World.{coordinatorOf, emptyCell, freshCoordinator}
+use Rattle.model_protocol.specs.World.{coordinatorOf, emptySlot, freshCoordinator}
 use Rattle.model_agreement.specs.Bounds.{CellRange, CoRange, InRange}
 use Rattle.model_agreement.specs.Content.{Content}
 use Rattle.model_agreement.specs.History.{Event}
@@ -25,7 +25,7 @@ use Rattle.model_agreement.proofs.SentMessages.{AllNew, At, OneNew, Pos
 
 pub record Range (w : World) : Type 0 where
   pub sent : {j : ℕ} {x : Content} → At (w .messages) (w .sent) j x → InRange (w .acceptors) x
-  pub cells : (k : ℕ) → CellRange (getD (w .cells) k emptyCell)
+  pub slots : (k : ℕ) → CellRange (getD (w .slots) k emptySlot)
   pub cos : (k : ℕ) → CoRange (w .acceptors) (coordinatorOf w k)
 
 module _ {w : World} (R : Range w) where
@@ -54,8 +54,8 @@ module _ {w : World} (R : Range w) where
       → CoRange (w .acceptors) (getD (set (w .coordinators) k c) j freshCoordinator)
   co-set k c o = set-all (λ x. CoRange (w .acceptors) x) (w .coordinators) freshCoordinator k c o (R .cos)
 
-  cell-set : (k : ℕ) (x : Cell) → CellRange x → (j : ℕ) → CellRange (getD (set (w .cells) k x) j emptyCell)
-  cell-set k x o = set-all (λ y. CellRange y) (w .cells) emptyCell k x o (R .cells)
+  slot-set : (k : ℕ) (x : AcceptorSlot) → CellRange x → (j : ℕ) → CellRange (getD (set (w .slots) k x) j emptySlot)
+  slot-set k x o = set-all (λ y. CellRange y) (w .slots) emptySlot k x o (R .slots)
 
   heard-range : (a : ℕ) (c : Coordinator) {d d′ : ℕ} {v v′ : Batch} → a < w .acceptors → d ≤ ballots → CoRange (w .acceptors) c
       → Higher (c .round) d v d′ v′
@@ -65,7 +65,7 @@ module _ {w : World} (R : Range w) where
         applied = o .applied;
         room = o .room;
         ballot = o .ballot;
-        held = g;
+        accepted = g;
         promises = with-lt _ a _ l (o .promises);
         acceptances = o .acceptances;
       }
@@ -74,25 +74,25 @@ module _ {w : World} (R : Range w) where
         applied = o .applied;
         room = o .room;
         ballot = o .ballot;
-        held = o .held;
+        accepted = o .accepted;
         promises = with-lt _ a _ l (o .promises);
         acceptances = o .acceptances;
       }
 
   pub range-move : {w′ : World} {h h′ : List Event} → Move w h w′ h′ → Range w′
   unfolding learning
-  range-move (asks e k ms c g p) = record { sent = more-one p g; cells = R .cells; cos = R .cos }
+  range-move (asks e k ms c g p) = record { sent = more-one p g; slots = R .slots; cos = R .cos }
   range-move (opens k i b ms c _ g l e _ u p) =
       record {
         sent = more-all p (λ a z. record { inst = g; positive = omega arith; ballot = l; acceptor = z });
-        cells = R .cells;
+        slots = R .slots;
         cos =
             co-set k _
             (record {
               applied = R .cos k .applied;
               room = λ _. omega arith;
               ballot = l;
-              held = omega arith;
+              accepted = omega arith;
               promises = pow-pos (w .acceptors);
               acceptances = pow-pos (w .acceptors);
             });
@@ -107,7 +107,7 @@ module _ {w : World} (R : Range w) where
               ballot = omega (arith, R .cos k .ballot);
               acceptor = l;
             });
-        cells = R .cells;
+        slots = R .slots;
         cos =
             co-set k _
             (let o = R .cos k in
@@ -115,39 +115,39 @@ module _ {w : World} (R : Range w) where
               applied = o .applied;
               room = o .room;
               ballot = o .ballot;
-              held = o .held;
+              accepted = o .accepted;
               promises = o .promises;
               acceptances = o .acceptances;
             });
       }
-  range-move (tells k q tx ms c g l _ p) = record { sent = more-one p (g, l); cells = R .cells; cos = R .cos }
-  range-move (restores k q ms c z g _ p) = record { sent = more-one p (z, g, R .cos k .applied); cells = R .cells; cos = R .cos }
-  range-move (crashes d) = record { sent = R .sent; cells = R .cells; cos = R .cos }
+  range-move (tells k q tx ms c g l _ p) = record { sent = more-one p (g, l); slots = R .slots; cos = R .cos }
+  range-move (restores k q ms c z g _ p) = record { sent = more-one p (z, g, R .cos k .applied); slots = R .slots; cos = R .cos }
+  range-move (crashes d) = record { sent = R .sent; slots = R .slots; cos = R .cos }
   range-move (promises j i b a ms c s _ p) =
       record {
-        sent = more-one p (R .sent s, R .cells _ .ballot);
-        cells = cell-set _ _ (record { promised = R .sent s .ballot; ballot = R .cells _ .ballot });
+        sent = more-one p (R .sent s, R .slots _ .ballot);
+        slots = slot-set _ _ (record { promised = R .sent s .ballot; ballot = R .slots _ .ballot });
         cos = R .cos;
       }
   range-move (passes-prepare j i b a _ _) = R
   range-move (votes j i b a v ms c s _ p _) =
       record {
         sent = more-one p (R .sent s);
-        cells = cell-set _ _ (record { promised = R .sent s .ballot; ballot = R .sent s .ballot });
+        slots = slot-set _ _ (record { promised = R .sent s .ballot; ballot = R .sent s .ballot });
         cos = R .cos;
       }
   range-move (passes-accept j i b a v _ _) = R
   range-move (hears j i b a d v d′ v′ s _ _ g) =
       record {
         sent = R .sent;
-        cells = R .cells;
+        slots = R .slots;
         cos = co-set _ _ (heard-range a (coordinatorOf w (owner b)) (R .sent s .0 .acceptor) (R .sent s .1) (R .cos (owner b)) g);
       }
   range-move (passes-promise j i b a d v _) = R
   range-move (counts j i b a s _ _ _) =
       record {
         sent = R .sent;
-        cells = R .cells;
+        slots = R .slots;
         cos =
             co-set _ _
             (let o = R .cos (owner b) in
@@ -155,7 +155,7 @@ module _ {w : World} (R : Range w) where
               applied = o .applied;
               room = o .room;
               ballot = o .ballot;
-              held = o .held;
+              accepted = o .accepted;
               promises = o .promises;
               acceptances = with-lt _ a _ (R .sent s .acceptor) (o .acceptances);
             });
@@ -163,14 +163,14 @@ module _ {w : World} (R : Range w) where
   range-move (learns j i b a s _ _ _) =
       record {
         sent = R .sent;
-        cells = R .cells;
+        slots = R .slots;
         cos =
             co-set _ _
             (record {
               applied = omega arith;
               room = λ z. absurd (omega arith);
               ballot = omega arith;
-              held = omega arith;
+              accepted = omega arith;
               promises = pow-pos (w .acceptors);
               acceptances = pow-pos (w .acceptors);
             });
@@ -179,7 +179,7 @@ module _ {w : World} (R : Range w) where
   range-move (joins j k e _ _) =
       record {
         sent = R .sent;
-        cells = R .cells;
+        slots = R .slots;
         cos =
             co-set _ _
             (let o = R .cos k in
@@ -187,12 +187,12 @@ module _ {w : World} (R : Range w) where
               applied = o .applied;
               room = o .room;
               ballot = o .ballot;
-              held = o .held;
+              accepted = o .accepted;
               promises = o .promises;
               acceptances = o .acceptances;
             });
       }
   range-move (passes-request j k e _) = R
-  range-move (is-told j p tx o _) = record { sent = R .sent; cells = R .cells; cos = R .cos }
-  range-move (takes j p z i r _ _) = record { sent = R .sent; cells = R .cells; cos = R .cos }
+  range-move (is-told j p tx o _) = record { sent = R .sent; slots = R .slots; cos = R .cos }
+  range-move (takes j p z i r _ _) = record { sent = R .sent; slots = R .slots; cos = R .cos }
   range-move (passes-restore j p z i r _ _) = R

@@ -12,7 +12,7 @@ use Rattle.model_paxos.specs.Messages.{Paxos, accept, accepted, prepare}
 use Rattle.model_paxos.proofs.Sets.{Has, few-zero, has-with, has-zero, has←, has→, meet, most-mono, with-has, with-keeps}
 use Rattle.model_protocol.specs.declared.Batch.{Batch}
 use Rattle.model_agreement.specs.Content.{paxos}
-use Rattle.model_agreement.specs.History.{Accepts, Event, Got, LastOpened, Learns, NoneAbove, Other, Since, before, delivered, first, heard, here, kept, later, learns, opened, opening, still, there}
+use Rattle.model_agreement.specs.History.{Accepts, Event, Got, LastOpened, Learns, NoneAbove, Other, Since, before, delivered, first, heard, here, kept, later, learns, opened, opening, withoutMessages, there}
 
 -- ---- coordinator k, which has applied p instances, opened l last in its current one, and counted the acceptances of q
 
@@ -29,8 +29,8 @@ pub record CoHist (n : ℕ) (h : List Event) (k p l q : ℕ) : Type 0 where
   pub counted : (i : ℕ) → Learns n k i h → i < p
 
 since-opened : {k i b a : ℕ} {h : List Event} → Since k i b a h → LastOpened k i b h
-since-opened (heard o) = still tt o
-since-opened (kept e s) = still e (since-opened s)
+since-opened (heard o) = withoutMessages tt o
+since-opened (kept e s) = withoutMessages e (since-opened s)
 
 -- a majority since the last opening, but the set is no majority: that was in an earlier instance
 early : {n k p l q i b : ℕ} {h : List Event} (r : ℕ) → CoNow n h k p l q → Majority n r → ((a : ℕ) → T (has r a) → Since k i b a h) → i < p
@@ -64,7 +64,7 @@ co-frame {n} {k} {p} {l} {q} {e} {h} H o f g = record { now = N; learnt = λ i y
   where
     N : CoNow n (e ∷ h) k p l q
     N = record {
-      last = λ y. still o (H .now .last y);
+      last = λ y. withoutMessages o (H .now .last y);
       latest = λ y. H .now .latest (g _ _ y);
       in-set = λ a y. kept o (H .now .in-set a y);
       set-in = λ a y. H .now .set-in a (f a y);
@@ -77,7 +77,7 @@ co-opens {n} {k} {p} {l} {q} {h} b H = record { now = N; learnt = λ i y. before
   where
     latest : {i d : ℕ} → LastOpened k i d (opened k p b ∷ h) → (i < p) ⊎ ((i ≡ p) × (d ≡ b))
     latest opening = inr (refl, refl)
-    latest (still o y) = absurd (o refl)
+    latest (withoutMessages o y) = absurd (o refl)
 
     set-in : {a : ℕ} → Since k p b a (opened k p b ∷ h) → Has 0 a
     set-in (kept o y) = absurd (o refl)
@@ -94,7 +94,7 @@ co-opens {n} {k} {p} {l} {q} {h} b H = record { now = N; learnt = λ i y. before
 -- an acceptance is delivered to k
 module _ {n k p l q : ℕ} {h : List Event} (j a : ℕ) (H : CoHist n h k p l q) (g : 0 < l) where
   latest : {i d : ℕ} → LastOpened k i d (delivered j (paxos (accepted p l a)) ∷ h) → (i < p) ⊎ ((i ≡ p) × (d ≡ l))
-  latest (still o y) = H .now .latest y
+  latest (withoutMessages o y) = H .now .latest y
 
   in-set : (x : ℕ) → Has (with q a) x → Since k p l x (delivered j (paxos (accepted p l a)) ∷ h)
   in-set x y = go (has-with a x q y)
@@ -112,7 +112,7 @@ module _ {n k p l q : ℕ} {h : List Event} (j a : ℕ) (H : CoHist n h k p l q)
     where
       N : CoNow n (delivered j (paxos (accepted p l a)) ∷ h) k p l (with q a)
       N = record {
-        last = λ y. still tt (H .now .last y);
+        last = λ y. withoutMessages tt (H .now .last y);
         latest = λ y. latest y;
         in-set = in-set;
         set-in = λ x y. set-in y;

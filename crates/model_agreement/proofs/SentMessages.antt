@@ -69,7 +69,7 @@ filled ms k (suc n) f = set (filled ms k n f) (k + n) (f n)
 abbrev pub posted : World → List Message → ℕ → World
 posted w ms k = record {
   acceptors = w .acceptors;
-  cells = w .cells;
+  slots = w .slots;
   coordinators = w .coordinators;
   logs = w .logs;
   processes = w .processes;

@@ -12,7 +12,7 @@ use Rattle.log_entry.specs.Limits.{transactions}
 use Rattle.model_steps.specs.Limits.{coordinators, instances, messages}
 use Rattle.model_paxos.specs.Ballot.{owner}
 use Rattle.model_protocol.specs.declared.Batch.{Batch}
-use Rattle.model_protocol.specs.declared.Cell.{Cell}
+use Rattle.model_protocol.specs.declared.AcceptorSlot.{AcceptorSlot}
 use Rattle.model_protocol.specs.declared.Coordinator.{Coordinator}
 use Rattle.model_protocol.specs.declared.Down.{Down}
 use Rattle.model_protocol.specs.declared.Message.{Message}
@@ -21,7 +21,7 @@ use Rattle.model_protocol.specs.declared.Queue.{Queue}
 use Rattle.model_protocol.specs.declared.World.{World}
 use Rattle.model_protocol.specs.Batch.{entriesOf, noEntry}
 use Rattle.model_protocol.specs.Coordinator.{learning}
-use Rattle.model_protocol.specs.Limits.{cellPlaces, processPlaces, queuePlaces}
+use Rattle.model_protocol.specs.Limits.{slotPlaces, processPlaces, queuePlaces}
 use Rattle.model_protocol.specs.Queue.{isFull, joined, leftBy, queueOf, queued, without}
 use Rattle.model_protocol.specs.World.{coordinatorOf, freshCoordinator, freshProcess, processOf}
 use Rattle.model_agreement.specs.Content.{Content}
@@ -30,14 +30,14 @@ use Rattle.model_agreement.proofs.Arrays.{set-all}
 use Rattle.model_agreement.proofs.Queue.{without-shorter}
 use Rattle.model_agreement.proofs.StepEffects.{Move, asks, counts, crashes, hears, is-told, joins, learns, opens, passes-accept, passes-accepted, passes-prepare, passes-promise, passes-request, passes-restore, promises, proposes, restores, takes, tells, votes}
 use Rattle.model_agreement.proofs.SentMessages.{Posts, posted}
-use Rattle.model_agreement.proofs.ChangedWorld.{withCell, withCoordinator, withDown, withLearned, withProcess}
+use Rattle.model_agreement.proofs.ChangedWorld.{withSlot, withCoordinator, withDown, withLearned, withProcess}
 
 pub record QueueOk (q : Queue) : Type 0 where
   pub places : length (q .entries) ≡ queuePlaces
   pub count : q .count ≤ queuePlaces
 
 pub record Shape (w : World) : Type 0 where
-  pub cell-row : length (w .cells) ≡ cellPlaces
+  pub slot-row : length (w .slots) ≡ slotPlaces
   pub co-row : length (w .coordinators) ≡ coordinators
   pub log-row : length (w .logs) ≡ coordinators
   pub process-row : length (w .processes) ≡ processPlaces
@@ -79,7 +79,7 @@ module _ {w : World} (s : Shape w) where
   co-changes : (k : ℕ) (c : Coordinator) (ms : List Message) (n : ℕ) → (length ms ≡ messages) × (n ≤ messages) → QueueOk (c .queue)
       → Shape (posted (withCoordinator w k c) ms n)
   co-changes k c ms n m q = record {
-    cell-row = s .cell-row;
+    slot-row = s .slot-row;
     co-row = length-set (w .coordinators) k c ∙ s .co-row;
     log-row = s .log-row;
     process-row = s .process-row;
@@ -91,7 +91,7 @@ module _ {w : World} (s : Shape w) where
 
   co-learns : (k : ℕ) (c : Coordinator) (b : Batch) → QueueOk (c .queue) → Shape (withLearned w k c b)
   co-learns k c b q = record {
-    cell-row = s .cell-row;
+    slot-row = s .slot-row;
     co-row = length-set (w .coordinators) k c ∙ s .co-row;
     log-row = length-set (w .logs) k _ ∙ s .log-row;
     process-row = s .process-row;
@@ -101,11 +101,11 @@ module _ {w : World} (s : Shape w) where
     queues = queues-set k c q;
   }
 
-  -- messages are sent, and a cell changes
-  cell-changes : (a i : ℕ) (x : Cell) (ms : List Message) (n : ℕ) → (length ms ≡ messages) × (n ≤ messages)
-      → Shape (posted (withCell w a i x) ms n)
-  cell-changes a i x ms n m = record {
-    cell-row = length-set (w .cells) (a * instances + i) x ∙ s .cell-row;
+  -- messages are sent, and a slot changes
+  slot-changes : (a i : ℕ) (x : AcceptorSlot) (ms : List Message) (n : ℕ) → (length ms ≡ messages) × (n ≤ messages)
+      → Shape (posted (withSlot w a i x) ms n)
+  slot-changes a i x ms n m = record {
+    slot-row = length-set (w .slots) (a * instances + i) x ∙ s .slot-row;
     co-row = s .co-row;
     log-row = s .log-row;
     process-row = s .process-row;
@@ -117,7 +117,7 @@ module _ {w : World} (s : Shape w) where
 
   process-changes : (p : ℕ) (x : Process) → length (x .heard) ≡ transactions → Shape (withProcess w p x)
   process-changes p x o = record {
-    cell-row = s .cell-row;
+    slot-row = s .slot-row;
     co-row = s .co-row;
     log-row = s .log-row;
     process-row = length-set (w .processes) p x ∙ s .process-row;
@@ -130,7 +130,7 @@ module _ {w : World} (s : Shape w) where
   -- messages are sent, or parties crash
   only-sent : (d : Down) (ms : List Message) (n : ℕ) → (length ms ≡ messages) × (n ≤ messages) → Shape (posted (withDown w d) ms n)
   only-sent d ms n m = record {
-    cell-row = s .cell-row;
+    slot-row = s .slot-row;
     co-row = s .co-row;
     log-row = s .log-row;
     process-row = s .process-row;
@@ -154,9 +154,9 @@ module _ {w : World} (s : Shape w) where
   shape-move (tells k q tx ms c _ _ _ p) = only-sent (w .down) ms c (more p)
   shape-move (restores k q ms c _ _ _ p) = only-sent (w .down) ms c (more p)
   shape-move (crashes d) = only-sent d (w .messages) (w .sent) none-sent
-  shape-move (promises j i b a ms c _ _ p) = cell-changes a i _ ms c (more p)
+  shape-move (promises j i b a ms c _ _ p) = slot-changes a i _ ms c (more p)
   shape-move (passes-prepare j i b a _ _) = s
-  shape-move (votes j i b a v ms c _ _ p _) = cell-changes a i _ ms c (more p)
+  shape-move (votes j i b a v ms c _ _ p _) = slot-changes a i _ ms c (more p)
   shape-move (passes-accept j i b a v _ _) = s
   shape-move (hears j i b a d v d′ v′ _ _ _ _) = co-changes (owner b) _ _ _ none-sent (s .queues (owner b))
   shape-move (passes-promise j i b a d v _) = s

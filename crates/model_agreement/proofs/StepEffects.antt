@@ -24,7 +24,7 @@ use Rattle.model_steps.specs.Limits.{ballots, coordinators, instances, messages
 use Rattle.model_paxos.specs.Ballot.{majority, owner}
 use Rattle.model_paxos.specs.Messages.{accept, accepted, prepare, promise}
 use Rattle.model_protocol.specs.declared.Batch.{Batch}
-use Rattle.model_protocol.specs.declared.Cell.{Cell}
+use Rattle.model_protocol.specs.declared.AcceptorSlot.{AcceptorSlot}
 use Rattle.model_protocol.specs.declared.Change.{Change}
 use Rattle.model_protocol.specs.declared.Coordinator.{Coordinator}
 use Rattle.model_protocol.specs.declared.Down.{Down}
@@ -40,26 +40,26 @@ use Rattle.model_protocol.specs.Acceptor as acceptor
 use Rattle.model_protocol.specs.Acceptor.{accepting, promising}
 use Rattle.model_protocol.specs.Coordinator.{batchToPropose, counting, hearing, isCurrent, isHeard, learning, promiseHeard, proposing, withQueue, withRound}
 use Rattle.model_protocol.specs.Change.{coordinatorNow, done}
-use Rattle.model_protocol.specs.Deliver.{handed, noPlaceFor}
-use Rattle.model_protocol.specs.Limits.{cellPlaces, processPlaces}
+use Rattle.model_protocol.specs.Deliver.{deliveryChange, noPlaceFor}
+use Rattle.model_protocol.specs.Limits.{slotPlaces, processPlaces}
 use Rattle.model_protocol.specs.Message.{acceptTo, acceptedFrom, prepareTo, promiseFrom, requestTo, restoreTo, tellTo}
 use Rattle.model_protocol.specs.Places.{deliveryPlaces, placesOf}
 use Rattle.model_protocol.specs.Process.{hearingOutcome, taking}
 use Rattle.model_protocol.specs.Queue.{isFull, isIn, joined, joining, queued}
 use Rattle.model_protocol.specs.Send.{lacksNumbers}
-use Rattle.model_protocol.specs.Step.{acceptorsCounted, cannotOpen, cannotPropose, changed, changeOf, heldStore, messageFor, messageIn, partsAt, partsOf, placesIn, stepChecks, stepOf, stepRefusal, unbelieved}
-use Rattle.model_protocol.specs.World.{cellOf, coordinatorOf, crashed, logOf, messageOf, newRound, processOf, withMessage}
+use Rattle.model_protocol.specs.Step.{acceptorsCounted, cannotOpen, cannotPropose, changed, changeOf, heldStore, messageFor, messageIn, partsAt, partsOf, placesIn, stepChecks, stepOf, stepRefusal, voterNotHolder}
+use Rattle.model_protocol.specs.World.{slotOf, coordinatorOf, crashed, logOf, messageOf, newRound, processOf, withMessage}
 use Rattle.model_agreement.specs.Bounds.{InRange}
 use Rattle.model_agreement.specs.Content.{Content, contentAs, paxos, request, restore, tell}
 use Rattle.model_agreement.specs.History.{Event, asked, delivered, note, noted, opened, restoring, setup}
 use Rattle.model_agreement.proofs.Tests.{Passed, Positive, both, is-false, is-true, neither, neqb→ne, none-of-five, none-of-three, not-first, not-not, not-second, passed}
-use Rattle.model_agreement.proofs.ChangedWorld.{accepts-sent, acceptors-changed, cell-answers, cellAt, coordinator-changed, coordinator-learns, down-changed, nothing, only-sends, prepares-sent, process-changed, withAcceptors, withCell, withCoordinator, withDown, withLearned, withProcess}
+use Rattle.model_agreement.proofs.ChangedWorld.{accepts-sent, acceptors-changed, slot-answers, slotAt, coordinator-changed, coordinator-learns, down-changed, nothing, only-sends, prepares-sent, process-changed, withAcceptors, withSlot, withCoordinator, withDown, withLearned, withProcess}
 use Rattle.model_agreement.proofs.SentMessages.{AllNew, At, OneNew, Posts, at-new, posted, posts-all, posts-one, send-posts}
 
 -- the accepted pair that a round keeps after a promise with the pair (d, v)
 pub data Higher (r : Round) (d : ℕ) (v : Batch) : ℕ → Batch → Type 0 where
-  theirs : r .held < d → Higher r d v d v
-  ours : d ≤ r .held → Higher r d v (r .held) (r .batch)
+  theirs : r .accepted < d → Higher r d v d v
+  ours : d ≤ r .accepted → Higher r d v (r .accepted) (r .batch)
 
 -- a step after setup that was answered 0
 pub data Move (w : World) (h : List Event) : World → List Event → Type 0 where
@@ -78,7 +78,7 @@ pub data Move (w : World) (h : List Event) : World → List Event → Type 0 whe
       → 0 < b
       → coordinatorOf w k .round .proposed ≡ false
       → T (majority (w .acceptors) (coordinatorOf w k .round .promises))
-      → T (not (eqb (coordinatorOf w k .round .held) 0 && eqb (coordinatorOf w k .queue .count) 0))
+      → T (not (eqb (coordinatorOf w k .round .accepted) 0 && eqb (coordinatorOf w k .queue .count) 0))
       → v ≡ batchToPropose (coordinatorOf w k)
       → Posts (w .messages) (w .sent) ms c (AllNew (w .acceptors) (λ a. paxos (accept i b a v)))
       → Move w h (posted (withCoordinator w k (withRound (coordinatorOf w k) (proposing (coordinatorOf w k .round) v))) ms c) h
@@ -96,20 +96,20 @@ pub data Move (w : World) (h : List Event) : World → List Event → Type 0 whe
   crashes : (d : Down) → Move w h (withDown w d) h
   -- a message is delivered to an acceptor
   promises : (j i b a : ℕ) (ms : List Message) (c : ℕ) → At (w .messages) (w .sent) j (paxos (prepare i b a))
-      → cellOf w a i .promised < b
+      → slotOf w a i .promised < b
       → Posts (w .messages) (w .sent) ms c
-      (OneNew (w .sent) (paxos (promise i b a (cellOf w a i .ballot) (cellOf w a i .batch))))
-      → Move w h (posted (withCell w a i (promising (cellOf w a i) b)) ms c) (delivered j (paxos (prepare i b a)) ∷ h)
+      (OneNew (w .sent) (paxos (promise i b a (slotOf w a i .ballot) (slotOf w a i .batch))))
+      → Move w h (posted (withSlot w a i (promising (slotOf w a i) b)) ms c) (delivered j (paxos (prepare i b a)) ∷ h)
   passes-prepare : (j i b a : ℕ) → At (w .messages) (w .sent) j (paxos (prepare i b a))
-      → b ≤ cellOf w a i .promised
+      → b ≤ slotOf w a i .promised
       → Move w h w (delivered j (paxos (prepare i b a)) ∷ h)
   votes : (j i b a : ℕ) (v : Batch) (ms : List Message) (c : ℕ) → At (w .messages) (w .sent) j (paxos (accept i b a v))
-      → cellOf w a i .promised ≤ b
+      → slotOf w a i .promised ≤ b
       → Posts (w .messages) (w .sent) ms c (OneNew (w .sent) (paxos (accepted i b a)))
       → At ms c (w .sent) (paxos (accepted i b a))
-      → Move w h (posted (withCell w a i (accepting b v)) ms c) (delivered j (paxos (accept i b a v)) ∷ h)
+      → Move w h (posted (withSlot w a i (accepting b v)) ms c) (delivered j (paxos (accept i b a v)) ∷ h)
   passes-accept : (j i b a : ℕ) (v : Batch) → At (w .messages) (w .sent) j (paxos (accept i b a v))
-      → b < cellOf w a i .promised
+      → b < slotOf w a i .promised
       → Move w h w (delivered j (paxos (accept i b a v)) ∷ h)
   -- to a coordinator
   hears : (j i b a d : ℕ) (v : Batch) (d′ : ℕ) (v′ : Batch) → At (w .messages) (w .sent) j (paxos (promise i b a d v))
@@ -162,10 +162,10 @@ pub data Trans (w : World) (h : List Event) : World → List Event → Type 0 wh
 
 -- at coordinator k, at process k
 abbrev coordinatorAt : ℕ → Places
-coordinatorAt k = record { coordinator = k; cell = 0; process = 0 }
+coordinatorAt k = record { coordinator = k; slot = 0; process = 0 }
 
 abbrev processAt : ℕ → Places
-processAt k = record { coordinator = 0; cell = 0; process = k }
+processAt k = record { coordinator = 0; slot = 0; process = k }
 
 module _ (w : World) (h : List Event) (size : length (w .messages) ≡ messages) (few : w .acceptors ≤ mostAcceptors)
     (range : (j : ℕ) (x : Content) → At (w .messages) (w .sent) j x → InRange (w .acceptors) x) where
@@ -187,52 +187,52 @@ module _ (w : World) (h : List Event) (size : length (w .messages) ≡ messages)
   -- the message m of number j, handed on at these places
   abbrev Handled : ℕ → Message → Kind → Places → Type 0
   Handled j m κ at =
-      T (not (noPlaceFor (partsAt w at m) κ)) → Move w h (changed w at (handed (partsAt w at m) κ)) (delivered j (contentAs κ m) ∷ h)
+      T (not (noPlaceFor (partsAt w at m) κ)) → Move w h (changed w at (deliveryChange (partsAt w at m) κ)) (delivered j (contentAs κ m) ∷ h)
 
   module _ (j : ℕ) (m : Message) where
-    abbrev its-cell : Cell
-    its-cell = cellOf w (m .acceptor) (m .inst)
+    abbrev its-slot : AcceptorSlot
+    its-slot = slotOf w (m .acceptor) (m .inst)
 
     abbrev its-owner : Coordinator
     its-owner = coordinatorOf w (owner (m .ballot))
 
-    t-prepare : At (w .messages) (w .sent) j (paxos (prepare (m .inst) (m .ballot) (m .acceptor))) → Handled j m kind.Prepare (cellAt (m .acceptor) (m .inst))
-    unfolding handed
+    t-prepare : At (w .messages) (w .sent) j (paxos (prepare (m .inst) (m .ballot) (m .acceptor))) → Handled j m kind.Prepare (slotAt (m .acceptor) (m .inst))
+    unfolding deliveryChange
     t-prepare s t =
         let i = m .inst in
         let b = m .ballot in
         let a = m .acceptor in
-        let x = its-cell in
-        move-by (λ (ch : Change). changed w (cellAt a i) ch) (ltb (x .promised) b)
-        (λ f. to-world (cell-answers w m a i (promising x b) (promiseFrom i b a (x .ballot) (x .batch)))
+        let x = its-slot in
+        move-by (λ (ch : Change). changed w (slotAt a i) ch) (ltb (x .promised) b)
+        (λ f. to-world (slot-answers w m a i (promising x b) (promiseFrom i b a (x .ballot) (x .batch)))
         (promises j i b a _ _ s (ltb→lt (x .promised) b f)
         (posts-one (w .messages) (w .sent) (promiseFrom i b a (x .ballot) (x .batch)) size
         (one-left (not-second (acceptor.promises x b) (lacksNumbers (w .sent) 1) t f)))))
-        (λ f. to-world (nothing w (cellAt a i) m) (passes-prepare j i b a s (nltb→le (x .promised) b f)))
+        (λ f. to-world (nothing w (slotAt a i) m) (passes-prepare j i b a s (nltb→le (x .promised) b f)))
 
-    t-accept : At (w .messages) (w .sent) j (paxos (accept (m .inst) (m .ballot) (m .acceptor) (m .batch))) → Handled j m kind.Accept (cellAt (m .acceptor) (m .inst))
-    unfolding handed
+    t-accept : At (w .messages) (w .sent) j (paxos (accept (m .inst) (m .ballot) (m .acceptor) (m .batch))) → Handled j m kind.Accept (slotAt (m .acceptor) (m .inst))
+    unfolding deliveryChange
     t-accept s t =
         let i = m .inst in
         let b = m .ballot in
         let a = m .acceptor in
-        let x = its-cell in
-        move-by (λ (ch : Change). changed w (cellAt a i) ch) (leb (x .promised) b)
+        let x = its-slot in
+        move-by (λ (ch : Change). changed w (slotAt a i) ch) (leb (x .promised) b)
         (λ f. let g = one-left (not-second (acceptor.accepts x b) (lacksNumbers (w .sent) 1) t f) in
-        to-world (cell-answers w m a i (accepting b (m .batch)) (acceptedFrom i b a))
+        to-world (slot-answers w m a i (accepting b (m .batch)) (acceptedFrom i b a))
         (votes j i b a (m .batch) _ _ s (leb→le (x .promised) b f)
         (posts-one (w .messages) (w .sent) (acceptedFrom i b a) size g)
         (at-new (w .messages) (w .sent) (acceptedFrom i b a) (rw size g))))
-        (λ f. to-world (nothing w (cellAt a i) m) (passes-accept j i b a (m .batch) s (nleb→lt (x .promised) b f)))
+        (λ f. to-world (nothing w (slotAt a i) m) (passes-accept j i b a (m .batch) s (nleb→lt (x .promised) b f)))
 
-    t-promise : At (w .messages) (w .sent) j (paxos (promise (m .inst) (m .ballot) (m .acceptor) (m .held) (m .batch))) → Handled j m kind.Promise (coordinatorAt (owner (m .ballot)))
-    unfolding handed promiseHeard
+    t-promise : At (w .messages) (w .sent) j (paxos (promise (m .inst) (m .ballot) (m .acceptor) (m .accepted) (m .batch))) → Handled j m kind.Promise (coordinatorAt (owner (m .ballot)))
+    unfolding deliveryChange promiseHeard
     t-promise s _ =
         let i = m .inst in
         let b = m .ballot in
         let a = m .acceptor in
         let c = its-owner in
-        let d = m .held in
+        let d = m .accepted in
         let v = m .batch in
         let at = coordinatorAt (owner b) in
         move-by (λ (ch : Change). changed w at ch) (isHeard c i b a)
@@ -240,13 +240,13 @@ module _ (w : World) (h : List Event) (size : length (w .messages) ≡ messages)
         let e = eqb→eq i (c .applied) (g .0) in
         let e′ = eqb→eq b (c .round .ballot) (g .1) in
         to-world (coordinator-changed w at m (withRound c (promiseHeard (c .round) a d v)))
-        (move-by (λ (r : Round). withCoordinator w (owner b) (withRound c r)) (ltb (c .round .held) d)
-        (λ l. hears j i b a d v _ _ s e e′ (theirs (ltb→lt (c .round .held) d l)))
-        (λ l. hears j i b a d v _ _ s e e′ (ours (nltb→le (c .round .held) d l)))))
+        (move-by (λ (r : Round). withCoordinator w (owner b) (withRound c r)) (ltb (c .round .accepted) d)
+        (λ l. hears j i b a d v _ _ s e e′ (theirs (ltb→lt (c .round .accepted) d l)))
+        (λ l. hears j i b a d v _ _ s e e′ (ours (nltb→le (c .round .accepted) d l)))))
         (λ f. to-world (nothing w at m) (passes-promise j i b a d v s))
 
     t-accepted : At (w .messages) (w .sent) j (paxos (accepted (m .inst) (m .ballot) (m .acceptor))) → Handled j m kind.Accepted (coordinatorAt (owner (m .ballot)))
-    unfolding handed
+    unfolding deliveryChange
     t-accepted s _ =
         let i = m .inst in
         let b = m .ballot in
@@ -278,7 +278,7 @@ module _ (w : World) (h : List Event) (size : length (w .messages) ≡ messages)
     queue-by false full t u = u
 
     t-request : At (w .messages) (w .sent) j (request (m .to) (m .entry)) → Handled j m kind.Request (coordinatorAt (m .to))
-    unfolding handed joining
+    unfolding deliveryChange joining
     t-request s t =
         let k = coordinatorOf w (m .to) in
         let at = coordinatorAt (m .to) in
@@ -289,13 +289,13 @@ module _ (w : World) (h : List Event) (size : length (w .messages) ≡ messages)
         (joins j (m .to) (m .entry) s (queue-by here (isFull (k .queue)) t f)))
 
     t-told : At (w .messages) (w .sent) j (tell (m .to) (m .tx) (m .outcome)) → Handled j m kind.Tell (processAt (m .to))
-    unfolding handed
+    unfolding deliveryChange
     t-told s _ =
         to-world (process-changed w (processAt (m .to)) m (hearingOutcome (processOf w (m .to)) (m .tx) (m .outcome)))
         (is-told j (m .to) (m .tx) (m .outcome) s)
 
     t-taken : At (w .messages) (w .sent) j (restore (m .to) (m .store) (m .position) (m .replay)) → Handled j m kind.Restore (processAt (m .to))
-    unfolding handed
+    unfolding deliveryChange
     t-taken s _ =
         let at = processAt (m .to) in
         let q = processOf w (m .to) in
@@ -308,14 +308,14 @@ module _ (w : World) (h : List Event) (size : length (w .messages) ≡ messages)
     own-place : owner (m .ballot) % coordinators ≡ owner (m .ballot)
     own-place = mod-eq-of-lt (mod-lt (m .ballot) (omega arith))
 
-    cell-place : m .acceptor < w .acceptors → m .inst < instances
-        → (m .acceptor * instances + m .inst) % cellPlaces ≡ m .acceptor * instances + m .inst
-    cell-place l g = mod-eq-of-lt (omega arith)
+    slot-place : m .acceptor < w .acceptors → m .inst < instances
+        → (m .acceptor * instances + m .inst) % slotPlaces ≡ m .acceptor * instances + m .inst
+    slot-place l g = mod-eq-of-lt (omega arith)
 
     t-deliver : (κ : Kind) → At (w .messages) (w .sent) j (contentAs κ m) → Handled j m κ (deliveryPlaces m κ)
     t-deliver kind.Request s = rw (mod-eq-of-lt (range j _ s)) (t-request s)
-    t-deliver kind.Prepare s = rw (cell-place (range j _ s .acceptor) (range j _ s .inst)) (t-prepare s)
-    t-deliver kind.Accept s = rw (cell-place (range j _ s .acceptor) (range j _ s .inst)) (t-accept s)
+    t-deliver kind.Prepare s = rw (slot-place (range j _ s .acceptor) (range j _ s .inst)) (t-prepare s)
+    t-deliver kind.Accept s = rw (slot-place (range j _ s .acceptor) (range j _ s .inst)) (t-accept s)
     t-deliver kind.Promise s = rw own-place (t-promise s)
     t-deliver kind.Accepted s = rw own-place (t-accepted s)
     t-deliver kind.Tell s = let l = range j _ s .0 in let e : m .to % processPlaces ≡ m .to = mod-eq-of-lt (omega arith) in rw e (t-told s)
@@ -353,7 +353,7 @@ module _ (w : World) (h : List Event) (size : length (w .messages) ≡ messages)
     unfolding changeOf stepChecks outsideStep
     t-ask e k at p =
         to-trans (only-sends w at d (requestTo k e))
-        (moves (live (neither (eqb (w .acceptors) 0) (unbelieved e (processOf w (at .process))) (p .1 .1 .0) .0))
+        (moves (live (neither (eqb (w .acceptors) 0) (voterNotHolder e (processOf w (at .process))) (p .1 .1 .0) .0))
         (asks e k _ _ (nleb→lt coordinators k (neither (outside e) (noCoordinator k) (p .0) .1))
         (posts-one (w .messages) (w .sent) (requestTo k e) size (one-left (p .1 .1 .1 .0)))))
 
@@ -391,7 +391,7 @@ module _ (w : World) (h : List Event) (size : length (w .messages) ≡ messages)
         (not (eqb b (c .round .ballot)))
         (not (majority (w .acceptors) (c .round .promises)))
         (c .round .proposed)
-        (eqb (c .round .held) 0 && eqb (c .queue .count) 0)
+        (eqb (c .round .accepted) 0 && eqb (c .queue .count) 0)
         (m .1) in
         let n = live (m .0) in
         let r = nltb→le (messages - w .sent) (w .acceptors) (p .1 .1 .1 .0) in

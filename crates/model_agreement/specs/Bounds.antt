@@ -9,12 +9,12 @@ use Rattle.model_steps.specs.declared.Step.{Step}
 use Rattle.model_steps.specs.Limits.{ballots, coordinators, instances, messages, mostAcceptors}
 use Rattle.model_paxos.specs.Messages.{accept, accepted, prepare, promise}
 use Rattle.model_protocol.specs.declared.Batch.{Batch}
-use Rattle.model_protocol.specs.declared.Cell.{Cell}
+use Rattle.model_protocol.specs.declared.AcceptorSlot.{AcceptorSlot}
 use Rattle.model_protocol.specs.declared.Coordinator.{Coordinator}
 use Rattle.model_protocol.specs.declared.World.{World}
 use Rattle.model_protocol.specs.Limits.{batchEntries, queuePlaces}
 use Rattle.model_protocol.specs.Step.{run}
-use Rattle.model_protocol.specs.World.{coordinatorOf, emptyCell, freshWorld, messageOf}
+use Rattle.model_protocol.specs.World.{coordinatorOf, emptySlot, freshWorld, messageOf}
 use Rattle.model_agreement.specs.Content.{Content, contentOf, paxos, request, restore, tell}
 
 -- instance, ballot and acceptor, where there are n acceptors
@@ -34,7 +34,7 @@ InRange n (request k e) = k < coordinators
 InRange n (tell p tx o) = (p ≤ processes) × (tx < transactions)
 InRange n (restore p s i r) = (0 < p) × (p ≤ processes) × (i ≤ instances)
 
-pub record CellRange (x : Cell) : Type 0 where
+pub record CellRange (x : AcceptorSlot) : Type 0 where
   pub promised : x .promised ≤ ballots
   pub ballot : x .ballot ≤ ballots
 
@@ -43,7 +43,7 @@ pub record CoRange (n : ℕ) (c : Coordinator) : Type 0 where
   -- a ballot is opened only in an instance
   pub room : 0 < c .round .ballot → c .applied < instances
   pub ballot : c .round .ballot ≤ ballots
-  pub held : c .round .held ≤ ballots
+  pub accepted : c .round .accepted ≤ ballots
   -- sets of acceptors
   pub promises : c .round .promises < 2 ^ n
   pub acceptances : c .round .acceptances < 2 ^ n
@@ -57,7 +57,7 @@ pub record Bounds (w : World) : Type 0 where
   pub acceptors : w .acceptors ≤ mostAcceptors
   pub sent : w .sent ≤ messages
   pub in-range : {j : ℕ} {x : Content} → Says w j x → InRange (w .acceptors) x
-  pub cells : (k : ℕ) → CellRange (getD (w .cells) k emptyCell)
+  pub slots : (k : ℕ) → CellRange (getD (w .slots) k emptySlot)
   pub cos : (k : ℕ) → CoRange (w .acceptors) (coordinatorOf w k)
   pub queues : (k : ℕ) → coordinatorOf w k .queue .count ≤ queuePlaces
   pub stores : {j p s i : ℕ} {r : _} → Says w j (restore p s i r) → s < stores

@@ -22,7 +22,7 @@ abbrev pub contentAs : Kind → Message → Content
 contentAs Request m = request (m .to) (m .entry)
 contentAs Prepare m = paxos (prepare (m .inst) (m .ballot) (m .acceptor))
 contentAs Accept m = paxos (accept (m .inst) (m .ballot) (m .acceptor) (m .batch))
-contentAs Promise m = paxos (promise (m .inst) (m .ballot) (m .acceptor) (m .held) (m .batch))
+contentAs Promise m = paxos (promise (m .inst) (m .ballot) (m .acceptor) (m .accepted) (m .batch))
 contentAs Accepted m = paxos (accepted (m .inst) (m .ballot) (m .acceptor))
 contentAs Tell m = tell (m .to) (m .tx) (m .outcome)
 contentAs Restore m = restore (m .to) (m .store) (m .position) (m .replay)

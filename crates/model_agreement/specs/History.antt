@@ -110,7 +110,7 @@ Other k (delivered m x) = Unit {0}
 -- the last ballot that k opened is b, in i
 pub data LastOpened (k i b : ℕ) : List Event → Type 0 where
   opening : {h : List Event} → LastOpened k i b (opened k i b ∷ h)
-  still : {e : Event} {h : List Event} → Other k e → LastOpened k i b h → LastOpened k i b (e ∷ h)
+  withoutMessages : {e : Event} {h : List Event} → Other k e → LastOpened k i b h → LastOpened k i b (e ∷ h)
 
 -- and since then the acceptance of a was delivered
 pub data Since (k i b a : ℕ) : List Event → Type 0 where

@@ -38,7 +38,7 @@ pub record Core {X : Type 0} (n : ℕ) (S : Paxos X → Type 0) : Type 0 where
   pub why : {i b a : ℕ} {v : X} → S (accept i b a v) → Why n S i b v
   pub bound : {i b a : ℕ} {v : X} → S (accept i b a v) → i < instances
   -- the accepted pair of a promise was proposed
-  pub held : {i b a d : ℕ} {v : X} → S (promise i b a d v) → (d < b) × ((d ≡ 0) ⊎ S (accept i d a v))
+  pub accepted : {i b a d : ℕ} {v : X} → S (promise i b a d v) → (d < b) × ((d ≡ 0) ⊎ S (accept i d a v))
   -- none is skipped
   pub prior : {i b a : ℕ} {v : X} → S (accept i b a v) → (j : ℕ) → j < i → (c : ℕ) × (w : X) × Chosen n S j c w
 

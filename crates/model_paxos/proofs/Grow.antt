@@ -20,7 +20,7 @@ pub record Holding (X : Type 0) : Type 0 where
 pub record Attempt (X : Type 0) : Type 0 where
   pub ballot : ℕ
   pub promises : ℕ
-  pub held : ℕ
+  pub accepted : ℕ
   pub value : X
   pub proposed : Bool
   pub proposal : X
@@ -59,14 +59,14 @@ UsedBy p r i b v = Used p (r .ballot) (r .proposed) (r .proposal) i b v
 
 -- the pair that a coordinator would propose again
 abbrev pub Best : {X : Type 0} → (Paxos X → Type 0) → ℕ → Attempt X → Type 0
-Best S p r = (r .held ≡ 0) ⊎ ((r .held < r .ballot) × ((a : ℕ) × S (accept p (r .held) a (r .value))))
+Best S p r = (r .accepted ≡ 0) ⊎ ((r .accepted < r .ballot) × ((a : ℕ) × S (accept p (r .accepted) a (r .value))))
 
 -- coordinator k, which has applied p instances
 pub record CoOk {X : Type 0} (n : ℕ) (S : Paxos X → Type 0) (k p : ℕ) (r : Attempt X) : Type 0 where
   pub room : 0 < r .ballot → p < instances
   pub own : 0 < r .ballot → owner (r .ballot) ≡ k
   pub used : {i b a : ℕ} {v : X} → S (accept i b a v) → owner b ≡ k → UsedBy p r i b v
-  pub heard : (a : ℕ) → Has (r .promises) a → (d : ℕ) × (w : X) × S (promise p (r .ballot) a d w) × (d ≤ r .held)
+  pub heard : (a : ℕ) → Has (r .promises) a → (d : ℕ) × (w : X) × S (promise p (r .ballot) a d w) × (d ≤ r .accepted)
   pub best : Best S p r
   pub counted : (a : ℕ) → Has (r .acceptances) a → S (accepted p (r .ballot) a)
   pub earlier : (j : ℕ) → j < p → (b : ℕ) × (v : X) × Chosen n S j b v
@@ -125,7 +125,7 @@ module _ {X : Type 0} {n : ℕ} {S S′ : Paxos X → Type 0} (up : (m : Paxos X
 
   module _ (C : Core n S) where
     held-up : {i b a d : ℕ} {v : X} → S (promise i b a d v) → (d < b) × ((d ≡ 0) ⊎ S′ (accept i d a v))
-    held-up s = let t = C .held s in (t .0, pair-up up (t .1))
+    held-up s = let t = C .accepted s in (t .0, pair-up up (t .1))
 
     prior-up : {i b a : ℕ} {v : X} → S (accept i b a v) → (j : ℕ) → j < i → (c : ℕ) × (w : X) × Chosen n S′ j c w
     prior-up s j h = let t = C .prior s j h in (t .0, t .1, chosen-up (t .2))
@@ -142,7 +142,7 @@ module _ {X : Type 0} {n : ℕ} {S S′ : Paxos X → Type 0} (up : (m : Paxos X
       positive = λ s. C .positive (old _ (omega arith) s);
       why = λ s. why-up (C .why (old _ (omega arith) s));
       bound = λ s. C .bound (old _ (omega arith) s);
-      held = λ s. held-up (old _ (omega arith) s);
+      accepted = λ s. held-up (old _ (omega arith) s);
       prior = λ s. prior-up (old _ (omega arith) s);
     }
 
@@ -159,7 +159,7 @@ module _ {X : Type 0} {n : ℕ} {S S′ : Paxos X → Type 0} (up : (m : Paxos X
             positive = λ s. C .positive (old _ (omega arith) s);
             why = λ s. why-up (C .why (old _ (omega arith) s));
             bound = λ s. C .bound (old _ (omega arith) s);
-            held = λ s. held (dn _ s);
+            accepted = λ s. accepted (dn _ s);
             prior = λ s. prior-up (old _ (omega arith) s);
           }
         where
@@ -171,11 +171,11 @@ module _ {X : Type 0} {n : ℕ} {S S′ : Paxos X → Type 0} (up : (m : Paxos X
           last (inl s) t g = C .last s t g
           last (inr new) t g = ok .votes t
 
-          held : {i′ b′ a′ d : ℕ} {v : X}
+          accepted : {i′ b′ a′ d : ℕ} {v : X}
               → S (promise i′ b′ a′ d v) ⊎ New (promise i b a (x .ballot) (x .value)) (promise i′ b′ a′ d v)
               → (d < b′) × ((d ≡ 0) ⊎ S′ (accept i′ d a′ v))
-          held (inl s) = held-up s
-          held (inr new) = (omega (arith, ok .order), pair-up up (ok .pair))
+          accepted (inl s) = held-up s
+          accepted (inr new) = (omega (arith, ok .order), pair-up up (ok .pair))
 
     -- the acceptor a in the state x accepts v under b
     module _ (i b a : ℕ) (v : X) (x : Holding X) (ok : AccOk S a i x) (h : x .promised ≤ b) (r : S (accept i b a v)) where
@@ -190,7 +190,7 @@ module _ {X : Type 0} {n : ℕ} {S S′ : Paxos X → Type 0} (up : (m : Paxos X
             positive = λ s. C .positive (old _ (omega arith) s);
             why = λ s. why-up (C .why (old _ (omega arith) s));
             bound = λ s. C .bound (old _ (omega arith) s);
-            held = λ s. held-up (old _ (omega arith) s);
+            accepted = λ s. held-up (old _ (omega arith) s);
             prior = λ s. prior-up (old _ (omega arith) s);
           }
         where
@@ -210,7 +210,7 @@ module _ {X : Type 0} {n : ℕ} {S S′ : Paxos X → Type 0} (up : (m : Paxos X
 
     -- the coordinator k, which has applied p instances, proposes v
     module _ (k p : ℕ) (r : Attempt X) (v : X) (o : CoOk n S k p r) (h : 0 < r .ballot) (e : r .proposed ≡ false) (q : Majority n (r .promises))
-        (g : (r .held ≡ 0) ⊎ (v ≡ r .value)) where
+        (g : (r .accepted ≡ 0) ⊎ (v ≡ r .value)) where
       -- it has not proposed under this ballot
       unused : {a : ℕ} {w : X} → S (accept p (r .ballot) a w) → ⊥
       unused {a} {w} s = go (o .used s (o .own h))
@@ -221,13 +221,13 @@ module _ {X : Type 0} {n : ℕ} {S S′ : Paxos X → Type 0} (up : (m : Paxos X
           go (now t u f z) = let y : _≡_ {A = ℕ} 0 1 = cc in omega arith
 
       reason : Why n S p (r .ballot) v
-      reason = record { from = r .held; below = below (o .best); set = r .promises; most = q; heard = o .heard; same = same g (o .best) }
+      reason = record { from = r .accepted; below = below (o .best); set = r .promises; most = q; heard = o .heard; same = same g (o .best) }
         where
-          below : Best S p r → r .held < r .ballot
+          below : Best S p r → r .accepted < r .ballot
           below (inl z) = omega arith
           below (inr t) = t .0
 
-          same : (r .held ≡ 0) ⊎ (v ≡ r .value) → Best S p r → (r .held ≡ 0) ⊎ ((a : ℕ) × S (accept p (r .held) a v))
+          same : (r .accepted ≡ 0) ⊎ (v ≡ r .value) → Best S p r → (r .accepted ≡ 0) ⊎ ((a : ℕ) × S (accept p (r .accepted) a v))
           same (inl z) t = inl z
           same (inr z) (inl t) = inl t
           same (inr z) (inr t) = inr (t .1 .0, rw z (t .1 .1))
@@ -244,7 +244,7 @@ module _ {X : Type 0} {n : ℕ} {S S′ : Paxos X → Type 0} (up : (m : Paxos X
             positive = λ s. positive (dn _ s);
             why = λ s. why (dn _ s);
             bound = λ s. bound (dn _ s);
-            held = λ s. held-up (old _ (omega arith) s);
+            accepted = λ s. held-up (old _ (omega arith) s);
             prior = λ s. prior (dn _ s);
           }
         where

@@ -54,13 +54,13 @@ module _ {X : Type 0} {S S′ : Paxos X → Type 0} (up : (m : Paxos X) → S m 
 
 module _ {X : Type 0} where
   abbrev pub opening : ℕ → X → Attempt X
-  opening b z = record { ballot = b; promises = 0; held = 0; value = z; proposed = false; proposal = z; acceptances = 0 }
+  opening b z = record { ballot = b; promises = 0; accepted = 0; value = z; proposed = false; proposal = z; acceptances = 0 }
 
   abbrev pub hearing : Attempt X → ℕ → ℕ → X → Attempt X
   hearing r a d v = record {
     ballot = r .ballot;
     promises = with (r .promises) a;
-    held = d;
+    accepted = d;
     value = v;
     proposed = r .proposed;
     proposal = r .proposal;
@@ -71,7 +71,7 @@ module _ {X : Type 0} where
   proposing r v = record {
     ballot = r .ballot;
     promises = r .promises;
-    held = r .held;
+    accepted = r .accepted;
     value = r .value;
     proposed = true;
     proposal = v;
@@ -82,7 +82,7 @@ module _ {X : Type 0} where
   counting r a = record {
     ballot = r .ballot;
     promises = r .promises;
-    held = r .held;
+    accepted = r .accepted;
     value = r .value;
     proposed = r .proposed;
     proposal = r .proposal;
@@ -112,7 +112,7 @@ module _ {X : Type 0} {n : ℕ} {S : Paxos X → Type 0} {k p : ℕ} {r : Attemp
   pub co-hear : (a d : ℕ) (v : X) (d′ : ℕ) (v′ : X)
       → S (promise p (r .ballot) a d v)
       → d ≤ d′
-      → r .held ≤ d′
+      → r .accepted ≤ d′
       → Best S p (hearing r a d′ v′)
       → CoOk n S k p (hearing r a d′ v′)
   co-hear a d v d′ v′ s g h t =
@@ -205,16 +205,16 @@ module _ {X : Type 0} {n : ℕ} {S S′ : Paxos X → Type 0} (up : (m : Paxos X
         earlier = λ j h. let t = o .earlier j h in (t .0, t .1, chosen-up up (t .2));
       }
     where
-      still : {i b : ℕ} {w : X} → UsedBy p r i b w → UsedBy p (proposing r v) i b w
-      still (past t) = past t
-      still (under t u) = under t u
-      still (now t u f q) = absurd (let z : _≡_ {A = ℕ} 0 1 = cc in omega arith)
+      withoutMessages : {i b : ℕ} {w : X} → UsedBy p r i b w → UsedBy p (proposing r v) i b w
+      withoutMessages (past t) = past t
+      withoutMessages (under t u) = under t u
+      withoutMessages (now t u f q) = absurd (let z : _≡_ {A = ℕ} 0 1 = cc in omega arith)
 
       used : {i b a : ℕ} {w : X}
           → S (accept i b a w) ⊎ NewAll n (λ a. accept p (r .ballot) a v) (accept i b a w)
           → owner b ≡ k
           → UsedBy p (proposing r v) i b w
-      used (inl s) f = still (o .used s f)
+      used (inl s) f = withoutMessages (o .used s f)
       used (inr (newAt a l)) f = now refl refl refl refl
 
   -- another coordinator

@@ -14,7 +14,7 @@ use Rattle.model_steps.specs.Limits.{outsideStep}
 use Rattle.model_protocol.specs.declared.World.{World}
 use Rattle.model_protocol.specs.Batch.{batchOf, noBatch}
 use Rattle.model_protocol.specs.Coordinator.{batchToPropose, learning, promiseHeard}
-use Rattle.model_protocol.specs.Deliver.{handed}
+use Rattle.model_protocol.specs.Deliver.{deliveryChange}
 use Rattle.model_protocol.specs.Message.{noReplay}
 use Rattle.model_protocol.specs.Places.{placesOf}
 use Rattle.model_protocol.specs.Queue.{firstBatch, isIn, joining, leftBy, queueOf, without}
@@ -24,5 +24,5 @@ use Rattle.model_protocol.specs.World.{allUp, freshCoordinator, freshPro
 
 -- the world after a list of steps from the fresh world
 unfoldable pub computed : List Step → World
-unfolding run stepOf placesOf stepRefusal stepChecks changeOf messageFor heldFrom handed firstRefusal outsideStep outside illFormed sendToAll copyOf promiseHeard learning joining batchToPropose firstBatch batchOf isIn sameEntry leftBy queueOf without freshWorld freshCoordinator freshProcess allUp noBatch noReplay emptyLog feed enter refusalOf afterEntry voted committing remembered runningSet outcomeOfVotes running replayOf replayFrom groupReplay anyFrom allFrom ones onesIn
+unfolding run stepOf placesOf stepRefusal stepChecks changeOf messageFor heldFrom deliveryChange firstRefusal outsideStep outside illFormed sendToAll copyOf promiseHeard learning joining batchToPropose firstBatch batchOf isIn sameEntry leftBy queueOf without freshWorld freshCoordinator freshProcess allUp noBatch noReplay emptyLog feed enter refusalOf afterEntry voted committing remembered runningSet outcomeOfVotes running replayOf replayFrom groupReplay anyFrom allFrom ones onesIn
 computed steps = run freshWorld steps

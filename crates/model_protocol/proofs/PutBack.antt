@@ -9,14 +9,14 @@ use Rattle.model_protocol.specs.declared.Message.{Message}
 use Rattle.model_protocol.specs.declared.Places.{Places}
 use Rattle.model_protocol.specs.declared.World.{World}
 use Rattle.model_protocol.specs.Batch.{entriesOf, noBatch}
-use Rattle.model_protocol.specs.Change.{still}
+use Rattle.model_protocol.specs.Change.{withoutMessages}
 use Rattle.model_protocol.specs.Send.{copyOf, sendToAll}
 use Rattle.model_protocol.specs.Step.{changed, partsAt, putBack}
-use Rattle.model_protocol.specs.World.{emptyCell, freshCoordinator, freshProcess, logOf}
+use Rattle.model_protocol.specs.World.{emptySlot, freshCoordinator, freshProcess, logOf}
 
 module _ (w : World) (at : Places) where
-  pub same-cells : set (w .cells) (at .cell) (getD (w .cells) (at .cell) emptyCell) ≡ w .cells
-  same-cells = set-getD (w .cells) (at .cell) emptyCell
+  pub same-slots : set (w .slots) (at .slot) (getD (w .slots) (at .slot) emptySlot) ≡ w .slots
+  same-slots = set-getD (w .slots) (at .slot) emptySlot
 
   pub same-coordinators : set (w .coordinators) (at .coordinator) (getD (w .coordinators) (at .coordinator) freshCoordinator) ≡ w .coordinators
   same-coordinators = set-getD (w .coordinators) (at .coordinator) freshCoordinator
@@ -32,7 +32,7 @@ module _ (w : World) (at : Places) where
   pub all-back : (m : Message) → putBack w at (partsAt w at m) noBatch ≡ w
   all-back m = λ i. record {
     acceptors = w .acceptors;
-    cells = same-cells i;
+    slots = same-slots i;
     coordinators = same-coordinators i;
     logs = same-logs i;
     processes = same-processes i;
@@ -46,5 +46,5 @@ unfolding sendToAll
 none-sent w m = refl
 
 -- parts that are as they were change nothing
-pub nothing-changed : (w : World) (at : Places) (m : Message) (n : ℕ) → changed w at (still (partsAt w at m) n) ≡ w
+pub nothing-changed : (w : World) (at : Places) (m : Message) (n : ℕ) → changed w at (withoutMessages (partsAt w at m) n) ≡ w
 nothing-changed w at m n = none-sent _ _ ∙ all-back w at m

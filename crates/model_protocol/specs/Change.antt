@@ -2,7 +2,7 @@
 use Prim.Native.Nat.{ℕ}
 use Rattle.log_entry.specs.Refusal.{accepted}
 use Rattle.model_protocol.specs.declared.Batch.{Batch}
-use Rattle.model_protocol.specs.declared.Cell.{Cell}
+use Rattle.model_protocol.specs.declared.AcceptorSlot.{AcceptorSlot}
 use Rattle.model_protocol.specs.declared.Coordinator.{Coordinator}
 use Rattle.model_protocol.specs.declared.Down.{Down}
 use Rattle.model_protocol.specs.declared.Message.{Message}
@@ -12,35 +12,35 @@ use Rattle.model_protocol.specs.Message.{noMessage}
 use Rattle.model_protocol.specs.declared.Change.{Change}
 use Rattle.model_protocol.specs.declared.Parts.{Parts}
 
-abbrev pub parts : ℕ → ℕ → Down → Coordinator → Cell → Process → Message → Parts
-parts acceptors sent down coordinator cell process message = record {
+abbrev pub parts : ℕ → ℕ → Down → Coordinator → AcceptorSlot → Process → Message → Parts
+parts acceptors sent down coordinator slot process message = record {
   acceptors = acceptors;
   sent = sent;
   down = down;
   coordinator = coordinator;
-  cell = cell;
+  slot = slot;
   process = process;
   message = message;
 }
 
 abbrev pub acceptorsNow : Parts → ℕ → Parts
-acceptorsNow p n = parts n (p .sent) (p .down) (p .coordinator) (p .cell) (p .process) (p .message)
+acceptorsNow p n = parts n (p .sent) (p .down) (p .coordinator) (p .slot) (p .process) (p .message)
 
 abbrev pub downNow : Parts → Down → Parts
-downNow p d = parts (p .acceptors) (p .sent) d (p .coordinator) (p .cell) (p .process) (p .message)
+downNow p d = parts (p .acceptors) (p .sent) d (p .coordinator) (p .slot) (p .process) (p .message)
 
 abbrev pub coordinatorNow : Parts → Coordinator → Parts
-coordinatorNow p c = parts (p .acceptors) (p .sent) (p .down) c (p .cell) (p .process) (p .message)
+coordinatorNow p c = parts (p .acceptors) (p .sent) (p .down) c (p .slot) (p .process) (p .message)
 
-abbrev pub cellNow : Parts → Cell → Parts
-cellNow p x = parts (p .acceptors) (p .sent) (p .down) (p .coordinator) x (p .process) (p .message)
+abbrev pub slotNow : Parts → AcceptorSlot → Parts
+slotNow p x = parts (p .acceptors) (p .sent) (p .down) (p .coordinator) x (p .process) (p .message)
 
 abbrev pub processNow : Parts → Process → Parts
-processNow p h = parts (p .acceptors) (p .sent) (p .down) (p .coordinator) (p .cell) h (p .message)
+processNow p h = parts (p .acceptors) (p .sent) (p .down) (p .coordinator) (p .slot) h (p .message)
 
 -- the parts are these, and nothing is sent
-abbrev pub still : Parts → ℕ → Change
-still p answer = record { answer = answer; parts = p; count = 0; message = noMessage; learned = noBatch }
+abbrev pub withoutMessages : Parts → ℕ → Change
+withoutMessages p answer = record { answer = answer; parts = p; count = 0; message = noMessage; learned = noBatch }
 
 -- the step is accepted, the parts are these, and so many messages are sent
 abbrev pub sending : Parts → ℕ → Message → Change
@@ -52,4 +52,4 @@ learns p b = record { answer = accepted; parts = p; count = 0; message = noMessa
 
 -- the step is accepted, the parts are these, and nothing is sent
 abbrev pub done : Parts → Change
-done p = still p accepted
+done p = withoutMessages p accepted

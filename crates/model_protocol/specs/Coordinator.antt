@@ -31,10 +31,10 @@ isHeard c i b a = isCurrent c i b && ltb a mostAcceptors
 
 -- a promise of a is heard, and this is the highest accepted pair among the promises
 abbrev pub hearing : Round → ℕ → ℕ → Batch → Round
-hearing r a held batch = record {
+hearing r a accepted batch = record {
   ballot = r .ballot;
   promises = with (r .promises) a;
-  held = held;
+  accepted = accepted;
   batch = batch;
   proposed = r .proposed;
   proposal = r .proposal;
@@ -43,19 +43,19 @@ hearing r a held batch = record {
 
 -- the promise of a, with its accepted pair, is heard
 unfoldable pub promiseHeard : Round → ℕ → ℕ → Batch → Round
-promiseHeard r a held batch = cond (ltb (r .held) held) (hearing r a held batch) (hearing r a (r .held) (r .batch))
+promiseHeard r a accepted batch = cond (ltb (r .accepted) accepted) (hearing r a accepted batch) (hearing r a (r .accepted) (r .batch))
 
 -- ---- proposals
 
 -- "The batch is the accepted one of highest ballot among the promises; if none, the first up to four queue entries."
 unfoldable pub batchToPropose : Coordinator → Batch
-batchToPropose c = cond (eqb (c .round .held) 0) (firstBatch (c .queue)) (c .round .batch)
+batchToPropose c = cond (eqb (c .round .accepted) 0) (firstBatch (c .queue)) (c .round .batch)
 
 abbrev pub proposing : Round → Batch → Round
 proposing r v = record {
   ballot = r .ballot;
   promises = r .promises;
-  held = r .held;
+  accepted = r .accepted;
   batch = r .batch;
   proposed = true;
   proposal = v;
@@ -68,7 +68,7 @@ abbrev pub counting : Round → ℕ → Round
 counting r a = record {
   ballot = r .ballot;
   promises = r .promises;
-  held = r .held;
+  accepted = r .accepted;
   batch = r .batch;
   proposed = r .proposed;
   proposal = r .proposal;

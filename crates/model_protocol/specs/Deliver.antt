@@ -10,7 +10,7 @@ use Rattle.model_protocol.specs.declared.Message.{Message}
 use Rattle.model_protocol.specs.declared.Parts.{Parts}
 use Rattle.model_protocol.specs.Acceptor.{accepting, accepts, promises, promising}
 use Rattle.model_paxos.specs.Ballot.{majority, owner}
-use Rattle.model_protocol.specs.Change.{cellNow, coordinatorNow, done, learns, processNow, sending}
+use Rattle.model_protocol.specs.Change.{slotNow, coordinatorNow, done, learns, processNow, sending}
 use Rattle.model_protocol.specs.Coordinator.{counting, isHeard, learning, promiseHeard, withQueue, withRound}
 use Rattle.model_protocol.specs.Message.{acceptedFrom, promiseFrom}
 use Rattle.model_protocol.specs.Process.{hearingOutcome, taking}
@@ -31,42 +31,42 @@ receiverDown d m Restore = isDown d Proc (m .to)
 -- 6: no number is left for the answer of an acceptor that has one to send, or the queue is full for a new entry
 abbrev pub noPlaceFor : Parts → Kind → Bool
 noPlaceFor p Request = isFull (p .coordinator .queue) && not (isIn (p .message .entry) (queued (p .coordinator .queue)))
-noPlaceFor p Prepare = promises (p .cell) (p .message .ballot) && lacksNumbers (p .sent) 1
-noPlaceFor p Accept = accepts (p .cell) (p .message .ballot) && lacksNumbers (p .sent) 1
+noPlaceFor p Prepare = promises (p .slot) (p .message .ballot) && lacksNumbers (p .sent) 1
+noPlaceFor p Accept = accepts (p .slot) (p .message .ballot) && lacksNumbers (p .sent) 1
 noPlaceFor p Promise = false
 noPlaceFor p Accepted = false
 noPlaceFor p Tell = false
 noPlaceFor p Restore = false
 
 -- what the message does
-unfoldable pub handed : Parts → Kind → Change
+unfoldable pub deliveryChange : Parts → Kind → Change
 -- "A delivered request joins the queue unless an equal entry is there."
-handed p Request = done (coordinatorNow p (withQueue (p .coordinator) (joining (p .coordinator .queue) (p .message .entry))))
+deliveryChange p Request = done (coordinatorNow p (withQueue (p .coordinator) (joining (p .coordinator .queue) (p .message .entry))))
 -- "Prepare of b: if b is above the promised ballot, it promises b and sends b's coordinator a promise with its accepted pair; else nothing."
-handed p Prepare =
+deliveryChange p Prepare =
     let m = p .message in
-    let x = p .cell in
+    let x = p .slot in
     cond
     (promises x (m .ballot))
-    (sending (cellNow p (promising x (m .ballot))) 1 (promiseFrom (m .inst) (m .ballot) (m .acceptor) (x .ballot) (x .batch)))
+    (sending (slotNow p (promising x (m .ballot))) 1 (promiseFrom (m .inst) (m .ballot) (m .acceptor) (x .ballot) (x .batch)))
     (done p)
 -- "Accept of b: if b is not below the promised ballot, it promises and accepts b and sends b's coordinator accepted; else nothing."
-handed p Accept =
+deliveryChange p Accept =
     let m = p .message in
     cond
-    (accepts (p .cell) (m .ballot))
-    (sending (cellNow p (accepting (m .ballot) (m .batch))) 1 (acceptedFrom (m .inst) (m .ballot) (m .acceptor)))
+    (accepts (p .slot) (m .ballot))
+    (sending (slotNow p (accepting (m .ballot) (m .batch))) 1 (acceptedFrom (m .inst) (m .ballot) (m .acceptor)))
     (done p)
 -- "Promises and acceptances for another instance, or for a ballot other than the one opened last, are passed over"
-handed p Promise =
+deliveryChange p Promise =
     let m = p .message in
     let c = p .coordinator in
     cond
     (isHeard c (m .inst) (m .ballot) (m .acceptor))
-    (done (coordinatorNow p (withRound c (promiseHeard (c .round) (m .acceptor) (m .held) (m .batch)))))
+    (done (coordinatorNow p (withRound c (promiseHeard (c .round) (m .acceptor) (m .accepted) (m .batch)))))
     (done p)
 -- "When a majority accepted, the batch is applied in order; a refused entry is skipped."
-handed p Accepted =
+deliveryChange p Accepted =
     let m = p .message in
     let c = p .coordinator in
     let r = counting (c .round) (m .acceptor) in
@@ -78,9 +78,9 @@ handed p Accepted =
     (done (coordinatorNow p (withRound c r))))
     (done p)
 -- "It hears outcomes only by `tell`."
-handed p Tell = done (processNow p (hearingOutcome (p .process) (p .message .tx) (p .message .outcome)))
+deliveryChange p Tell = done (processNow p (hearingOutcome (p .process) (p .message .tx) (p .message .outcome)))
 -- "A process takes a delivered restore exactly if its position is above the last it took, 0 at first, and from then believes it holds that
 -- store and no other."
-handed p Restore =
+deliveryChange p Restore =
     let m = p .message in
     cond (ltb (p .process .position) (m .position)) (done (processNow p (taking (p .process) (m .store) (m .position) (m .replay)))) (done p)

@@ -14,6 +14,6 @@ queuePlaces = 8
 abbrev pub processPlaces : ℕ
 processPlaces = 16
 
--- a cell for every acceptor and instance
-abbrev pub cellPlaces : ℕ
-cellPlaces = mostAcceptors * instances
+-- a slot for every acceptor and instance
+abbrev pub slotPlaces : ℕ
+slotPlaces = mostAcceptors * instances

@@ -18,14 +18,14 @@ unfoldable pub noReplay : Replay
 noReplay = record { count = 0; rows = replicate transactions noReplayed }
 
 -- a message between an acceptor and the ballot's coordinator
-abbrev pub balloting : Kind → ℕ → ℕ → ℕ → ℕ → Batch → Message
-balloting kind inst ballot acceptor held batch = record {
+abbrev pub ballotMessage : Kind → ℕ → ℕ → ℕ → ℕ → Batch → Message
+ballotMessage kind inst ballot acceptor accepted batch = record {
   kind = kind;
   to = 0;
   acceptor = acceptor;
   inst = inst;
   ballot = ballot;
-  held = held;
+  accepted = accepted;
   batch = batch;
   entry = noEntry;
   tx = 0;
@@ -36,27 +36,27 @@ balloting kind inst ballot acceptor held batch = record {
 }
 
 abbrev pub prepareTo : ℕ → ℕ → ℕ → Message
-prepareTo inst ballot acceptor = balloting Prepare inst ballot acceptor 0 noBatch
+prepareTo inst ballot acceptor = ballotMessage Prepare inst ballot acceptor 0 noBatch
 
 abbrev pub acceptTo : ℕ → ℕ → Batch → ℕ → Message
-acceptTo inst ballot batch acceptor = balloting Accept inst ballot acceptor 0 batch
+acceptTo inst ballot batch acceptor = ballotMessage Accept inst ballot acceptor 0 batch
 
 -- the acceptor's promise, with its accepted pair
 abbrev pub promiseFrom : ℕ → ℕ → ℕ → ℕ → Batch → Message
-promiseFrom inst ballot acceptor held batch = balloting Promise inst ballot acceptor held batch
+promiseFrom inst ballot acceptor accepted batch = ballotMessage Promise inst ballot acceptor accepted batch
 
 abbrev pub acceptedFrom : ℕ → ℕ → ℕ → Message
-acceptedFrom inst ballot acceptor = balloting Accepted inst ballot acceptor 0 noBatch
+acceptedFrom inst ballot acceptor = ballotMessage Accepted inst ballot acceptor 0 noBatch
 
 -- a message of none of the ballots
-abbrev pub mail : Kind → ℕ → Entry → ℕ → Outcome → ℕ → ℕ → Replay → Message
-mail kind to entry tx outcome store position replay = record {
+abbrev pub directMessage : Kind → ℕ → Entry → ℕ → Outcome → ℕ → ℕ → Replay → Message
+directMessage kind to entry tx outcome store position replay = record {
   kind = kind;
   to = to;
   acceptor = 0;
   inst = 0;
   ballot = 0;
-  held = 0;
+  accepted = 0;
   batch = noBatch;
   entry = entry;
   tx = tx;
@@ -67,13 +67,13 @@ mail kind to entry tx outcome store position replay = record {
 }
 
 abbrev pub requestTo : ℕ → Entry → Message
-requestTo coord entry = mail Request coord entry 0 Open 0 0 noReplay
+requestTo coord entry = directMessage Request coord entry 0 Open 0 0 noReplay
 
 abbrev pub tellTo : ℕ → ℕ → Outcome → Message
-tellTo process tx outcome = mail Tell process noEntry tx outcome 0 0 noReplay
+tellTo process tx outcome = directMessage Tell process noEntry tx outcome 0 0 noReplay
 
 abbrev pub restoreTo : ℕ → ℕ → ℕ → Replay → Message
-restoreTo process store position replay = mail Restore process noEntry 0 Open store position replay
+restoreTo process store position replay = directMessage Restore process noEntry 0 Open store position replay
 
 -- the place of no message
 abbrev pub noMessage : Message

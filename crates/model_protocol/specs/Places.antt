@@ -8,7 +8,7 @@ use Rattle.model_protocol.specs.declared.Kind.{Kind}
 use Rattle.model_protocol.specs.declared.Kind.the-variants as kind
 use Rattle.model_protocol.specs.declared.Message.{Message}
 use Rattle.model_paxos.specs.Ballot.{owner}
-use Rattle.model_protocol.specs.Limits.{cellPlaces, processPlaces}
+use Rattle.model_protocol.specs.Limits.{slotPlaces, processPlaces}
 use Rattle.model_protocol.specs.declared.Places.{Places}
 
 -- the message that the step delivers; message 0 if it delivers none
@@ -23,19 +23,19 @@ messageAt (Restore c p) = 0
 messageAt (Crash role id) = 0
 
 abbrev pub onlyCoordinator : ℕ → Places
-onlyCoordinator k = record { coordinator = k % coordinators; cell = 0; process = 0 }
+onlyCoordinator k = record { coordinator = k % coordinators; slot = 0; process = 0 }
 
-abbrev pub onlyCell : ℕ → ℕ → Places
-onlyCell a i = record { coordinator = 0; cell = (a * instances + i) % cellPlaces; process = 0 }
+abbrev pub onlySlot : ℕ → ℕ → Places
+onlySlot a i = record { coordinator = 0; slot = (a * instances + i) % slotPlaces; process = 0 }
 
 abbrev pub onlyProcess : ℕ → Places
-onlyProcess k = record { coordinator = 0; cell = 0; process = k % processPlaces }
+onlyProcess k = record { coordinator = 0; slot = 0; process = k % processPlaces }
 
 -- where the receiver of the message stands
 abbrev pub deliveryPlaces : Message → Kind → Places
 deliveryPlaces m kind.Request = onlyCoordinator (m .to)
-deliveryPlaces m kind.Prepare = onlyCell (m .acceptor) (m .inst)
-deliveryPlaces m kind.Accept = onlyCell (m .acceptor) (m .inst)
+deliveryPlaces m kind.Prepare = onlySlot (m .acceptor) (m .inst)
+deliveryPlaces m kind.Accept = onlySlot (m .acceptor) (m .inst)
 deliveryPlaces m kind.Promise = onlyCoordinator (owner (m .ballot))
 deliveryPlaces m kind.Accepted = onlyCoordinator (owner (m .ballot))
 deliveryPlaces m kind.Tell = onlyProcess (m .to)

@@ -31,16 +31,16 @@ use Rattle.model_paxos.specs.Ballot.{majority, owner}
 use Rattle.model_protocol.specs.Batch.{entriesOf}
 use Rattle.model_protocol.specs.Change.{acceptorsNow, coordinatorNow, done, downNow, parts, sending}
 use Rattle.model_protocol.specs.Coordinator.{batchToPropose, proposing, withRound}
-use Rattle.model_protocol.specs.Deliver.{handed, noPlaceFor, receiverDown}
+use Rattle.model_protocol.specs.Deliver.{deliveryChange, noPlaceFor, receiverDown}
 use Rattle.model_protocol.specs.Message.{acceptTo, prepareTo, requestTo, restoreTo, tellTo}
 use Rattle.model_protocol.specs.Places.{messageAt, placesOf}
 use Rattle.model_protocol.specs.Process.{believes}
 use Rattle.model_protocol.specs.Send.{copyOf, lacksNumbers, sendToAll}
-use Rattle.model_protocol.specs.World.{coordinatorOf, crashed, emptyCell, isDown, logOf, messageOf, newRound, processOf}
+use Rattle.model_protocol.specs.World.{coordinatorOf, crashed, emptySlot, isDown, logOf, messageOf, newRound, processOf}
 
 -- 5: no setup
-abbrev pub noSetup : Parts → Bool
-noSetup p = eqb (p .acceptors) 0
+abbrev pub notSetUp : Parts → Bool
+notSetUp p = eqb (p .acceptors) 0
 
 -- "before setup five acceptors count"
 abbrev pub acceptorsCounted : ℕ → ℕ
@@ -57,8 +57,8 @@ heldStore l process = heldFrom process 0 (l .holders)
 -- ---- refusals
 
 -- "voter does not believe it holds `by`"
-abbrev pub unbelieved : Entry → Process → Bool
-unbelieved e p = not (e .take) && not (believes p (e .by))
+abbrev pub voterNotHolder : Entry → Process → Bool
+voterNotHolder e p = not (e .take) && not (believes p (e .by))
 
 -- "a ballot of its own, above all it opened in the current instance"
 abbrev pub cannotOpen : Coordinator → ℕ → ℕ → ℕ → Bool
@@ -71,45 +71,45 @@ cannotPropose n k i b =
     || not (eqb b (k .round .ballot))
     || not (majority n (k .round .promises))
     || k .round .proposed
-    || eqb (k .round .held) 0 && eqb (k .queue .count) 0
+    || eqb (k .round .accepted) 0 && eqb (k .queue .count) 0
 
 -- the refusals after 2, by the parts that the step touches. A message that was not sent has no receiver, so 4 is tried before 3
 unfoldable pub stepChecks : Parts → Step → List Check
-stepChecks p (Setup n) = check notMet (not (noSetup p)) ∷ []
+stepChecks p (Setup n) = check notMet (not (notSetUp p)) ∷ []
 -- "A sent vote meets 1, 2, 3, 5, 6, 7": of those, 5 and 7 are no matter of a take
 stepChecks p (Request e to) =
     check partyDown (isDown (p .down) Proc (e .process) || isDown (p .down) Coord to)
-    ∷ check notMet (noSetup p || unbelieved e (p .process))
+    ∷ check notMet (notSetUp p || voterNotHolder e (p .process))
     ∷ check noPlace (lacksNumbers (p .sent) 1)
     ∷ check illFormedVote (not (e .take) && illFormed e)
     ∷ []
 stepChecks p (Open c i b) =
     check partyDown (isDown (p .down) Coord c)
-    ∷ check notMet (noSetup p || cannotOpen (p .coordinator) c i b)
+    ∷ check notMet (notSetUp p || cannotOpen (p .coordinator) c i b)
     ∷ check noPlace (lacksNumbers (p .sent) (p .acceptors))
     ∷ []
 stepChecks p (Propose c i b) =
     check partyDown (isDown (p .down) Coord c)
-    ∷ check notMet (noSetup p || cannotPropose (p .acceptors) (p .coordinator) i b)
+    ∷ check notMet (notSetUp p || cannotPropose (p .acceptors) (p .coordinator) i b)
     ∷ check noPlace (lacksNumbers (p .sent) (p .acceptors))
     ∷ []
 stepChecks p (Deliver m) =
     check notSentYet (leb (p .sent) m)
     ∷ check partyDown (receiverDown (p .down) (p .message) (p .message .kind))
-    ∷ check notMet (noSetup p)
+    ∷ check notMet (notSetUp p)
     ∷ check noPlace (noPlaceFor p (p .message .kind))
     ∷ []
 stepChecks p (Tell c process tx) =
     check partyDown (isDown (p .down) Coord c || isDown (p .down) Proc process)
-    ∷ check notMet (noSetup p || isOpen (p .message .outcome))
+    ∷ check notMet (notSetUp p || isOpen (p .message .outcome))
     ∷ check noPlace (lacksNumbers (p .sent) 1)
     ∷ []
 stepChecks p (Restore c process) =
     check partyDown (isDown (p .down) Coord c || isDown (p .down) Proc process)
-    ∷ check notMet (noSetup p || leb stores (p .message .store))
+    ∷ check notMet (notSetUp p || leb stores (p .message .store))
     ∷ check noPlace (lacksNumbers (p .sent) 1)
     ∷ []
-stepChecks p (Crash role id) = check partyDown (isDown (p .down) role id) ∷ check notMet (noSetup p) ∷ []
+stepChecks p (Crash role id) = check partyDown (isDown (p .down) role id) ∷ check notMet (notSetUp p) ∷ []
 
 -- the answer to a step: "The lowest number that applies is given."
 unfoldable pub stepRefusal : Parts → Step → ℕ
@@ -126,7 +126,7 @@ changeOf p (Open c i b) = sending (coordinatorNow p (withRound (p .coordinator) 
 changeOf p (Propose c i b) =
     let v = batchToPropose (p .coordinator) in
     sending (coordinatorNow p (withRound (p .coordinator) (proposing (p .coordinator .round) v))) (p .acceptors) (acceptTo i b v 0)
-changeOf p (Deliver m) = handed p (p .message .kind)
+changeOf p (Deliver m) = deliveryChange p (p .message .kind)
 changeOf p (Tell c process tx) = sending p 1 (p .message)
 changeOf p (Restore c process) = sending p 1 (p .message)
 changeOf p (Crash role id) = done (downNow p (crashed (p .down) role id))
@@ -155,7 +155,7 @@ partsAt w at m =
     (w .sent)
     (w .down)
     (coordinatorOf w (at .coordinator))
-    (getD (w .cells) (at .cell) emptyCell)
+    (getD (w .slots) (at .slot) emptySlot)
     (processOf w (at .process))
     m
 
@@ -177,7 +177,7 @@ partsOf w s = partsAt w (placesIn w s) (messageIn w s)
 abbrev pub putBack : World → Places → Parts → Batch → World
 putBack w at p b = record {
   acceptors = p .acceptors;
-  cells = set (w .cells) (at .cell) (p .cell);
+  slots = set (w .slots) (at .slot) (p .slot);
   coordinators = set (w .coordinators) (at .coordinator) (p .coordinator);
   logs = set (w .logs) (at .coordinator) (feed (logOf w (at .coordinator)) (entriesOf b));
   processes = set (w .processes) (at .process) (p .process);

@@ -10,7 +10,7 @@ use Rattle.log_core.specs.Log.{emptyLog}
 use Rattle.model_steps.specs.declared.Role.{Role}
 use Rattle.model_steps.specs.declared.Role.the-variants.{Acceptor, Coord, Proc}
 use Rattle.model_steps.specs.Limits.{coordinators, instances, messages, mostAcceptors}
-use Rattle.model_protocol.specs.declared.Cell.{Cell}
+use Rattle.model_protocol.specs.declared.AcceptorSlot.{AcceptorSlot}
 use Rattle.model_protocol.specs.declared.Coordinator.{Coordinator}
 use Rattle.model_protocol.specs.declared.Down.{Down}
 use Rattle.model_protocol.specs.declared.Message.{Message}
@@ -18,19 +18,19 @@ use Rattle.model_protocol.specs.declared.Process.{Process}
 use Rattle.model_protocol.specs.declared.Round.{Round}
 use Rattle.model_protocol.specs.declared.World.{World}
 use Rattle.model_protocol.specs.Batch.{noBatch}
-use Rattle.model_protocol.specs.Limits.{cellPlaces, processPlaces}
+use Rattle.model_protocol.specs.Limits.{slotPlaces, processPlaces}
 use Rattle.model_protocol.specs.Message.{noMessage, noReplay}
 use Rattle.model_protocol.specs.Queue.{queueOf}
 
 -- ---- at first
 
 -- "a promised ballot and an accepted ballot with batch, 0 at first"
-abbrev pub emptyCell : Cell
-emptyCell = record { promised = 0; ballot = 0; batch = noBatch }
+abbrev pub emptySlot : AcceptorSlot
+emptySlot = record { promised = 0; ballot = 0; batch = noBatch }
 
 -- the round of a ballot that was just opened; of ballot 0, where none was
 abbrev pub newRound : ℕ → Round
-newRound b = record { ballot = b; promises = 0; held = 0; batch = noBatch; proposed = false; proposal = noBatch; acceptances = 0 }
+newRound b = record { ballot = b; promises = 0; accepted = 0; batch = noBatch; proposed = false; proposal = noBatch; acceptances = 0 }
 
 unfoldable pub freshCoordinator : Coordinator
 freshCoordinator = record { applied = 0; queue = queueOf []; round = newRound 0 }
@@ -50,7 +50,7 @@ allUp = record {
 unfoldable pub freshWorld : World
 freshWorld = record {
   acceptors = 0;
-  cells = replicate cellPlaces emptyCell;
+  slots = replicate slotPlaces emptySlot;
   coordinators = replicate coordinators freshCoordinator;
   logs = replicate coordinators emptyLog;
   processes = replicate processPlaces freshProcess;
@@ -61,9 +61,9 @@ freshWorld = record {
 
 -- ---- what stands where
 
--- acceptor a's cell of instance i
-abbrev pub cellOf : World → ℕ → ℕ → Cell
-cellOf w a i = getD (w .cells) (a * instances + i) emptyCell
+-- acceptor a's slot of instance i
+abbrev pub slotOf : World → ℕ → ℕ → AcceptorSlot
+slotOf w a i = getD (w .slots) (a * instances + i) emptySlot
 
 abbrev pub coordinatorOf : World → ℕ → Coordinator
 coordinatorOf w c = getD (w .coordinators) c freshCoordinator
@@ -90,7 +90,7 @@ isDown d Proc id = getD (d .processes) id false
 abbrev pub withMessage : World → Message → World
 withMessage w m = record {
   acceptors = w .acceptors;
-  cells = w .cells;
+  slots = w .slots;
   coordinators = w .coordinators;
   logs = w .logs;
   processes = w .processes;

@@ -35,7 +35,7 @@ pub struct Message {
     pub inst: u8,
     pub ballot: u8,
     // Of a promise: the ballot that the acceptor accepted, 0 if none.
-    pub held: u8,
+    pub accepted: u8,
     // Of a promise: the batch that goes with `held`; of an accept: the batch proposed.
     pub batch: Batch,
     // Of a request.
@@ -50,7 +50,7 @@ pub struct Message {
 }
 
 // What an acceptor holds of an instance, 0 at first.
-pub struct Cell {
+pub struct AcceptorSlot {
     pub promised: u8,
     // The accepted ballot, 0 if none, and its batch.
     pub ballot: u8,
@@ -70,7 +70,7 @@ pub struct Round {
     // The acceptors whose promise was heard, bit a for acceptor a.
     pub promises: u8,
     // The highest accepted ballot among the promises, 0 if none, and its batch.
-    pub held: u8,
+    pub accepted: u8,
     pub batch: Batch,
     pub proposed: bool,
     // The batch proposed.
@@ -111,8 +111,8 @@ pub struct Down {
 pub struct World {
     // How many acceptors there are, 0 before setup.
     pub acceptors: u8,
-    // Acceptor a's cell of instance i stands at a * 16 + i.
-    pub cells: [Cell; 80],
+    // Acceptor a's slot of instance i stands at a * 16 + i.
+    pub slots: [AcceptorSlot; 80],
     pub coordinators: [Coordinator; 3],
     // By coordinator.
     pub logs: [Log; 3],
@@ -124,13 +124,13 @@ pub struct World {
     pub sent: u8,
 }
 
-// The parts of the world that a step looks at and may change: of coordinators, cells, processes and messages the one that it is about.
+// The parts of the world that a step looks at and may change: of coordinators, slots, processes and messages the one that it is about.
 pub struct Parts {
     pub acceptors: u8,
     pub sent: u8,
     pub down: Down,
     pub coordinator: Coordinator,
-    pub cell: Cell,
+    pub slot: AcceptorSlot,
     pub process: Process,
     // The message that the step delivers, or that it sends by what the coordinator's log says.
     pub message: Message,
@@ -150,7 +150,7 @@ pub struct Change {
 // Where in the world the parts of a step stand.
 pub struct Places {
     pub coordinator: u8,
-    pub cell: usize,
+    pub slot: usize,
     pub process: u8,
 }
 

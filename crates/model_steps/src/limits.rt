@@ -18,7 +18,7 @@ pub const INSTANCES: u8 = 16;
 
 pub const MESSAGES: u8 = 128;
 
-fn no_setup(n: u8) -> bool
+fn setup_outside(n: u8) -> bool
     ensures { λ r. ⌜ r ≡ not (eqb n 3 || eqb n mostAcceptors) ⌝ }
 {
     if n == 3 {
@@ -84,7 +84,7 @@ pub fn outside(acceptors: u8, s: Step) -> bool
     ensures { λ r. ⌜ r ≡ outsideStep acceptors s ⌝ }
 {
     match s {
-        Step::Setup { acceptors: n } => no_setup(n),
+        Step::Setup { acceptors: n } => setup_outside(n),
         Step::Request { entry, to } => no_request(entry, to),
         Step::Open {
             coord,

@@ -1,19 +1,19 @@
-// What an acceptor does with a prepare and an accept, in the cell of the instance.
+// What an acceptor does with a prepare and an accept, in the slot of the instance.
 ghost use mathlib.Core.Path.{_≡_};
 ghost use Rattle.model_protocol.specs.Acceptor.{accepting, accepts, promises, promising};
-ghost use Rattle.model_protocol.specs.World.{emptyCell};
+ghost use Rattle.model_protocol.specs.World.{emptySlot};
+use model_protocol::AcceptorSlot;
 use model_protocol::Batch;
-use model_protocol::Cell;
 
 // Whether a prepare of the ballot does something.
-pub fn promises(x: Cell, ballot: u8) -> bool
+pub fn promises(x: AcceptorSlot, ballot: u8) -> bool
     ensures { λ r. ⌜ r ≡ promises x ballot ⌝ }
 {
     x.promised < ballot
 }
 
 // It promises the ballot.
-pub fn promising(mut x: Cell, ballot: u8) -> Cell
+pub fn promising(mut x: AcceptorSlot, ballot: u8) -> AcceptorSlot
     ensures { λ r. ⌜ r ≡ promising x ballot ⌝ }
 {
     x.promised = ballot;
@@ -21,17 +21,17 @@ pub fn promising(mut x: Cell, ballot: u8) -> Cell
 }
 
 // Whether an accept of the ballot does something.
-pub fn accepts(x: Cell, ballot: u8) -> bool
+pub fn accepts(x: AcceptorSlot, ballot: u8) -> bool
     ensures { λ r. ⌜ r ≡ accepts x ballot ⌝ }
 {
     x.promised <= ballot
 }
 
 // It promises and accepts the ballot with its batch.
-pub fn accepting(ballot: u8, batch: Batch) -> Cell
+pub fn accepting(ballot: u8, batch: Batch) -> AcceptorSlot
     ensures { λ r. ⌜ r ≡ accepting ballot batch ⌝ }
 {
-    Cell {
+    AcceptorSlot {
         promised: ballot,
         ballot: ballot,
         batch: batch,

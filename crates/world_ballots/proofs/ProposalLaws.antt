@@ -32,8 +32,8 @@ module _ (n : ℕ) (k : Coordinator) (i b : ℕ) where
           proposed-already h = rw (ne-eqb n 0 set-up, eq-eqb i (k .applied) current, eq-eqb b (k .round .ballot) last, promised, h)
 
           module _ (new : k .round .proposed ≡ false) where
-            pub bound : (k .round .held ≡ 0 → ⊥) → false ≡ Barred
-            bound h = rw (ne-eqb n 0 set-up, eq-eqb i (k .applied) current, eq-eqb b (k .round .ballot) last, promised, new, ne-eqb (k .round .held) 0 h)
+            pub bound : (k .round .accepted ≡ 0 → ⊥) → false ≡ Barred
+            bound h = rw (ne-eqb n 0 set-up, eq-eqb i (k .applied) current, eq-eqb b (k .round .ballot) last, promised, new, ne-eqb (k .round .accepted) 0 h)
 
-            pub free : k .round .held ≡ 0 → eqb (k .queue .count) 0 ≡ Barred
-            free h = rw (ne-eqb n 0 set-up, eq-eqb i (k .applied) current, eq-eqb b (k .round .ballot) last, promised, new, eq-eqb (k .round .held) 0 h)
+            pub free : k .round .accepted ≡ 0 → eqb (k .queue .count) 0 ≡ Barred
+            free h = rw (ne-eqb n 0 set-up, eq-eqb i (k .applied) current, eq-eqb b (k .round .ballot) last, promised, new, eq-eqb (k .round .accepted) 0 h)

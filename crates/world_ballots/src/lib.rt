@@ -42,7 +42,7 @@ pub fn open(mut p: Parts, coord: u8, inst: u8, ballot: u8) -> Change
     let barred = ballot_barred(n, c, coord, inst, ballot);
     let answer = refusal::first_of(false, down, barred, send::lacks_numbers(p.sent, n), false);
     if answer != 0 {
-        return changes::still(p, answer);
+        return changes::without_messages(p, answer);
     }
     c.round = fresh::new_round(ballot);
     p.coordinator = c;
@@ -68,7 +68,7 @@ fn proposal_barred(n: u8, k: Coordinator, inst: u8, ballot: u8) -> bool
     if k.round.proposed {
         return true;
     }
-    if k.round.held != 0 {
+    if k.round.accepted != 0 {
         return false;
     }
     k.queue.count == 0
@@ -83,7 +83,7 @@ pub fn propose(mut p: Parts, coord: u8, inst: u8, ballot: u8) -> Change
     let barred = proposal_barred(n, c, inst, ballot);
     let answer = refusal::first_of(false, down, barred, send::lacks_numbers(p.sent, n), false);
     if answer != 0 {
-        return changes::still(p, answer);
+        return changes::without_messages(p, answer);
     }
     let v = round::batch_to_propose(c);
     c.round = round::proposing(c.round, v);

@@ -29,10 +29,10 @@ set-with set a h = rw (one-mul (2 ^ a), mod-eq-of-lt (pow-lt {j = setPlaces} h))
 -- ---- a round whose set was changed to s
 
 abbrev pub heardBy : Round → ℕ → ℕ → Batch → Round
-heardBy r s held batch = record {
+heardBy r s accepted batch = record {
   ballot = r .ballot;
   promises = s;
-  held = held;
+  accepted = accepted;
   batch = batch;
   proposed = r .proposed;
   proposal = r .proposal;
@@ -43,7 +43,7 @@ abbrev pub acceptedBy : Round → ℕ → Round
 acceptedBy r s = record {
   ballot = r .ballot;
   promises = r .promises;
-  held = r .held;
+  accepted = r .accepted;
   batch = r .batch;
   proposed = r .proposed;
   proposal = r .proposal;
@@ -53,20 +53,20 @@ acceptedBy r s = record {
 pub is-counted : (r : Round) (a s : ℕ) → s ≡ with (r .acceptances) a → a < setPlaces → acceptedBy r s ≡ cond (ltb a setPlaces) (counting r a) r
 is-counted r a s e h = rw e (heard-inside a (counting r a) r h)
 
-module _ (r : Round) (a s held : ℕ) (batch : Batch) (e : s ≡ with (r .promises) a) (h : a < setPlaces) where
-  pub higher-held : r .held < held → heardBy r s held batch ≡ cond (ltb a setPlaces) (promiseHeard r a held batch) r
+module _ (r : Round) (a s accepted : ℕ) (batch : Batch) (e : s ≡ with (r .promises) a) (h : a < setPlaces) where
+  pub higher-held : r .accepted < accepted → heardBy r s accepted batch ≡ cond (ltb a setPlaces) (promiseHeard r a accepted batch) r
   unfolding promiseHeard
-  higher-held above = rw (e, lt-ltb a setPlaces h, lt-ltb (r .held) held above)
+  higher-held above = rw (e, lt-ltb a setPlaces h, lt-ltb (r .accepted) accepted above)
 
-  pub none-higher : held ≤ r .held → heardBy r s (r .held) (r .batch) ≡ cond (ltb a setPlaces) (promiseHeard r a held batch) r
+  pub none-higher : accepted ≤ r .accepted → heardBy r s (r .accepted) (r .batch) ≡ cond (ltb a setPlaces) (promiseHeard r a accepted batch) r
   unfolding promiseHeard
-  none-higher below = rw (e, lt-ltb a setPlaces h, le-ltb (r .held) held below)
+  none-higher below = rw (e, lt-ltb a setPlaces h, le-ltb (r .accepted) accepted below)
 
 module _ (c : Coordinator) where
-  pub nothing-held : c .round .held ≡ 0 → firstBatch (c .queue) ≡ batchToPropose c
+  pub nothing-held : c .round .accepted ≡ 0 → firstBatch (c .queue) ≡ batchToPropose c
   unfolding batchToPropose
-  nothing-held h = rw (eq-eqb (c .round .held) 0 h)
+  nothing-held h = rw (eq-eqb (c .round .accepted) 0 h)
 
-  pub held-batch : (c .round .held ≡ 0 → ⊥) → c .round .batch ≡ batchToPropose c
+  pub held-batch : (c .round .accepted ≡ 0 → ⊥) → c .round .batch ≡ batchToPropose c
   unfolding batchToPropose
-  held-batch h = rw (ne-eqb (c .round .held) 0 h)
+  held-batch h = rw (ne-eqb (c .round .accepted) 0 h)

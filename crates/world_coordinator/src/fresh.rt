@@ -53,7 +53,7 @@ pub fn new_round(ballot: u8) -> Round
     Round {
         ballot: ballot,
         promises: 0,
-        held: 0,
+        accepted: 0,
         batch: none,
         proposed: false,
         proposal: none,

@@ -38,17 +38,17 @@ fn with_acceptor(set: u8, a: u8) -> u8
 }
 
 // The promise of acceptor a, with its accepted pair, is heard; a number past the set changes nothing.
-pub fn promise_heard(mut round: Round, a: u8, held: u8, batch: Batch) -> Round
-    ensures { λ r. ⌜ r ≡ cond (ltb a setPlaces) (promiseHeard round a held batch) round ⌝ }
+pub fn promise_heard(mut round: Round, a: u8, accepted: u8, batch: Batch) -> Round
+    ensures { λ r. ⌜ r ≡ cond (ltb a setPlaces) (promiseHeard round a accepted batch) round ⌝ }
 {
     if SET_PLACES <= a {
         return round;
     }
     round.promises = with_acceptor(round.promises, a);
-    if held <= round.held {
+    if accepted <= round.accepted {
         return round;
     }
-    round.held = held;
+    round.accepted = accepted;
     round.batch = batch;
     round
 }
@@ -57,7 +57,7 @@ pub fn promise_heard(mut round: Round, a: u8, held: u8, batch: Batch) -> Round
 pub fn batch_to_propose(c: Coordinator) -> Batch
     ensures { λ r. ⌜ r ≡ batchToPropose c ⌝ }
 {
-    if c.round.held == 0 {
+    if c.round.accepted == 0 {
         return first_batch(c.queue);
     }
     c.round.batch

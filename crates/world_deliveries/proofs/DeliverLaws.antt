@@ -6,8 +6,8 @@ use lib.Dec.{eqb, leb}
 use Rattle.log_entry.specs.Refusal.{firstRefusal}
 use Rattle.model_steps.specs.declared.Step.the-variants.{Deliver}
 use Rattle.model_protocol.specs.declared.Parts.{Parts}
-use Rattle.model_protocol.specs.Change.{still}
-use Rattle.model_protocol.specs.Deliver.{handed, noPlaceFor, receiverDown}
+use Rattle.model_protocol.specs.Change.{withoutMessages}
+use Rattle.model_protocol.specs.Deliver.{deliveryChange, noPlaceFor, receiverDown}
 use Rattle.model_protocol.specs.Step.{changeOf, stepChecks}
 use Rattle.world_parts.specs.Plan.{planOf, refusalIn}
 use Rattle.world_parts.specs.Refusal.{firstOf}
@@ -23,10 +23,10 @@ module _ (p : Parts) (msg : ℕ) where
       same-first (leb (p .sent) msg) (leb (p .sent) msg) _ _ (eqb (p .acceptors) 0) (eqb (p .acceptors) 0) _ _ false false refl down-is refl full-is refl
 
   module _ (n : ℕ) (is : n ≡ refusalIn p (Deliver msg)) where
-    pub deliver-refused : (n ≡ 0 → ⊥) → still p n ≡ planOf p (Deliver msg)
+    pub deliver-refused : (n ≡ 0 → ⊥) → withoutMessages p n ≡ planOf p (Deliver msg)
     unfolding planOf
     deliver-refused = refused-is p (refusalIn p (Deliver msg)) n (changeOf p (Deliver msg)) is
 
-    pub deliver-done : n ≡ 0 → handed p (p .message .kind) ≡ planOf p (Deliver msg)
+    pub deliver-done : n ≡ 0 → deliveryChange p (p .message .kind) ≡ planOf p (Deliver msg)
     unfolding planOf changeOf
     deliver-done = done-is p (refusalIn p (Deliver msg)) n (changeOf p (Deliver msg)) is

@@ -1,3 +1,3 @@
 pub mod BothLaws
 pub mod DeliverLaws
-pub mod HandedLaws
+pub mod DeliveryLaws

@@ -4,7 +4,7 @@ ghost use mathlib.Core.Path.{_≡_};
 ghost use Rattle.model_steps.specs.declared.Step.the-variants.{Deliver};
 ghost use Rattle.model_protocol.specs.declared.Kind.the-variants as kind;
 ghost use Rattle.model_protocol.specs.Queue.{isFull, isIn, queued};
-ghost use Rattle.model_protocol.specs.Deliver.{handed, noPlaceFor};
+ghost use Rattle.model_protocol.specs.Deliver.{deliveryChange, noPlaceFor};
 ghost use Rattle.world_parts.specs.Plan.{planOf};
 ghost use Rattle.model_protocol.specs.Send.{lacksNumbers};
 use log_entry::Entry;
@@ -42,15 +42,15 @@ fn lacks_answer(answers: bool, sent: u8) -> bool
     send::lacks_numbers(sent, 1)
 }
 
-fn placeless(p: Parts) -> bool
+fn no_room(p: Parts) -> bool
     ensures { λ r. ⌜ r ≡ noPlaceFor p (p .message .kind) ⌝ }
 {
     let m = p.message;
     let k = m.kind;
     match k {
         Kind::Request => is_full_for(p.coordinator.queue, m.entry),
-        Kind::Prepare => lacks_answer(world_acceptor::promises(p.cell, m.ballot), p.sent),
-        Kind::Accept => lacks_answer(world_acceptor::accepts(p.cell, m.ballot), p.sent),
+        Kind::Prepare => lacks_answer(world_acceptor::promises(p.slot, m.ballot), p.sent),
+        Kind::Accept => lacks_answer(world_acceptor::accepts(p.slot, m.ballot), p.sent),
         Kind::Promise => false,
         Kind::Accepted => false,
         Kind::Tell => false,
@@ -59,23 +59,23 @@ fn placeless(p: Parts) -> bool
 }
 
 fn request(mut p: Parts) -> Change
-    ensures { λ r. ⌜ r ≡ handed p kind.Request ⌝ }
+    ensures { λ r. ⌜ r ≡ deliveryChange p kind.Request ⌝ }
 {
     let mut c = p.coordinator;
     c.queue = queue::join(c.queue, p.message.entry);
     p.coordinator = c;
-    changes::still(p, 0)
+    changes::without_messages(p, 0)
 }
 
 fn prepare(mut p: Parts) -> Change
-    ensures { λ r. ⌜ r ≡ handed p kind.Prepare ⌝ }
+    ensures { λ r. ⌜ r ≡ deliveryChange p kind.Prepare ⌝ }
 {
     let m = p.message;
-    let x = p.cell;
+    let x = p.slot;
     if !world_acceptor::promises(x, m.ballot) {
-        return changes::still(p, 0);
+        return changes::without_messages(p, 0);
     }
-    p.cell = world_acceptor::promising(x, m.ballot);
+    p.slot = world_acceptor::promising(x, m.ballot);
     changes::sending(
         p,
         1,
@@ -84,48 +84,48 @@ fn prepare(mut p: Parts) -> Change
 }
 
 fn accept(mut p: Parts) -> Change
-    ensures { λ r. ⌜ r ≡ handed p kind.Accept ⌝ }
+    ensures { λ r. ⌜ r ≡ deliveryChange p kind.Accept ⌝ }
 {
     let m = p.message;
-    if !world_acceptor::accepts(p.cell, m.ballot) {
-        return changes::still(p, 0);
+    if !world_acceptor::accepts(p.slot, m.ballot) {
+        return changes::without_messages(p, 0);
     }
-    p.cell = world_acceptor::accepting(m.ballot, m.batch);
+    p.slot = world_acceptor::accepting(m.ballot, m.batch);
     changes::sending(p, 1, message::accepted_from(m.inst, m.ballot, m.acceptor))
 }
 
 fn promise(mut p: Parts) -> Change
-    ensures { λ r. ⌜ r ≡ handed p kind.Promise ⌝ }
+    ensures { λ r. ⌜ r ≡ deliveryChange p kind.Promise ⌝ }
 {
     let m = p.message;
     let mut c = p.coordinator;
     if !round::is_current(c, m.inst, m.ballot) {
-        return changes::still(p, 0);
+        return changes::without_messages(p, 0);
     }
     if MOST_ACCEPTORS <= m.acceptor {
-        return changes::still(p, 0);
+        return changes::without_messages(p, 0);
     }
-    c.round = round::promise_heard(c.round, m.acceptor, m.held, m.batch);
+    c.round = round::promise_heard(c.round, m.acceptor, m.accepted, m.batch);
     p.coordinator = c;
-    changes::still(p, 0)
+    changes::without_messages(p, 0)
 }
 
 fn accepted(mut p: Parts) -> Change
-    ensures { λ r. ⌜ r ≡ handed p kind.Accepted ⌝ }
+    ensures { λ r. ⌜ r ≡ deliveryChange p kind.Accepted ⌝ }
 {
     let m = p.message;
     let mut c = p.coordinator;
     if !round::is_current(c, m.inst, m.ballot) {
-        return changes::still(p, 0);
+        return changes::without_messages(p, 0);
     }
     if MOST_ACCEPTORS <= m.acceptor {
-        return changes::still(p, 0);
+        return changes::without_messages(p, 0);
     }
     let r = round::counting(c.round, m.acceptor);
     if !round::is_majority(p.acceptors, r.acceptances) {
         c.round = r;
         p.coordinator = c;
-        return changes::still(p, 0);
+        return changes::without_messages(p, 0);
     }
     let learned = c.round.proposal;
     p.coordinator = learn::learning(c);
@@ -133,29 +133,29 @@ fn accepted(mut p: Parts) -> Change
 }
 
 fn tell(mut p: Parts) -> Change
-    ensures { λ r. ⌜ r ≡ handed p kind.Tell ⌝ }
+    ensures { λ r. ⌜ r ≡ deliveryChange p kind.Tell ⌝ }
 {
     let m = p.message;
     let o = m.outcome;
     p.process = world_process::hearing(p.process, m.tx, o);
-    changes::still(p, 0)
+    changes::without_messages(p, 0)
 }
 
 fn restore(mut p: Parts) -> Change
-    ensures { λ r. ⌜ r ≡ handed p kind.Restore ⌝ }
+    ensures { λ r. ⌜ r ≡ deliveryChange p kind.Restore ⌝ }
 {
     let m = p.message;
     let h = p.process;
     if m.position <= h.position {
-        return changes::still(p, 0);
+        return changes::without_messages(p, 0);
     }
     p.process = world_process::taking(h, m.store, m.position, m.replay);
-    changes::still(p, 0)
+    changes::without_messages(p, 0)
 }
 
 // The message is handed to its receiver.
 fn hand(p: Parts) -> Change
-    ensures { λ r. ⌜ r ≡ handed p (p .message .kind) ⌝ }
+    ensures { λ r. ⌜ r ≡ deliveryChange p (p .message .kind) ⌝ }
 {
     let m = p.message;
     let k = m.kind;
@@ -174,9 +174,9 @@ pub fn deliver(p: Parts, msg: u8) -> Change
     ensures { λ r. ⌜ r ≡ planOf p (Deliver msg) ⌝ }
 {
     let down = parties::receiver_down(p.down, p.message);
-    let answer = refusal::first_of(p.sent <= msg, down, p.acceptors == 0, placeless(p), false);
+    let answer = refusal::first_of(p.sent <= msg, down, p.acceptors == 0, no_room(p), false);
     if answer != 0 {
-        return changes::still(p, answer);
+        return changes::without_messages(p, answer);
     }
     hand(p)
 }

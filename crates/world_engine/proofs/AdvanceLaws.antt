@@ -20,7 +20,7 @@ use Rattle.model_steps.specs.declared.Step.the-variants.{Setup, Request, Open, 
 use Rattle.model_steps.specs.Limits.{coordinators, instances, messages}
 use Rattle.model_protocol.proofs.World.{the-type as world-type}
 use Rattle.model_protocol.specs.declared.Batch.{Batch}
-use Rattle.model_protocol.specs.declared.Cell.{Cell}
+use Rattle.model_protocol.specs.declared.AcceptorSlot.{AcceptorSlot}
 use Rattle.model_protocol.specs.declared.Change.{Change}
 use Rattle.model_protocol.specs.declared.Coordinator.{Coordinator}
 use Rattle.model_protocol.specs.declared.Message.{Message}
@@ -34,11 +34,11 @@ use Rattle.model_protocol.specs.Batch.{entriesOf}
 use Rattle.model_protocol.specs.Change.{parts}
 use Rattle.model_protocol.specs.declared.Kind.{Kind}
 use Rattle.model_protocol.specs.declared.Kind.the-variants as kind
-use Rattle.model_protocol.specs.Limits.{cellPlaces, processPlaces}
+use Rattle.model_protocol.specs.Limits.{slotPlaces, processPlaces}
 use Rattle.model_protocol.specs.Places.{deliveryPlaces, messageAt, placesOf}
 use Rattle.model_protocol.specs.Send.{addressed, copyOf, sendToAll}
 use Rattle.model_protocol.specs.Step.{answered, deliveredIn, messageFor, partsAt, putBack, stepOf}
-use Rattle.model_protocol.specs.World.{coordinatorOf, emptyCell, freshCoordinator, freshProcess, logOf, withMessage}
+use Rattle.model_protocol.specs.World.{coordinatorOf, emptySlot, freshCoordinator, freshProcess, logOf, withMessage}
 use Rattle.world_coordinator.proofs.FrontLaws.{front-end, front-step}
 use Rattle.world_parts.specs.Asks.{asksLog}
 use Rattle.world_engine.specs.Changed.{changeIn}
@@ -55,7 +55,7 @@ use Rattle.world_engine.proofs.Stepping.{order-is, stored}
 -- the arrays of a world have their lengths
 abbrev pub Lengths : World → Type 0
 Lengths w =
-    (length (w .cells) ≡ cellPlaces)
+    (length (w .slots) ≡ slotPlaces)
     × (length (w .coordinators) ≡ coordinators)
     × (length (w .logs) ≡ coordinators)
     × (length (w .processes) ≡ processPlaces)
@@ -85,9 +85,9 @@ message-inside (Crash role id) = omega arith
 
 -- the world has every place of a step
 abbrev pub There : Places → Type 0
-There at = (at .coordinator < coordinators) × (at .cell < cellPlaces) × (at .process < processPlaces)
+There at = (at .coordinator < coordinators) × (at .slot < slotPlaces) × (at .process < processPlaces)
 
-there : (c x h : ℕ) → There (record { coordinator = c % coordinators; cell = x % cellPlaces; process = h % processPlaces })
+there : (c x h : ℕ) → There (record { coordinator = c % coordinators; slot = x % slotPlaces; process = h % processPlaces })
 there c x h = (mod-lt c (omega arith), mod-lt x (omega arith), mod-lt h (omega arith))
 
 delivery-there : (m : Message) (k : Kind) → There (deliveryPlaces m k)
@@ -121,8 +121,8 @@ module _ (w : World) (long : Lengths w) where
       let h = message-inside s in
       ap (λ (i : ℕ). getD (w .messages) i d) e ∙ in-list (w .messages) (messageAt s) d _ (omega (arith, long .4, h))
 
-  pub parts-are : (at : Places) (m : Message) (c : Coordinator) (x : Cell) (h : Process) → There at
-      → parts (w .acceptors) (w .sent) (w .down) (getD (w .coordinators) (at .coordinator) c) (getD (w .cells) (at .cell) x) (getD (w .processes) (at .process) h) m
+  pub parts-are : (at : Places) (m : Message) (c : Coordinator) (x : AcceptorSlot) (h : Process) → There at
+      → parts (w .acceptors) (w .sent) (w .down) (getD (w .coordinators) (at .coordinator) c) (getD (w .slots) (at .slot) x) (getD (w .processes) (at .process) h) m
       ≡ partsAt w at m
   parts-are at m c x h here =
       λ i. parts
@@ -130,7 +130,7 @@ module _ (w : World) (long : Lengths w) where
       (w .sent)
       (w .down)
       (in-list (w .coordinators) (at .coordinator) c freshCoordinator (omega (arith, long .1, here .0)) i)
-      (in-list (w .cells) (at .cell) x emptyCell (omega (arith, long .0, here .1)) i)
+      (in-list (w .slots) (at .slot) x emptySlot (omega (arith, long .0, here .1)) i)
       (in-list (w .processes) (at .process) h freshProcess (omega (arith, long .3, here .2)) i)
       m
 
@@ -162,7 +162,7 @@ not-asked (Crash role id) d l n h = refl
 abbrev pub partsStored : World → Places → Parts → World
 partsStored w at p = record {
   acceptors = p .acceptors;
-  cells = set (w .cells) (at .cell) (p .cell);
+  slots = set (w .slots) (at .slot) (p .slot);
   coordinators = set (w .coordinators) (at .coordinator) (p .coordinator);
   logs = w .logs;
   processes = set (w .processes) (at .process) (p .process);
@@ -174,7 +174,7 @@ partsStored w at p = record {
 abbrev withLogs : World → List Log → World
 withLogs w ls = record {
   acceptors = w .acceptors;
-  cells = w .cells;
+  slots = w .slots;
   coordinators = w .coordinators;
   logs = ls;
   processes = w .processes;

@@ -6,19 +6,19 @@ use lib.Dec.{eqb}
 use Rattle.log_entry.specs.Refusal.{firstRefusal, outsideLimits}
 use Rattle.model_steps.specs.Limits.{outsideStep}
 use Rattle.model_protocol.specs.declared.Parts.{Parts}
-use Rattle.model_protocol.specs.Change.{still}
+use Rattle.model_protocol.specs.Change.{withoutMessages}
 use Rattle.model_protocol.specs.Step.{acceptorsCounted, stepRefusal}
 use Rattle.world_parts.specs.Plan.{planOf}
 use Rattle.world_engine.specs.declared.Order.{Order}
 use Rattle.world_engine.specs.Changed.{changeIn}
 
 module _ (o : Order) (p : Parts) where
-  pub order-refused : (o .refused ≡ 0 → ⊥) → still p (o .refused) ≡ changeIn o p
+  pub order-refused : (o .refused ≡ 0 → ⊥) → withoutMessages p (o .refused) ≡ changeIn o p
   unfolding changeIn
   order-refused h = rw (ne-eqb (o .refused) 0 h)
 
   module _ (step : o .refused ≡ 0) where
-    pub order-outside : outsideStep (acceptorsCounted (p .acceptors)) (o .step) ≡ true → still p outsideLimits ≡ changeIn o p
+    pub order-outside : outsideStep (acceptorsCounted (p .acceptors)) (o .step) ≡ true → withoutMessages p outsideLimits ≡ changeIn o p
     unfolding changeIn stepRefusal firstRefusal
     order-outside out = rw (eq-eqb (o .refused) 0 step, out)
 

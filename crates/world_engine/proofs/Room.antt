@@ -20,9 +20,9 @@ use Rattle.model_paxos.specs.Ballot.{majority}
 use Rattle.model_protocol.specs.Coordinator.{counting, isHeard}
 use Rattle.model_protocol.specs.declared.Change.{Change}
 use Rattle.model_protocol.specs.declared.Parts.{Parts}
-use Rattle.model_protocol.specs.Deliver.{handed, noPlaceFor, receiverDown}
+use Rattle.model_protocol.specs.Deliver.{deliveryChange, noPlaceFor, receiverDown}
 use Rattle.model_protocol.specs.Send.{lacksNumbers}
-use Rattle.model_protocol.specs.Step.{acceptorsCounted, cannotOpen, cannotPropose, changeOf, noSetup, stepChecks, stepRefusal, unbelieved}
+use Rattle.model_protocol.specs.Step.{acceptorsCounted, cannotOpen, cannotPropose, changeOf, notSetUp, stepChecks, stepRefusal, voterNotHolder}
 use Rattle.model_protocol.specs.World.{isDown}
 use Rattle.world_parts.specs.Plan.{refusalIn}
 use Rattle.world_parts.specs.Refusal.{firstOf}
@@ -46,21 +46,21 @@ either-fits false x y k hx hy = hy
 answer-fits : (t : Bool) (sent : ℕ) → (t && lacksNumbers sent 1) ≡ false → t ≡ true → 1 ≤ messages - sent
 answer-fits t sent room answers = ltb-false (messages - sent) 1 (rw answers at room)
 
-handed-fits : (p : Parts) (k : Kind) → noPlaceFor p k ≡ false → handed p k .count ≤ messages - p .sent
-unfolding handed
-handed-fits p kind.Request room = omega arith
-handed-fits p kind.Prepare room =
-    either-fits (promises (p .cell) (p .message .ballot)) _ _ (messages - p .sent) (answer-fits (promises (p .cell) (p .message .ballot)) (p .sent) room) (omega arith)
-handed-fits p kind.Accept room =
-    either-fits (accepts (p .cell) (p .message .ballot)) _ _ (messages - p .sent) (answer-fits (accepts (p .cell) (p .message .ballot)) (p .sent) room) (omega arith)
-handed-fits p kind.Promise room =
+delivery-change-fits : (p : Parts) (k : Kind) → noPlaceFor p k ≡ false → deliveryChange p k .count ≤ messages - p .sent
+unfolding deliveryChange
+delivery-change-fits p kind.Request room = omega arith
+delivery-change-fits p kind.Prepare room =
+    either-fits (promises (p .slot) (p .message .ballot)) _ _ (messages - p .sent) (answer-fits (promises (p .slot) (p .message .ballot)) (p .sent) room) (omega arith)
+delivery-change-fits p kind.Accept room =
+    either-fits (accepts (p .slot) (p .message .ballot)) _ _ (messages - p .sent) (answer-fits (accepts (p .slot) (p .message .ballot)) (p .sent) room) (omega arith)
+delivery-change-fits p kind.Promise room =
     either-fits (isHeard (p .coordinator) (p .message .inst) (p .message .ballot) (p .message .acceptor)) _ _ (messages - p .sent) (λ _. omega arith) (omega arith)
-handed-fits p kind.Accepted room =
+delivery-change-fits p kind.Accepted room =
     either-fits (isHeard (p .coordinator) (p .message .inst) (p .message .ballot) (p .message .acceptor)) _ _ (messages - p .sent)
     (λ _. either-fits (majority (p .acceptors) (counting (p .coordinator .round) (p .message .acceptor) .acceptances)) _ _ (messages - p .sent) (λ _. omega arith) (omega arith))
     (omega arith)
-handed-fits p kind.Tell room = omega arith
-handed-fits p kind.Restore room =
+delivery-change-fits p kind.Tell room = omega arith
+delivery-change-fits p kind.Restore room =
     either-fits (ltb (p .process .position) (p .message .position)) _ _ (messages - p .sent) (λ _. omega arith) (omega arith)
 
 change-fits : (p : Parts) (s : Step) → refusalIn p s ≡ 0 → changeOf p s .count ≤ messages - p .sent
@@ -68,22 +68,22 @@ unfolding changeOf stepChecks firstRefusal
 change-fits p (Setup n) h = omega arith
 change-fits p (Request e to) h =
     ltb-false (messages - p .sent) 1
-    (first-roomy false (isDown (p .down) Proc (e .process) || isDown (p .down) Coord to) (noSetup p || unbelieved e (p .process)) (lacksNumbers (p .sent) 1) (not (e .take) && illFormed e) h)
+    (first-roomy false (isDown (p .down) Proc (e .process) || isDown (p .down) Coord to) (notSetUp p || voterNotHolder e (p .process)) (lacksNumbers (p .sent) 1) (not (e .take) && illFormed e) h)
 change-fits p (Open c i b) h =
     ltb-false (messages - p .sent) (p .acceptors)
-    (first-roomy false (isDown (p .down) Coord c) (noSetup p || cannotOpen (p .coordinator) c i b) (lacksNumbers (p .sent) (p .acceptors)) false h)
+    (first-roomy false (isDown (p .down) Coord c) (notSetUp p || cannotOpen (p .coordinator) c i b) (lacksNumbers (p .sent) (p .acceptors)) false h)
 change-fits p (Propose c i b) h =
     ltb-false (messages - p .sent) (p .acceptors)
-    (first-roomy false (isDown (p .down) Coord c) (noSetup p || cannotPropose (p .acceptors) (p .coordinator) i b) (lacksNumbers (p .sent) (p .acceptors)) false h)
+    (first-roomy false (isDown (p .down) Coord c) (notSetUp p || cannotPropose (p .acceptors) (p .coordinator) i b) (lacksNumbers (p .sent) (p .acceptors)) false h)
 change-fits p (Deliver m) h =
     let k = p .message .kind in
-    handed-fits p k (first-roomy (leb (p .sent) m) (receiverDown (p .down) (p .message) k) (noSetup p) (noPlaceFor p k) false h)
+    delivery-change-fits p k (first-roomy (leb (p .sent) m) (receiverDown (p .down) (p .message) k) (notSetUp p) (noPlaceFor p k) false h)
 change-fits p (Tell c process tx) h =
     ltb-false (messages - p .sent) 1
-    (first-roomy false (isDown (p .down) Coord c || isDown (p .down) Proc process) (noSetup p || isOpen (p .message .outcome)) (lacksNumbers (p .sent) 1) false h)
+    (first-roomy false (isDown (p .down) Coord c || isDown (p .down) Proc process) (notSetUp p || isOpen (p .message .outcome)) (lacksNumbers (p .sent) 1) false h)
 change-fits p (Restore c process) h =
     ltb-false (messages - p .sent) 1
-    (first-roomy false (isDown (p .down) Coord c || isDown (p .down) Proc process) (noSetup p || leb stores (p .message .store)) (lacksNumbers (p .sent) 1) false h)
+    (first-roomy false (isDown (p .down) Coord c || isDown (p .down) Proc process) (notSetUp p || leb stores (p .message .store)) (lacksNumbers (p .sent) 1) false h)
 change-fits p (Crash role id) h = omega arith
 
 -- so does an order

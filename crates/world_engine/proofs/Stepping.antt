@@ -14,10 +14,10 @@ use Rattle.model_protocol.specs.declared.Places.{Places}
 use Rattle.model_protocol.specs.declared.Stepped.{Stepped}
 use Rattle.model_protocol.specs.declared.World.{World}
 use Rattle.model_protocol.specs.Acceptor.{accepts, promises}
-use Rattle.model_protocol.specs.Change.{still}
+use Rattle.model_protocol.specs.Change.{withoutMessages}
 use Rattle.model_paxos.specs.Ballot.{majority}
 use Rattle.model_protocol.specs.Coordinator.{counting, isHeard}
-use Rattle.model_protocol.specs.Deliver.{handed}
+use Rattle.model_protocol.specs.Deliver.{deliveryChange}
 use Rattle.model_protocol.specs.Step.{answered, changed, changeOf, messageIn, partsOf, placesIn, stepOf, stepRefusal}
 use Rattle.model_protocol.proofs.PutBack.{nothing-changed}
 use Rattle.world_parts.specs.Plan.{decided}
@@ -31,18 +31,18 @@ either-accepted : (t : Bool) (x y : Change) → x .answer ≡ accepted → y .an
 either-accepted true x y hx hy = hx
 either-accepted false x y hx hy = hy
 
-handed-accepted : (p : Parts) (k : Kind) → handed p k .answer ≡ accepted
-unfolding handed
-handed-accepted p kind.Request = refl
-handed-accepted p kind.Prepare = either-accepted (promises (p .cell) (p .message .ballot)) _ _ refl refl
-handed-accepted p kind.Accept = either-accepted (accepts (p .cell) (p .message .ballot)) _ _ refl refl
-handed-accepted p kind.Promise = either-accepted (isHeard (p .coordinator) (p .message .inst) (p .message .ballot) (p .message .acceptor)) _ _ refl refl
-handed-accepted p kind.Accepted =
+delivery-change-accepted : (p : Parts) (k : Kind) → deliveryChange p k .answer ≡ accepted
+unfolding deliveryChange
+delivery-change-accepted p kind.Request = refl
+delivery-change-accepted p kind.Prepare = either-accepted (promises (p .slot) (p .message .ballot)) _ _ refl refl
+delivery-change-accepted p kind.Accept = either-accepted (accepts (p .slot) (p .message .ballot)) _ _ refl refl
+delivery-change-accepted p kind.Promise = either-accepted (isHeard (p .coordinator) (p .message .inst) (p .message .ballot) (p .message .acceptor)) _ _ refl refl
+delivery-change-accepted p kind.Accepted =
     either-accepted (isHeard (p .coordinator) (p .message .inst) (p .message .ballot) (p .message .acceptor)) _ _
     (either-accepted (majority (p .acceptors) (counting (p .coordinator .round) (p .message .acceptor) .acceptances)) _ _ refl refl)
     refl
-handed-accepted p kind.Tell = refl
-handed-accepted p kind.Restore = either-accepted (ltb (p .process .position) (p .message .position)) _ _ refl refl
+delivery-change-accepted p kind.Tell = refl
+delivery-change-accepted p kind.Restore = either-accepted (ltb (p .process .position) (p .message .position)) _ _ refl refl
 
 change-accepted : (p : Parts) (s : Step) → changeOf p s .answer ≡ accepted
 unfolding changeOf
@@ -50,7 +50,7 @@ change-accepted p (Setup n) = refl
 change-accepted p (Request e to) = refl
 change-accepted p (Open c i b) = refl
 change-accepted p (Propose c i b) = refl
-change-accepted p (Deliver m) = handed-accepted p (p .message .kind)
+change-accepted p (Deliver m) = delivery-change-accepted p (p .message .kind)
 change-accepted p (Tell c process tx) = refl
 change-accepted p (Restore c process) = refl
 change-accepted p (Crash role id) = refl
@@ -71,17 +71,17 @@ module _ (w : World) (o : Order) where
   abbrev at : Places
   at = placesIn w s
 
-  unchanged : (n : ℕ) → stored w at (still p n) ≡ answered w n
+  unchanged : (n : ℕ) → stored w at (withoutMessages p n) ≡ answered w n
   unchanged n = ap (λ (v : World). answered v n) (nothing-changed w at (messageIn w s) n)
 
   by-refusal : (t : Bool)
-      → stored w at (cond t (changeOf p s) (still p (stepRefusal p s)))
+      → stored w at (cond t (changeOf p s) (withoutMessages p (stepRefusal p s)))
       ≡ cond t (answered (changed w at (changeOf p s)) accepted) (answered w (stepRefusal p s))
   by-refusal true = ap (λ (n : ℕ). answered (changed w at (changeOf p s)) n) (change-accepted p s)
   by-refusal false = unchanged (stepRefusal p s)
 
   by-order : (t : Bool)
-      → stored w at (cond t (decided p (stepRefusal p s) (changeOf p s)) (still p (o .refused))) ≡ cond t (stepOf w s) (answered w (o .refused))
+      → stored w at (cond t (decided p (stepRefusal p s) (changeOf p s)) (withoutMessages p (o .refused))) ≡ cond t (stepOf w s) (answered w (o .refused))
   unfolding stepOf
   by-order true = by-refusal (eqb (stepRefusal p s) accepted)
   by-order false = unchanged (o .refused)

@@ -4,7 +4,7 @@ use lib.Dec.{eqb}
 use Rattle.log_entry.specs.Refusal.{accepted}
 use Rattle.model_protocol.specs.declared.Change.{Change}
 use Rattle.model_protocol.specs.declared.Parts.{Parts}
-use Rattle.model_protocol.specs.Change.{still}
+use Rattle.model_protocol.specs.Change.{withoutMessages}
 use Rattle.model_protocol.specs.Step.{changeOf, stepRefusal}
 use Rattle.world_parts.specs.Plan.{decided}
 use Rattle.world_engine.specs.declared.Order.{Order}
@@ -12,4 +12,4 @@ use Rattle.world_engine.specs.declared.Order.{Order}
 -- the step is refused or done, or what is none is answered
 unfoldable pub changeIn : Order → Parts → Change
 changeIn o p =
-    cond (eqb (o .refused) accepted) (decided p (stepRefusal p (o .step)) (changeOf p (o .step))) (still p (o .refused))
+    cond (eqb (o .refused) accepted) (decided p (stepRefusal p (o .step)) (changeOf p (o .step))) (withoutMessages p (o .refused))

@@ -36,7 +36,7 @@ pub fn advance(mut w: World, block: Block) -> Advanced
         let delivered = w.messages[place::message_at(s) as usize];
         let at = place::places(s, delivered);
         let c = at.coordinator as usize;
-        let x = at.cell;
+        let x = at.slot;
         let h = at.process as usize;
         let coordinator = w.coordinators[c];
         let mut message = delivered;
@@ -49,7 +49,7 @@ pub fn advance(mut w: World, block: Block) -> Advanced
             sent: w.sent,
             down: w.down,
             coordinator: coordinator,
-            cell: w.cells[x],
+            slot: w.slots[x],
             process: w.processes[h],
             message: message,
         };
@@ -60,8 +60,8 @@ pub fn advance(mut w: World, block: Block) -> Advanced
         w.down = down;
         let coordinator = after.coordinator;
         w.coordinators[c] = coordinator;
-        let cell = after.cell;
-        w.cells[x] = cell;
+        let slot = after.slot;
+        w.slots[x] = slot;
         let process = after.process;
         w.processes[h] = process;
         let learned = change.learned;

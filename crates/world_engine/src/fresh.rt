@@ -1,9 +1,9 @@
 // The fresh world: no setup, all up, nothing sent, queues and logs empty.
 ghost use mathlib.Core.Path.{_≡_};
-ghost use Rattle.model_protocol.specs.World.{allUp, emptyCell, freshProcess, freshWorld};
+ghost use Rattle.model_protocol.specs.World.{allUp, emptySlot, freshProcess, freshWorld};
 use log_core::Log;
 use log_votes::Outcome;
-use model_protocol::Cell;
+use model_protocol::AcceptorSlot;
 use model_protocol::Down;
 use model_protocol::Heard;
 use model_protocol::Process;
@@ -14,10 +14,10 @@ use world_coordinator::fresh::no_entry;
 use world_messages::message::no_replay;
 use world_messages::message::request_to;
 
-pub fn empty_cell() -> Cell
-    ensures { λ r. ⌜ r ≡ emptyCell ⌝ }
+pub fn empty_slot() -> AcceptorSlot
+    ensures { λ r. ⌜ r ≡ emptySlot ⌝ }
 {
-    Cell {
+    AcceptorSlot {
         promised: 0,
         ballot: 0,
         batch: no_batch(),
@@ -51,14 +51,14 @@ fn all_up() -> Down
 pub fn fresh_world() -> World
     ensures { λ r. ⌜ r ≡ freshWorld ⌝ }
 {
-    let cell = empty_cell();
+    let slot = empty_slot();
     let coordinator = fresh_coordinator();
     let log = Log::empty();
     let process = fresh_process();
     let none = request_to(0, no_entry());
     World {
         acceptors: 0,
-        cells: [cell; 80],
+        slots: [slot; 80],
         coordinators: [coordinator; 3],
         logs: [log; 3],
         processes: [process; 16],

@@ -49,11 +49,11 @@ pub fn change(o: Order, p: Parts) -> Change
     ensures { λ r. ⌜ r ≡ changeIn o p ⌝ }
 {
     if o.refused != 0 {
-        return changes::still(p, o.refused);
+        return changes::without_messages(p, o.refused);
     }
     let s = o.step;
     if limits::outside(counted(p.acceptors), s) {
-        return changes::still(p, OUTSIDE_LIMITS);
+        return changes::without_messages(p, OUTSIDE_LIMITS);
     }
     plan(p, s)
 }

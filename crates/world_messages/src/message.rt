@@ -1,6 +1,6 @@
 // The messages of each kind. What a kind does not use is 0.
 ghost use mathlib.Core.Path.{_≡_};
-ghost use Rattle.model_protocol.specs.Message.{acceptTo, acceptedFrom, balloting, mail, noReplay, prepareTo, promiseFrom, requestTo, restoreTo, tellTo};
+ghost use Rattle.model_protocol.specs.Message.{acceptTo, acceptedFrom, ballotMessage, directMessage, noReplay, prepareTo, promiseFrom, requestTo, restoreTo, tellTo};
 use log_core::Replay;
 use log_core::Replayed;
 use log_entry::Entry;
@@ -25,8 +25,15 @@ pub fn no_replay() -> Replay
     }
 }
 
-fn balloting(kind: Kind, inst: u8, ballot: u8, acceptor: u8, held: u8, batch: Batch) -> Message
-    ensures { λ r. ⌜ r ≡ balloting kind inst ballot acceptor held batch ⌝ }
+fn ballot_message(
+    kind: Kind,
+    inst: u8,
+    ballot: u8,
+    acceptor: u8,
+    accepted: u8,
+    batch: Batch,
+) -> Message
+    ensures { λ r. ⌜ r ≡ ballotMessage kind inst ballot acceptor accepted batch ⌝ }
 {
     Message {
         kind: kind,
@@ -34,7 +41,7 @@ fn balloting(kind: Kind, inst: u8, ballot: u8, acceptor: u8, held: u8, batch: Ba
         acceptor: acceptor,
         inst: inst,
         ballot: ballot,
-        held: held,
+        accepted: accepted,
         batch: batch,
         entry: no_entry(),
         tx: 0,
@@ -45,7 +52,7 @@ fn balloting(kind: Kind, inst: u8, ballot: u8, acceptor: u8, held: u8, batch: Ba
     }
 }
 
-fn mail(
+fn direct_message(
     kind: Kind,
     to: u8,
     entry: Entry,
@@ -55,7 +62,7 @@ fn mail(
     position: u8,
     replay: Replay,
 ) -> Message
-    ensures { λ r. ⌜ r ≡ mail kind to entry tx outcome store position replay ⌝ }
+    ensures { λ r. ⌜ r ≡ directMessage kind to entry tx outcome store position replay ⌝ }
 {
     Message {
         kind: kind,
@@ -63,7 +70,7 @@ fn mail(
         acceptor: 0,
         inst: 0,
         ballot: 0,
-        held: 0,
+        accepted: 0,
         batch: no_batch(),
         entry: entry,
         tx: tx,
@@ -77,31 +84,31 @@ fn mail(
 pub fn prepare_to(inst: u8, ballot: u8, acceptor: u8) -> Message
     ensures { λ r. ⌜ r ≡ prepareTo inst ballot acceptor ⌝ }
 {
-    balloting(Kind::Prepare, inst, ballot, acceptor, 0, no_batch())
+    ballot_message(Kind::Prepare, inst, ballot, acceptor, 0, no_batch())
 }
 
 pub fn accept_to(inst: u8, ballot: u8, batch: Batch, acceptor: u8) -> Message
     ensures { λ r. ⌜ r ≡ acceptTo inst ballot batch acceptor ⌝ }
 {
-    balloting(Kind::Accept, inst, ballot, acceptor, 0, batch)
+    ballot_message(Kind::Accept, inst, ballot, acceptor, 0, batch)
 }
 
-pub fn promise_from(inst: u8, ballot: u8, acceptor: u8, held: u8, batch: Batch) -> Message
-    ensures { λ r. ⌜ r ≡ promiseFrom inst ballot acceptor held batch ⌝ }
+pub fn promise_from(inst: u8, ballot: u8, acceptor: u8, accepted: u8, batch: Batch) -> Message
+    ensures { λ r. ⌜ r ≡ promiseFrom inst ballot acceptor accepted batch ⌝ }
 {
-    balloting(Kind::Promise, inst, ballot, acceptor, held, batch)
+    ballot_message(Kind::Promise, inst, ballot, acceptor, accepted, batch)
 }
 
 pub fn accepted_from(inst: u8, ballot: u8, acceptor: u8) -> Message
     ensures { λ r. ⌜ r ≡ acceptedFrom inst ballot acceptor ⌝ }
 {
-    balloting(Kind::Accepted, inst, ballot, acceptor, 0, no_batch())
+    ballot_message(Kind::Accepted, inst, ballot, acceptor, 0, no_batch())
 }
 
 pub fn request_to(coord: u8, entry: Entry) -> Message
     ensures { λ r. ⌜ r ≡ requestTo coord entry ⌝ }
 {
-    mail(
+    direct_message(
         Kind::Request,
         coord,
         entry,
@@ -116,7 +123,7 @@ pub fn request_to(coord: u8, entry: Entry) -> Message
 pub fn tell_to(process: u8, tx: u8, outcome: Outcome) -> Message
     ensures { λ r. ⌜ r ≡ tellTo process tx outcome ⌝ }
 {
-    mail(
+    direct_message(
         Kind::Tell,
         process,
         no_entry(),
@@ -131,7 +138,7 @@ pub fn tell_to(process: u8, tx: u8, outcome: Outcome) -> Message
 pub fn restore_to(process: u8, store: u8, position: u8, replay: Replay) -> Message
     ensures { λ r. ⌜ r ≡ restoreTo process store position replay ⌝ }
 {
-    mail(
+    direct_message(
         Kind::Restore,
         process,
         no_entry(),

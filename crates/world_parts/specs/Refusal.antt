@@ -6,11 +6,11 @@ use Rattle.log_entry.specs.Refusal.{check, firstRefusal, illFormedVote, noPlace
 
 -- the first of refusals 4, 3, 5, 6 and 7 whose condition holds
 abbrev pub firstOf : Bool → Bool → Bool → Bool → Bool → ℕ
-firstOf unsent down unmet placeless ill =
+firstOf unsent down unmet full ill =
     firstRefusal
     (check notSentYet unsent
     ∷ check partyDown down
     ∷ check notMet unmet
-    ∷ check noPlace placeless
+    ∷ check noPlace full
     ∷ check illFormedVote ill
     ∷ [])

@@ -1,6 +1,6 @@
 // Changes of the parts.
 ghost use mathlib.Core.Path.{_≡_};
-ghost use Rattle.model_protocol.specs.Change.{learns, sending, still};
+ghost use Rattle.model_protocol.specs.Change.{learns, sending, withoutMessages};
 use model_protocol::Batch;
 use model_protocol::Change;
 use model_protocol::Message;
@@ -10,8 +10,8 @@ use world_coordinator::fresh::no_entry;
 use world_messages::message::request_to;
 
 // The parts are these, and nothing is sent.
-pub fn still(p: Parts, answer: u8) -> Change
-    ensures { λ r. ⌜ r ≡ still p answer ⌝ }
+pub fn without_messages(p: Parts, answer: u8) -> Change
+    ensures { λ r. ⌜ r ≡ withoutMessages p answer ⌝ }
 {
     let none = request_to(0, no_entry());
     Change {

@@ -1,7 +1,7 @@
 // Where in the world the parts of a step stand.
 ghost use mathlib.Core.Path.{_≡_};
 ghost use Rattle.world_parts.specs.Asks.{asksLog};
-ghost use Rattle.model_protocol.specs.Places.{deliveryPlaces, messageAt, onlyCell, onlyCoordinator, onlyProcess, placesOf};
+ghost use Rattle.model_protocol.specs.Places.{deliveryPlaces, messageAt, onlySlot, onlyCoordinator, onlyProcess, placesOf};
 use model_protocol::Kind;
 use model_protocol::Message;
 use model_protocol::Places;
@@ -77,17 +77,17 @@ fn only_coordinator(k: u8) -> Places
 {
     Places {
         coordinator: k % COORDINATORS,
-        cell: 0,
+        slot: 0,
         process: 0,
     }
 }
 
-fn only_cell(acceptor: u8, inst: u8) -> Places
-    ensures { λ r. ⌜ r ≡ onlyCell acceptor inst ⌝ }
+fn only_slot(acceptor: u8, inst: u8) -> Places
+    ensures { λ r. ⌜ r ≡ onlySlot acceptor inst ⌝ }
 {
     Places {
         coordinator: 0,
-        cell: (acceptor as usize * 16 + inst as usize) % 80,
+        slot: (acceptor as usize * 16 + inst as usize) % 80,
         process: 0,
     }
 }
@@ -97,7 +97,7 @@ fn only_process(k: u8) -> Places
 {
     Places {
         coordinator: 0,
-        cell: 0,
+        slot: 0,
         process: k % 16,
     }
 }
@@ -109,8 +109,8 @@ fn delivery_places(m: Message) -> Places
     let k = m.kind;
     match k {
         Kind::Request => only_coordinator(m.to),
-        Kind::Prepare => only_cell(m.acceptor, m.inst),
-        Kind::Accept => only_cell(m.acceptor, m.inst),
+        Kind::Prepare => only_slot(m.acceptor, m.inst),
+        Kind::Accept => only_slot(m.acceptor, m.inst),
         Kind::Promise => only_coordinator(parties::owner(m.ballot)),
         Kind::Accepted => only_coordinator(parties::owner(m.ballot)),
         Kind::Tell => only_process(m.to),

@@ -8,8 +8,8 @@ use log_entry::refusal::NOT_MET;
 use log_entry::refusal::NOT_SENT_YET;
 use log_entry::refusal::PARTY_DOWN;
 
-pub fn first_of(unsent: bool, down: bool, unmet: bool, placeless: bool, ill: bool) -> u8
-    ensures { λ r. ⌜ r ≡ firstOf unsent down unmet placeless ill ⌝ }
+pub fn first_of(unsent: bool, down: bool, unmet: bool, full: bool, ill: bool) -> u8
+    ensures { λ r. ⌜ r ≡ firstOf unsent down unmet full ill ⌝ }
 {
     if unsent {
         return NOT_SENT_YET;
@@ -20,7 +20,7 @@ pub fn first_of(unsent: bool, down: bool, unmet: bool, placeless: bool, ill: boo
     if unmet {
         return NOT_MET;
     }
-    if placeless {
+    if full {
         return NO_PLACE;
     }
     if ill {

@@ -6,7 +6,7 @@ ghost use Rattle.model_steps.specs.declared.Role.the-variants.{Coord, Proc};
 ghost use Rattle.model_steps.specs.declared.Step.the-variants.{Crash, Request, Restore, Setup, Tell};
 ghost use Rattle.log_core.specs.Replay.{replayOf};
 ghost use Rattle.model_protocol.specs.Message.{restoreTo};
-ghost use Rattle.model_protocol.specs.Step.{heldFrom, heldStore, messageFor, unbelieved};
+ghost use Rattle.model_protocol.specs.Step.{heldFrom, heldStore, messageFor, voterNotHolder};
 ghost use Rattle.model_protocol.specs.World.{isDown};
 ghost use Rattle.world_parts.specs.Plan.{planOf};
 use log_core::Log;
@@ -29,15 +29,15 @@ pub fn setup(mut p: Parts, n: u8) -> Change
 {
     let answer = refusal::first_of(false, false, p.acceptors != 0, false, false);
     if answer != 0 {
-        return changes::still(p, answer);
+        return changes::without_messages(p, answer);
     }
     p.acceptors = n;
-    changes::still(p, 0)
+    changes::without_messages(p, 0)
 }
 
 // Whether the entry is a vote by a process that does not believe that it holds `by`.
-fn unbelieved(e: Entry, p: Process) -> bool
-    ensures { λ r. ⌜ r ≡ unbelieved e p ⌝ }
+fn voter_not_holder(e: Entry, p: Process) -> bool
+    ensures { λ r. ⌜ r ≡ voterNotHolder e p ⌝ }
 {
     if e.take {
         return false;
@@ -61,7 +61,7 @@ pub fn request(p: Parts, e: Entry, to: u8) -> Change
         parties::is_down(p.down, Role::Proc, e.process),
         parties::is_down(p.down, Role::Coord, to),
     );
-    let unmet = refusal::either(p.acceptors == 0, unbelieved(e, p.process));
+    let unmet = refusal::either(p.acceptors == 0, voter_not_holder(e, p.process));
     let answer = refusal::first_of(
         false,
         down,
@@ -70,13 +70,13 @@ pub fn request(p: Parts, e: Entry, to: u8) -> Change
         ill_formed(e),
     );
     if answer != 0 {
-        return changes::still(p, answer);
+        return changes::without_messages(p, answer);
     }
     changes::sending(p, 1, message::request_to(to, e))
 }
 
 // Whether nothing can be said to a process: it or the coordinator is down.
-fn deaf(p: Parts, coord: u8, process: u8) -> bool
+fn either_down(p: Parts, coord: u8, process: u8) -> bool
     ensures { λ r. ⌜ r ≡ (isDown (p .down) Coord coord || isDown (p .down) Proc process) ⌝ }
 {
     refusal::either(
@@ -94,13 +94,13 @@ pub fn tell(p: Parts, coord: u8, process: u8, tx: u8) -> Change
     let unmet = refusal::either(p.acceptors == 0, open);
     let answer = refusal::first_of(
         false,
-        deaf(p, coord, process),
+        either_down(p, coord, process),
         unmet,
         send::lacks_numbers(p.sent, 1),
         false,
     );
     if answer != 0 {
-        return changes::still(p, answer);
+        return changes::without_messages(p, answer);
     }
     changes::sending(p, 1, m)
 }
@@ -112,13 +112,13 @@ pub fn restore(p: Parts, coord: u8, process: u8) -> Change
     let unmet = refusal::either(p.acceptors == 0, STORES <= m.store);
     let answer = refusal::first_of(
         false,
-        deaf(p, coord, process),
+        either_down(p, coord, process),
         unmet,
         send::lacks_numbers(p.sent, 1),
         false,
     );
     if answer != 0 {
-        return changes::still(p, answer);
+        return changes::without_messages(p, answer);
     }
     changes::sending(p, 1, m)
 }
@@ -185,8 +185,8 @@ pub fn crash(mut p: Parts, role: Role, id: u8) -> Change
         false,
     );
     if answer != 0 {
-        return changes::still(p, answer);
+        return changes::without_messages(p, answer);
     }
     p.down = parties::crashed(p.down, role, id);
-    changes::still(p, 0)
+    changes::without_messages(p, 0)
 }

@@ -27,12 +27,12 @@ lacks-numbers-requires c κs = search needs
 first-of-requires : tie.Need-first-of-requires
 first-of-requires c κs = search needs
 
-still-requires : tie.Need-still-requires
-still-requires c κs = search needs
+without-messages-requires : tie.Need-without-messages-requires
+without-messages-requires c κs = search needs
 
 returns : tie.Need-returns
 unfolding planOf
-returns c = let a = c .before .before .before .before .before .before .before .args in c .still .ensures ∙ refused-is _ _ _ (changeOf (a .p) (Open (a .coord) (a .inst) (a .ballot))) (answer-is (c .before .before)) (c .before .if1 .taken)
+returns c = let a = c .before .before .before .before .before .before .before .args in c .without-messages .ensures ∙ refused-is _ _ _ (changeOf (a .p) (Open (a .coord) (a .inst) (a .ballot))) (answer-is (c .before .before)) (c .before .if1 .taken)
 
 new-round-requires : tie.Need-new-round-requires
 new-round-requires c κs = search needs
@@ -59,7 +59,7 @@ open-spec =
     ballot-barred-requires
     lacks-numbers-requires
     first-of-requires
-    still-requires
+    without-messages-requires
     returns
     new-round-requires
     prepare-to-requires

@@ -30,12 +30,12 @@ lacks-numbers-requires c κs = search needs
 first-of-requires : tie.Need-first-of-requires
 first-of-requires c κs = search needs
 
-still-requires : tie.Need-still-requires
-still-requires c κs = search needs
+without-messages-requires : tie.Need-without-messages-requires
+without-messages-requires c κs = search needs
 
 returns : tie.Need-returns
 unfolding planOf
-returns c = let a = c .before .before .before .before .before .before .before .args in c .still .ensures ∙ refused-is _ _ _ (changeOf (a .p) (Propose (a .coord) (a .inst) (a .ballot))) (answer-is (c .before .before)) (c .before .if1 .taken)
+returns c = let a = c .before .before .before .before .before .before .before .args in c .without-messages .ensures ∙ refused-is _ _ _ (changeOf (a .p) (Propose (a .coord) (a .inst) (a .ballot))) (answer-is (c .before .before)) (c .before .if1 .taken)
 
 batch-to-propose-requires : tie.Need-batch-to-propose-requires
 batch-to-propose-requires c κs = search needs
@@ -66,7 +66,7 @@ propose-spec =
     proposal-barred-requires
     lacks-numbers-requires
     first-of-requires
-    still-requires
+    without-messages-requires
     returns
     batch-to-propose-requires
     proposing-requires

@@ -1,18 +1,18 @@
 use borrow.Author.Needs.{needs}
 use mathlib.Core.Path.{sym, _∙_}
 use borrow.Author.Tests.{not-false, not-true}
-use Rattle.world_deliveries.proofs.HandedLaws.{accept-accepted, accept-passed}
+use Rattle.world_deliveries.proofs.DeliveryLaws.{accept-accepted, accept-passed}
 use Rattle.world_deliveries.proofs.accept.Statement.{statement}
 use Rattle.world_deliveries.proofs.accept.Tie as tie
 
 accepts-requires : tie.Need-accepts-requires
 accepts-requires c κs = search needs
 
-still-requires : tie.Need-still-requires
-still-requires c κs = search needs
+without-messages-requires : tie.Need-without-messages-requires
+without-messages-requires c κs = search needs
 
 returns : tie.Need-returns
-returns c = c .still .ensures ∙ accept-passed (c .before .before .before .before .args .p) (sym (c .before .before .accepts .ensures) ∙ not-true _ (c .before .if1 .taken))
+returns c = c .without-messages .ensures ∙ accept-passed (c .before .before .before .before .args .p) (sym (c .before .before .accepts .ensures) ∙ not-true _ (c .before .if1 .taken))
 
 accepting-requires : tie.Need-accepting-requires
 accepting-requires c κs = search needs
@@ -39,7 +39,7 @@ accept-spec =
     tie.close
     (tie.spec
     accepts-requires
-    still-requires
+    without-messages-requires
     returns
     accepting-requires
     accepted-from-requires

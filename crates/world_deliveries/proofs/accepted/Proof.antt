@@ -1,24 +1,24 @@
 use borrow.Author.Needs.{needs}
 use mathlib.Core.Path.{sym, _∙_}
 use borrow.Author.Tests.{not-false, not-true}
-use Rattle.world_deliveries.proofs.HandedLaws.{acceptance-counted, accepted-other, accepted-past, batch-learned}
+use Rattle.world_deliveries.proofs.DeliveryLaws.{acceptance-counted, accepted-other, accepted-past, batch-learned}
 use Rattle.world_deliveries.proofs.accepted.Statement.{statement}
 use Rattle.world_deliveries.proofs.accepted.Tie as tie
 
 is-current-requires : tie.Need-is-current-requires
 is-current-requires c κs = search needs
 
-still-requires : tie.Need-still-requires
-still-requires c κs = search needs
+without-messages-requires : tie.Need-without-messages-requires
+without-messages-requires c κs = search needs
 
 returns : tie.Need-returns
-returns c = c .still .ensures ∙ accepted-other (c .before .before .before .before .before .args .p) (sym (c .before .before .is-current .ensures) ∙ not-true _ (c .before .if1 .taken))
+returns c = c .without-messages .ensures ∙ accepted-other (c .before .before .before .before .before .args .p) (sym (c .before .before .is-current .ensures) ∙ not-true _ (c .before .if1 .taken))
 
-still-requires-2 : tie.Need-still-requires-2
-still-requires-2 c κs = search needs
+without-messages-requires-2 : tie.Need-without-messages-requires-2
+without-messages-requires-2 c κs = search needs
 
 returns-2 : tie.Need-returns-2
-returns-2 c = c .still2 .ensures ∙ accepted-past (c .before .before .before .before .before .before .before .args .p) (sym (c .before .before .before .before .is-current .ensures) ∙ not-false _ (c .before .before .before .if1 .left)) (c .before .if2 .taken)
+returns-2 c = c .without-messages2 .ensures ∙ accepted-past (c .before .before .before .before .before .before .before .args .p) (sym (c .before .before .before .before .is-current .ensures) ∙ not-false _ (c .before .before .before .if1 .left)) (c .before .if2 .taken)
 
 counting-requires : tie.Need-counting-requires
 counting-requires c κs = search needs
@@ -26,12 +26,12 @@ counting-requires c κs = search needs
 is-majority-requires : tie.Need-is-majority-requires
 is-majority-requires c κs = search needs
 
-still-requires-3 : tie.Need-still-requires-3
-still-requires-3 c κs = search needs
+without-messages-requires-3 : tie.Need-without-messages-requires-3
+without-messages-requires-3 c κs = search needs
 
 returns-3 : tie.Need-returns-3
 returns-3 c =
-    c .still3 .ensures
+    c .without-messages3 .ensures
     ∙ acceptance-counted
     (c .before .before .before .before .before .before .before .before .before .before .args .p)
     (sym (c .before .before .before .before .before .before .before .is-current .ensures) ∙ not-false _ (c .before .before .before .before .before .before .if1 .left))
@@ -64,13 +64,13 @@ accepted-spec =
     tie.close
     (tie.spec
     is-current-requires
-    still-requires
+    without-messages-requires
     returns
-    still-requires-2
+    without-messages-requires-2
     returns-2
     counting-requires
     is-majority-requires
-    still-requires-3
+    without-messages-requires-3
     returns-3
     learning-requires
     learns-requires

@@ -9,19 +9,19 @@ use Rattle.world_deliveries.proofs.deliver.Tie as tie
 receiver-down-requires : tie.Need-receiver-down-requires
 receiver-down-requires c κs = search needs
 
-placeless-requires : tie.Need-placeless-requires
-placeless-requires c κs = search needs
+no-room-requires : tie.Need-no-room-requires
+no-room-requires c κs = search needs
 
 first-of-requires : tie.Need-first-of-requires
 first-of-requires c κs = search needs
 
-still-requires : tie.Need-still-requires
-still-requires c κs = search needs
+without-messages-requires : tie.Need-without-messages-requires
+without-messages-requires c κs = search needs
 
 -- the answer is the refusal of the plan
 first-is : (f : tie.After-first-of) → f .first-of .result ≡ refusalIn (f .before .before .before .before .before .args .p) (Deliver (f .before .before .before .before .before .args .msg))
 first-is f =
-    let full = f .before .placeless in
+    let full = f .before .no-room in
     let down = f .before .before .before .before .receiver-down in
     let a = f .before .before .before .before .before .args in
     f .first-of .ensures ∙ first-refusal (a .p) (a .msg) (down .result) (full .result) (down .ensures) (full .ensures)
@@ -30,7 +30,7 @@ returns : tie.Need-returns
 returns c =
     let f = c .before .before in
     let a = f .before .before .before .before .before .args in
-    c .still .ensures ∙ deliver-refused (a .p) (a .msg) (f .first-of .result) (first-is f) (c .before .if1 .taken)
+    c .without-messages .ensures ∙ deliver-refused (a .p) (a .msg) (f .first-of .result) (first-is f) (c .before .if1 .taken)
 
 hand-requires : tie.Need-hand-requires
 hand-requires c κs = search needs
@@ -46,9 +46,9 @@ deliver-spec =
     tie.close
     (tie.spec
     receiver-down-requires
-    placeless-requires
+    no-room-requires
     first-of-requires
-    still-requires
+    without-messages-requires
     returns
     hand-requires
     returns-2)

@@ -1,18 +1,18 @@
 use borrow.Author.Needs.{needs}
 use mathlib.Core.Path.{sym, _∙_}
 use borrow.Author.Tests.{not-false, not-true}
-use Rattle.world_deliveries.proofs.HandedLaws.{prepare-passed, prepare-promised}
+use Rattle.world_deliveries.proofs.DeliveryLaws.{prepare-passed, prepare-promised}
 use Rattle.world_deliveries.proofs.prepare.Statement.{statement}
 use Rattle.world_deliveries.proofs.prepare.Tie as tie
 
 promises-requires : tie.Need-promises-requires
 promises-requires c κs = search needs
 
-still-requires : tie.Need-still-requires
-still-requires c κs = search needs
+without-messages-requires : tie.Need-without-messages-requires
+without-messages-requires c κs = search needs
 
 returns : tie.Need-returns
-returns c = c .still .ensures ∙ prepare-passed (c .before .before .before .before .before .args .p) (sym (c .before .before .promises .ensures) ∙ not-true _ (c .before .if1 .taken))
+returns c = c .without-messages .ensures ∙ prepare-passed (c .before .before .before .before .before .args .p) (sym (c .before .before .promises .ensures) ∙ not-true _ (c .before .if1 .taken))
 
 promising-requires : tie.Need-promising-requires
 promising-requires c κs = search needs
@@ -39,7 +39,7 @@ prepare-spec =
     tie.close
     (tie.spec
     promises-requires
-    still-requires
+    without-messages-requires
     returns
     promising-requires
     promise-from-requires

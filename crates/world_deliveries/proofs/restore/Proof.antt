@@ -1,24 +1,24 @@
 use borrow.Author.Needs.{needs}
 use mathlib.Core.Path.{_∙_}
-use Rattle.world_deliveries.proofs.HandedLaws.{restore-passed, restore-taken}
+use Rattle.world_deliveries.proofs.DeliveryLaws.{restore-passed, restore-taken}
 use Rattle.world_deliveries.proofs.restore.Statement.{statement}
 use Rattle.world_deliveries.proofs.restore.Tie as tie
 
-still-requires : tie.Need-still-requires
-still-requires c κs = search needs
+without-messages-requires : tie.Need-without-messages-requires
+without-messages-requires c κs = search needs
 
 returns : tie.Need-returns
-returns c = c .still .ensures ∙ restore-passed (c .before .before .before .before .before .before .args .p) (c .before .if1 .taken)
+returns c = c .without-messages .ensures ∙ restore-passed (c .before .before .before .before .before .before .args .p) (c .before .if1 .taken)
 
 taking-requires : tie.Need-taking-requires
 taking-requires c κs = search needs
 
-still-requires-2 : tie.Need-still-requires-2
-still-requires-2 c κs = search needs
+without-messages-requires-2 : tie.Need-without-messages-requires-2
+without-messages-requires-2 c κs = search needs
 
 returns-2 : tie.Need-returns-2
-returns-2 c = c .still2 .ensures ∙ restore-taken (c .before .before .before .before .before .before .before .args .p) (c .before .taking .result) (c .before .taking .ensures) (c .before .before .if1 .left)
+returns-2 c = c .without-messages2 .ensures ∙ restore-taken (c .before .before .before .before .before .before .before .args .p) (c .before .taking .result) (c .before .taking .ensures) (c .before .before .if1 .left)
 
 pub restore-spec : {M : Type 1} → statement M
 restore-spec =
-    tie.close (tie.spec still-requires returns taking-requires still-requires-2 returns-2)
+    tie.close (tie.spec without-messages-requires returns taking-requires without-messages-requires-2 returns-2)

@@ -1,17 +1,17 @@
 use borrow.Author.Needs.{needs}
 use mathlib.Core.Path.{_∙_}
-use Rattle.world_deliveries.proofs.HandedLaws.{tell-heard}
+use Rattle.world_deliveries.proofs.DeliveryLaws.{tell-heard}
 use Rattle.world_deliveries.proofs.tell.Statement.{statement}
 use Rattle.world_deliveries.proofs.tell.Tie as tie
 
 hearing-requires : tie.Need-hearing-requires
 hearing-requires c κs = search needs
 
-still-requires : tie.Need-still-requires
-still-requires c κs = search needs
+without-messages-requires : tie.Need-without-messages-requires
+without-messages-requires c κs = search needs
 
 returns : tie.Need-returns
-returns c = c .still .ensures ∙ tell-heard (c .before .before .before .args .p) (c .before .hearing .result) (c .before .hearing .ensures)
+returns c = c .without-messages .ensures ∙ tell-heard (c .before .before .before .args .p) (c .before .hearing .result) (c .before .hearing .ensures)
 
 pub tell-spec : {M : Type 1} → statement M
-tell-spec = tie.close (tie.spec hearing-requires still-requires returns)
+tell-spec = tie.close (tie.spec hearing-requires without-messages-requires returns)

@@ -7,7 +7,7 @@ use Rattle.model_steps.specs.declared.Step.the-variants.{Crash}
 use Rattle.model_protocol.specs.declared.Down.{Down}
 use Rattle.model_protocol.specs.Step.{changeOf, stepChecks}
 use Rattle.world_parts.specs.Plan.{planOf, refusalIn}
-use Rattle.model_protocol.specs.Change.{downNow, still}
+use Rattle.model_protocol.specs.Change.{downNow, withoutMessages}
 use Rattle.world_parts.proofs.PlanLaws.{done-is, refused-is, same-first}
 use Rattle.world_requests.proofs.crash.Statement.{statement}
 use Rattle.world_requests.proofs.crash.Tie as tie
@@ -24,24 +24,24 @@ is-down-requires c κs = search needs
 first-of-requires : tie.Need-first-of-requires
 first-of-requires c κs = search needs
 
-still-requires : tie.Need-still-requires
-still-requires c κs = search needs
+without-messages-requires : tie.Need-without-messages-requires
+without-messages-requires c κs = search needs
 
 returns : tie.Need-returns
 unfolding planOf
-returns c = let a = c .before .before .before .before .before .args in c .still .ensures ∙ refused-is _ _ _ (changeOf (a .p) (Crash (a .role) (a .id))) (answer-is (c .before .before)) (c .before .if1 .taken)
+returns c = let a = c .before .before .before .before .before .args in c .without-messages .ensures ∙ refused-is _ _ _ (changeOf (a .p) (Crash (a .role) (a .id))) (answer-is (c .before .before)) (c .before .if1 .taken)
 
 crashed-requires : tie.Need-crashed-requires
 crashed-requires c κs = search needs
 
-still-requires-2 : tie.Need-still-requires-2
-still-requires-2 c κs = search needs
+without-messages-requires-2 : tie.Need-without-messages-requires-2
+without-messages-requires-2 c κs = search needs
 
 returns-2 : tie.Need-returns-2
 unfolding planOf changeOf
 returns-2 c =
     let a = c .before .before .before .before .before .before .args in
-    c .still2 .ensures ∙ ap (λ (d : Down). still (downNow (a .p) d) 0) (c .before .crashed .ensures) ∙ done-is (a .p) _ _ _ (answer-is (c .before .before .before)) (c .before .before .if1 .left)
+    c .without-messages2 .ensures ∙ ap (λ (d : Down). withoutMessages (downNow (a .p) d) 0) (c .before .crashed .ensures) ∙ done-is (a .p) _ _ _ (answer-is (c .before .before .before)) (c .before .before .if1 .left)
 
 pub crash-spec : {M : Type 1} → statement M
 crash-spec =
@@ -49,8 +49,8 @@ crash-spec =
     (tie.spec
     is-down-requires
     first-of-requires
-    still-requires
+    without-messages-requires
     returns
     crashed-requires
-    still-requires-2
+    without-messages-requires-2
     returns-2)

@@ -17,7 +17,7 @@ answer-is : (c : tie.After-first-of) → c .first-of .result ≡ refusalIn (c .b
 unfolding stepChecks firstRefusal
 answer-is c =
     let down = either-is (c .before .before .before .before .before .before .either .ensures) (c .before .before .before .before .before .before .before .before .is-down .ensures) (c .before .before .before .before .before .before .before .is-down2 .ensures) in
-    let unmet = or-is (eqb (c .before .before .before .before .before .before .before .before .before .args .p .acceptors) 0) (c .before .before .before .either2 .ensures) (c .before .before .before .before .unbelieved .ensures) in
+    let unmet = or-is (eqb (c .before .before .before .before .before .before .before .before .before .args .p .acceptors) 0) (c .before .before .before .either2 .ensures) (c .before .before .before .before .voter-not-holder .ensures) in
     c .first-of .ensures ∙ same-first false false _ _ _ _ _ _ _ _ refl down unmet (c .before .before .lacks-numbers .ensures) (c .before .ill-formed .ensures)
 
 is-down-requires : tie.Need-is-down-requires
@@ -29,8 +29,8 @@ is-down-requires-2 c κs = search needs
 either-requires : tie.Need-either-requires
 either-requires c κs = search needs
 
-unbelieved-requires : tie.Need-unbelieved-requires
-unbelieved-requires c κs = search needs
+voter-not-holder-requires : tie.Need-voter-not-holder-requires
+voter-not-holder-requires c κs = search needs
 
 either-requires-2 : tie.Need-either-requires-2
 either-requires-2 c κs = search needs
@@ -44,12 +44,12 @@ ill-formed-requires c κs = search needs
 first-of-requires : tie.Need-first-of-requires
 first-of-requires c κs = search needs
 
-still-requires : tie.Need-still-requires
-still-requires c κs = search needs
+without-messages-requires : tie.Need-without-messages-requires
+without-messages-requires c κs = search needs
 
 returns : tie.Need-returns
 unfolding planOf
-returns c = let a = c .before .before .before .before .before .before .before .before .before .before .before .args in c .still .ensures ∙ refused-is _ _ _ (changeOf (a .p) (Request (a .e) (a .to))) (answer-is (c .before .before)) (c .before .if1 .taken)
+returns c = let a = c .before .before .before .before .before .before .before .before .before .before .before .args in c .without-messages .ensures ∙ refused-is _ _ _ (changeOf (a .p) (Request (a .e) (a .to))) (answer-is (c .before .before)) (c .before .if1 .taken)
 
 request-to-requires : tie.Need-request-to-requires
 request-to-requires c κs = search needs
@@ -70,12 +70,12 @@ request-spec =
     is-down-requires
     is-down-requires-2
     either-requires
-    unbelieved-requires
+    voter-not-holder-requires
     either-requires-2
     lacks-numbers-requires
     ill-formed-requires
     first-of-requires
-    still-requires
+    without-messages-requires
     returns
     request-to-requires
     sending-requires

@@ -12,13 +12,13 @@ use Rattle.world_requests.proofs.restore.Tie as tie
 answer-is : (c : tie.After-first-of) → c .first-of .result ≡ refusalIn (c .before .before .before .before .before .before .before .args .p) (Restore (c .before .before .before .before .before .before .before .args .coord) (c .before .before .before .before .before .before .before .args .process))
 unfolding stepChecks firstRefusal
 answer-is c =
-    c .first-of .ensures ∙ same-first false false _ _ _ _ _ _ false false refl (c .before .before .deaf .ensures) (c .before .before .before .either .ensures) (c .before .lacks-numbers .ensures) refl
+    c .first-of .ensures ∙ same-first false false _ _ _ _ _ _ false false refl (c .before .before .either-down .ensures) (c .before .before .before .either .ensures) (c .before .lacks-numbers .ensures) refl
 
 either-requires : tie.Need-either-requires
 either-requires c κs = search needs
 
-deaf-requires : tie.Need-deaf-requires
-deaf-requires c κs = search needs
+either-down-requires : tie.Need-either-down-requires
+either-down-requires c κs = search needs
 
 lacks-numbers-requires : tie.Need-lacks-numbers-requires
 lacks-numbers-requires c κs = search needs
@@ -26,12 +26,12 @@ lacks-numbers-requires c κs = search needs
 first-of-requires : tie.Need-first-of-requires
 first-of-requires c κs = search needs
 
-still-requires : tie.Need-still-requires
-still-requires c κs = search needs
+without-messages-requires : tie.Need-without-messages-requires
+without-messages-requires c κs = search needs
 
 returns : tie.Need-returns
 unfolding planOf
-returns c = let a = c .before .before .before .before .before .before .before .before .before .args in c .still .ensures ∙ refused-is _ _ _ (changeOf (a .p) (Restore (a .coord) (a .process))) (answer-is (c .before .before)) (c .before .if1 .taken)
+returns c = let a = c .before .before .before .before .before .before .before .before .before .args in c .without-messages .ensures ∙ refused-is _ _ _ (changeOf (a .p) (Restore (a .coord) (a .process))) (answer-is (c .before .before)) (c .before .if1 .taken)
 
 sending-requires : tie.Need-sending-requires
 sending-requires c κs = search needs
@@ -45,10 +45,10 @@ restore-spec =
     tie.close
     (tie.spec
     either-requires
-    deaf-requires
+    either-down-requires
     lacks-numbers-requires
     first-of-requires
-    still-requires
+    without-messages-requires
     returns
     sending-requires
     returns-2)

@@ -15,20 +15,20 @@ answer-is c = c .first-of .ensures
 first-of-requires : tie.Need-first-of-requires
 first-of-requires c κs = search needs
 
-still-requires : tie.Need-still-requires
-still-requires c κs = search needs
+without-messages-requires : tie.Need-without-messages-requires
+without-messages-requires c κs = search needs
 
 returns : tie.Need-returns
 unfolding planOf
-returns c = c .still .ensures ∙ refused-is _ _ _ (changeOf (c .before .before .before .before .args .p) (Setup (c .before .before .before .before .args .n))) (answer-is (c .before .before)) (c .before .if1 .taken)
+returns c = c .without-messages .ensures ∙ refused-is _ _ _ (changeOf (c .before .before .before .before .args .p) (Setup (c .before .before .before .before .args .n))) (answer-is (c .before .before)) (c .before .if1 .taken)
 
-still-requires-2 : tie.Need-still-requires-2
-still-requires-2 c κs = search needs
+without-messages-requires-2 : tie.Need-without-messages-requires-2
+without-messages-requires-2 c κs = search needs
 
 returns-2 : tie.Need-returns-2
 unfolding planOf changeOf
-returns-2 c = c .still2 .ensures ∙ done-is (c .before .before .before .before .args .p) _ _ _ (answer-is (c .before .before)) (c .before .if1 .left)
+returns-2 c = c .without-messages2 .ensures ∙ done-is (c .before .before .before .before .args .p) _ _ _ (answer-is (c .before .before)) (c .before .if1 .left)
 
 pub setup-spec : {M : Type 1} → statement M
 setup-spec =
-    tie.close (tie.spec first-of-requires still-requires returns still-requires-2 returns-2)
+    tie.close (tie.spec first-of-requires without-messages-requires returns without-messages-requires-2 returns-2)

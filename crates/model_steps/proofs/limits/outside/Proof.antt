@@ -8,8 +8,8 @@ use Rattle.model_steps.proofs.limits.outside.Tie as tie
 enum-known-s : tie.Need-enum-known-s
 enum-known-s c = search needs
 
-no-setup-requires : tie.Need-no-setup-requires
-no-setup-requires c κs = search needs
+setup-outside-requires : tie.Need-setup-outside-requires
+setup-outside-requires c κs = search needs
 
 enum-known-s-2 : tie.Need-enum-known-s-2
 enum-known-s-2 c = search needs
@@ -52,7 +52,7 @@ no-party-requires c κs = search needs
 
 returns : tie.Need-returns
 unfolding outsideStep
-returns c = c .no-setup .ensures ∙ ap (λ (s : Step). outsideStep (c .before .before .before .before .args .acceptors) s) (sym (c .before .before .s .given .1))
+returns c = c .setup-outside .ensures ∙ ap (λ (s : Step). outsideStep (c .before .before .before .before .args .acceptors) s) (sym (c .before .before .s .given .1))
 
 returns-2 : tie.Need-returns-2
 unfolding outsideStep
@@ -87,7 +87,7 @@ outside-spec =
     tie.close
     (tie.spec
     enum-known-s
-    no-setup-requires
+    setup-outside-requires
     enum-known-s-2
     no-request-requires
     enum-known-s-3

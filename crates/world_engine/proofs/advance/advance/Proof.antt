@@ -117,11 +117,11 @@ mul-coordinator-2 c = omega arith
 element-set-from-coordinator : tie.Need-element-set-from-coordinator Inv-loop2 μ-loop2 Inv-loop μ-loop
 element-set-from-coordinator c = here (c .before .before .before .before .before .before .before .before .before .before .before .before) .0
 
-mul-cell : tie.Need-mul-cell Inv-loop2 μ-loop2 Inv-loop μ-loop
-mul-cell c = let h = here (c .before .before .before .before .before .before .before .before .before .before .before .before .before) .1 in omega (arith, h)
+mul-slot : tie.Need-mul-slot Inv-loop2 μ-loop2 Inv-loop μ-loop
+mul-slot c = let h = here (c .before .before .before .before .before .before .before .before .before .before .before .before .before) .1 in omega (arith, h)
 
-element-set-from-cell : tie.Need-element-set-from-cell Inv-loop2 μ-loop2 Inv-loop μ-loop
-element-set-from-cell c = here (c .before .before .before .before .before .before .before .before .before .before .before .before .before) .1
+element-set-from-slot : tie.Need-element-set-from-slot Inv-loop2 μ-loop2 Inv-loop μ-loop
+element-set-from-slot c = here (c .before .before .before .before .before .before .before .before .before .before .before .before .before) .1
 
 mul-process : tie.Need-mul-process Inv-loop2 μ-loop2 Inv-loop μ-loop
 mul-process c = omega arith
@@ -291,8 +291,8 @@ advance-spec =
     change-requires
     mul-coordinator-2
     element-set-from-coordinator
-    mul-cell
-    element-set-from-cell
+    mul-slot
+    element-set-from-slot
     mul-process
     element-set-from-process
     mul-log-2

@@ -3,8 +3,8 @@ use Rattle.model_protocol.specs.World.{freshWorld}
 use Rattle.world_engine.proofs.fresh.fresh_world.Statement.{statement}
 use Rattle.world_engine.proofs.fresh.fresh_world.Tie as tie
 
-empty-cell-requires : tie.Need-empty-cell-requires
-empty-cell-requires c κs = search needs
+empty-slot-requires : tie.Need-empty-slot-requires
+empty-slot-requires c κs = search needs
 
 fresh-coordinator-requires : tie.Need-fresh-coordinator-requires
 fresh-coordinator-requires c κs = search needs
@@ -32,7 +32,7 @@ pub fresh-world-spec : {M : Type 1} → statement M
 fresh-world-spec =
     tie.close
     (tie.spec
-    empty-cell-requires
+    empty-slot-requires
     fresh-coordinator-requires
     empty-requires
     fresh-process-requires

@@ -6,11 +6,11 @@ use Rattle.world_engine.proofs.ChangeLaws.{order-outside, order-planned
 use Rattle.world_engine.proofs.plan.change.Statement.{statement}
 use Rattle.world_engine.proofs.plan.change.Tie as tie
 
-still-requires : tie.Need-still-requires
-still-requires c κs = search needs
+without-messages-requires : tie.Need-without-messages-requires
+without-messages-requires c κs = search needs
 
 returns : tie.Need-returns
-returns c = let a = c .before .before .before .args in c .still .ensures ∙ order-refused (a .o) (a .p) (c .before .if1 .taken)
+returns c = let a = c .before .before .before .args in c .without-messages .ensures ∙ order-refused (a .o) (a .p) (c .before .if1 .taken)
 
 counted-requires : tie.Need-counted-requires
 counted-requires c κs = search needs
@@ -18,13 +18,13 @@ counted-requires c κs = search needs
 outside-requires : tie.Need-outside-requires
 outside-requires c κs = search needs
 
-still-requires-2 : tie.Need-still-requires-2
-still-requires-2 c κs = search needs
+without-messages-requires-2 : tie.Need-without-messages-requires-2
+without-messages-requires-2 c κs = search needs
 
 returns-2 : tie.Need-returns-2
 returns-2 c =
     let a = c .before .before .before .before .before .before .args in
-    c .still2 .ensures
+    c .without-messages2 .ensures
     ∙ order-outside (a .o) (a .p) (c .before .before .before .before .if1 .left) (ap (λ (n : ℕ). outsideStep n (a .o .step)) (sym (c .before .before .before .counted .ensures)) ∙ sym (c .before .before .outside .ensures) ∙ c .before .if2 .taken)
 
 plan-requires : tie.Need-plan-requires
@@ -40,11 +40,11 @@ pub change-spec : {M : Type 1} → statement M
 change-spec =
     tie.close
     (tie.spec
-    still-requires
+    without-messages-requires
     returns
     counted-requires
     outside-requires
-    still-requires-2
+    without-messages-requires-2
     returns-2
     plan-requires
     returns-3)

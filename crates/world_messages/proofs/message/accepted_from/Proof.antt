@@ -2,18 +2,18 @@ use borrow.Author.Needs.{needs}
 use mathlib.Core.Path.{ap, _∙_}
 use Rattle.model_protocol.specs.declared.Batch.{Batch}
 use Rattle.model_protocol.specs.declared.Kind.the-variants.{Accepted}
-use Rattle.model_protocol.specs.Message.{balloting}
+use Rattle.model_protocol.specs.Message.{ballotMessage}
 use Rattle.world_messages.proofs.message.accepted_from.Statement.{statement}
 use Rattle.world_messages.proofs.message.accepted_from.Tie as tie
 
 no-batch-requires : tie.Need-no-batch-requires
 no-batch-requires c κs = search needs
 
-balloting-requires : tie.Need-balloting-requires
-balloting-requires c κs = search needs
+ballot-message-requires : tie.Need-ballot-message-requires
+ballot-message-requires c κs = search needs
 
 returns : tie.Need-returns
-returns c = let a = c .before .before .args in c .balloting .ensures ∙ ap (λ (v : Batch). balloting Accepted (a .inst) (a .ballot) (a .acceptor) 0 v) (c .before .no-batch .ensures)
+returns c = let a = c .before .before .args in c .ballot-message .ensures ∙ ap (λ (v : Batch). ballotMessage Accepted (a .inst) (a .ballot) (a .acceptor) 0 v) (c .before .no-batch .ensures)
 
 pub accepted-from-spec : {M : Type 1} → statement M
-accepted-from-spec = tie.close (tie.spec no-batch-requires balloting-requires returns)
+accepted-from-spec = tie.close (tie.spec no-batch-requires ballot-message-requires returns)

@@ -2,18 +2,18 @@ use borrow.Author.Needs.{needs}
 use mathlib.Core.Path.{ap, _∙_}
 use Rattle.model_protocol.specs.declared.Batch.{Batch}
 use Rattle.model_protocol.specs.declared.Kind.the-variants.{Prepare}
-use Rattle.model_protocol.specs.Message.{balloting}
+use Rattle.model_protocol.specs.Message.{ballotMessage}
 use Rattle.world_messages.proofs.message.prepare_to.Statement.{statement}
 use Rattle.world_messages.proofs.message.prepare_to.Tie as tie
 
 no-batch-requires : tie.Need-no-batch-requires
 no-batch-requires c κs = search needs
 
-balloting-requires : tie.Need-balloting-requires
-balloting-requires c κs = search needs
+ballot-message-requires : tie.Need-ballot-message-requires
+ballot-message-requires c κs = search needs
 
 returns : tie.Need-returns
-returns c = let a = c .before .before .args in c .balloting .ensures ∙ ap (λ (v : Batch). balloting Prepare (a .inst) (a .ballot) (a .acceptor) 0 v) (c .before .no-batch .ensures)
+returns c = let a = c .before .before .args in c .ballot-message .ensures ∙ ap (λ (v : Batch). ballotMessage Prepare (a .inst) (a .ballot) (a .acceptor) 0 v) (c .before .no-batch .ensures)
 
 pub prepare-to-spec : {M : Type 1} → statement M
-prepare-to-spec = tie.close (tie.spec no-batch-requires balloting-requires returns)
+prepare-to-spec = tie.close (tie.spec no-batch-requires ballot-message-requires returns)

@@ -3,7 +3,7 @@ use mathlib.Core.Path.{ap, ap₂, _∙_}
 use Rattle.log_entry.specs.declared.Entry.{Entry}
 use Rattle.log_votes.specs.declared.Outcome.the-variants.{Open}
 use Rattle.log_core.specs.declared.Replay.{Replay}
-use Rattle.model_protocol.specs.Message.{mail}
+use Rattle.model_protocol.specs.Message.{directMessage}
 use Rattle.model_protocol.specs.declared.Kind.the-variants.{Restore}
 use Rattle.world_messages.proofs.message.restore_to.Statement.{statement}
 use Rattle.world_messages.proofs.message.restore_to.Tie as tie
@@ -11,11 +11,11 @@ use Rattle.world_messages.proofs.message.restore_to.Tie as tie
 no-entry-requires : tie.Need-no-entry-requires
 no-entry-requires c κs = search needs
 
-mail-requires : tie.Need-mail-requires
-mail-requires c κs = search needs
+direct-message-requires : tie.Need-direct-message-requires
+direct-message-requires c κs = search needs
 
 returns : tie.Need-returns
-returns c = let a = c .before .before .args in c .mail .ensures ∙ ap (λ (e : Entry). mail Restore (a .process) e 0 Open (a .store) (a .position) (a .replay)) (c .before .no-entry .ensures)
+returns c = let a = c .before .before .args in c .direct-message .ensures ∙ ap (λ (e : Entry). directMessage Restore (a .process) e 0 Open (a .store) (a .position) (a .replay)) (c .before .no-entry .ensures)
 
 pub restore-to-spec : {M : Type 1} → statement M
-restore-to-spec = tie.close (tie.spec no-entry-requires mail-requires returns)
+restore-to-spec = tie.close (tie.spec no-entry-requires direct-message-requires returns)

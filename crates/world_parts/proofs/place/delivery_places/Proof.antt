@@ -15,14 +15,14 @@ only-coordinator-requires c κs = search needs
 enum-told-2 : tie.Need-enum-told-2
 enum-told-2 c = search needs
 
-only-cell-requires : tie.Need-only-cell-requires
-only-cell-requires c κs = search needs
+only-slot-requires : tie.Need-only-slot-requires
+only-slot-requires c κs = search needs
 
 enum-told-3 : tie.Need-enum-told-3
 enum-told-3 c = search needs
 
-only-cell-requires-2 : tie.Need-only-cell-requires-2
-only-cell-requires-2 c κs = search needs
+only-slot-requires-2 : tie.Need-only-slot-requires-2
+only-slot-requires-2 c κs = search needs
 
 enum-told-4 : tie.Need-enum-told-4
 enum-told-4 c = search needs
@@ -58,10 +58,10 @@ returns : tie.Need-returns
 returns c = c .only-coordinator .ensures ∙ ap (λ (k : Kind). deliveryPlaces (c .before .before .before .args .m) k) (sym (c .before .enum-told .given .1))
 
 returns-2 : tie.Need-returns-2
-returns-2 c = c .only-cell .ensures ∙ ap (λ (k : Kind). deliveryPlaces (c .before .before .before .args .m) k) (sym (c .before .enum-told2 .given .1))
+returns-2 c = c .only-slot .ensures ∙ ap (λ (k : Kind). deliveryPlaces (c .before .before .before .args .m) k) (sym (c .before .enum-told2 .given .1))
 
 returns-3 : tie.Need-returns-3
-returns-3 c = c .only-cell2 .ensures ∙ ap (λ (k : Kind). deliveryPlaces (c .before .before .before .args .m) k) (sym (c .before .enum-told3 .given .1))
+returns-3 c = c .only-slot2 .ensures ∙ ap (λ (k : Kind). deliveryPlaces (c .before .before .before .args .m) k) (sym (c .before .enum-told3 .given .1))
 
 returns-4 : tie.Need-returns-4
 returns-4 c = c .only-coordinator2 .ensures ∙ ap (λ (x : ℕ). onlyCoordinator x) (c .before .owner .ensures) ∙ ap (λ (k : Kind). deliveryPlaces (c .before .before .before .before .args .m) k) (sym (c .before .before .enum-told4 .given .1))
@@ -82,9 +82,9 @@ delivery-places-spec =
     enum-told
     only-coordinator-requires
     enum-told-2
-    only-cell-requires
+    only-slot-requires
     enum-told-3
-    only-cell-requires-2
+    only-slot-requires-2
     enum-told-4
     owner-requires
     only-coordinator-requires-2

@@ -4,8 +4,8 @@ use mathlib.Core.Path.{ap, sym, _∙_}
 use Rattle.model_protocol.specs.declared.Kind.{Kind}
 use Rattle.model_protocol.specs.Deliver.{noPlaceFor}
 use Rattle.model_protocol.specs.Send.{lacksNumbers}
-use Rattle.world_deliveries.proofs.placeless.Statement.{statement}
-use Rattle.world_deliveries.proofs.placeless.Tie as tie
+use Rattle.world_deliveries.proofs.no_room.Statement.{statement}
+use Rattle.world_deliveries.proofs.no_room.Tie as tie
 
 enum-told : tie.Need-enum-told
 enum-told c = search needs
@@ -64,8 +64,8 @@ returns-6 c = ap (λ (k : Kind). noPlaceFor (c .before .before .before .args .p)
 returns-7 : tie.Need-returns-7
 returns-7 c = ap (λ (k : Kind). noPlaceFor (c .before .before .before .args .p) k) (sym (c .enum-told7 .given .1))
 
-pub placeless-spec : {M : Type 1} → statement M
-placeless-spec =
+pub no-room-spec : {M : Type 1} → statement M
+no-room-spec =
     tie.close
     (tie.spec
     enum-told

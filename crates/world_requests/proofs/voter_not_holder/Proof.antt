@@ -2,8 +2,8 @@ use mathlib.Core.Bool.{Bool, not}
 use mathlib.Core.Path.{ap}
 use borrow.Author.Needs.{needs}
 use Rattle.world_requests.proofs.TestLaws.{of-vote}
-use Rattle.world_requests.proofs.unbelieved.Statement.{statement}
-use Rattle.world_requests.proofs.unbelieved.Tie as tie
+use Rattle.world_requests.proofs.voter_not_holder.Statement.{statement}
+use Rattle.world_requests.proofs.voter_not_holder.Tie as tie
 
 returns : tie.Need-returns
 returns c = search needs
@@ -14,5 +14,5 @@ believes-requires c κs = search needs
 returns-2 : tie.Need-returns-2
 returns-2 c = of-vote (c .before .before .args .e .take) (c .before .if1 .left) (ap (λ (b : Bool). not b) (c .believes .ensures))
 
-pub unbelieved-spec : {M : Type 1} → statement M
-unbelieved-spec = tie.close (tie.spec returns believes-requires returns-2)
+pub voter-not-holder-spec : {M : Type 1} → statement M
+voter-not-holder-spec = tie.close (tie.spec returns believes-requires returns-2)

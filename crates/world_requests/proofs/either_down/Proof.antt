@@ -1,7 +1,7 @@
 use borrow.Author.Needs.{needs}
 use Rattle.world_requests.proofs.TestLaws.{either-is}
-use Rattle.world_requests.proofs.deaf.Statement.{statement}
-use Rattle.world_requests.proofs.deaf.Tie as tie
+use Rattle.world_requests.proofs.either_down.Statement.{statement}
+use Rattle.world_requests.proofs.either_down.Tie as tie
 
 is-down-requires : tie.Need-is-down-requires
 is-down-requires c κs = search needs
@@ -15,5 +15,5 @@ either-requires c κs = search needs
 returns : tie.Need-returns
 returns c = either-is (c .either .ensures) (c .before .before .is-down .ensures) (c .before .is-down2 .ensures)
 
-pub deaf-spec : {M : Type 1} → statement M
-deaf-spec = tie.close (tie.spec is-down-requires is-down-requires-2 either-requires returns)
+pub either-down-spec : {M : Type 1} → statement M
+either-down-spec = tie.close (tie.spec is-down-requires is-down-requires-2 either-requires returns)

@@ -1,6 +1,6 @@
 use borrow.Author.Needs.{needs}
-use Rattle.world_parts.proofs.changes.still.Statement.{statement}
-use Rattle.world_parts.proofs.changes.still.Tie as tie
+use Rattle.world_parts.proofs.changes.without_messages.Statement.{statement}
+use Rattle.world_parts.proofs.changes.without_messages.Tie as tie
 
 no-entry-requires : tie.Need-no-entry-requires
 no-entry-requires c κs = search needs
@@ -14,5 +14,5 @@ no-batch-requires c κs = search needs
 returns : tie.Need-returns
 returns c = cc
 
-pub still-spec : {M : Type 1} → statement M
-still-spec = tie.close (tie.spec no-entry-requires request-to-requires no-batch-requires returns)
+pub without-messages-spec : {M : Type 1} → statement M
+without-messages-spec = tie.close (tie.spec no-entry-requires request-to-requires no-batch-requires returns)

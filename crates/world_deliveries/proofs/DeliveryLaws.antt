@@ -6,7 +6,7 @@ use native.Mathlib.Omega.{arith}
 use borrow.Author.Tests.{le-ltb, lt-ltb}
 use lib.Dec.{ltb}
 use Rattle.model_steps.specs.Limits.{mostAcceptors}
-use Rattle.model_protocol.specs.declared.Cell.{Cell}
+use Rattle.model_protocol.specs.declared.AcceptorSlot.{AcceptorSlot}
 use Rattle.model_protocol.specs.declared.Coordinator.{Coordinator}
 use Rattle.model_protocol.specs.declared.Kind.the-variants.{Request, Prepare, Accept, Promise, Accepted, Tell, Restore}
 use Rattle.model_protocol.specs.declared.Message.{Message}
@@ -22,9 +22,9 @@ use Rattle.model_protocol.specs.Queue.{joining}
 use Rattle.world_coordinator.specs.Limits.{setPlaces}
 use Rattle.world_coordinator.proofs.RoundLaws.{heard-inside}
 use Rattle.model_protocol.specs.declared.Parts.{Parts}
-use Rattle.model_protocol.specs.Change.{cellNow, coordinatorNow, processNow, sending}
+use Rattle.model_protocol.specs.Change.{slotNow, coordinatorNow, processNow, sending}
 use Rattle.model_protocol.specs.Change.{done, learns}
-use Rattle.model_protocol.specs.Deliver.{handed}
+use Rattle.model_protocol.specs.Deliver.{deliveryChange}
 
 -- ---- a promise or an acceptance, by whether it is heard
 
@@ -46,67 +46,67 @@ in-set a x changed same h is = is ∙ sym (heard-inside a changed same (omega (a
 
 module _ (p : Parts) where
   pub request-joins : (q : Queue) → q ≡ joining (p .coordinator .queue) (p .message .entry)
-      → done (coordinatorNow p (withQueue (p .coordinator) q)) ≡ handed p Request
-  unfolding handed
+      → done (coordinatorNow p (withQueue (p .coordinator) q)) ≡ deliveryChange p Request
+  unfolding deliveryChange
   request-joins q is = ap (λ (x : Queue). done (coordinatorNow p (withQueue (p .coordinator) x))) is
 
-  pub prepare-passed : promises (p .cell) (p .message .ballot) ≡ false → done p ≡ handed p Prepare
-  unfolding handed
+  pub prepare-passed : promises (p .slot) (p .message .ballot) ≡ false → done p ≡ deliveryChange p Prepare
+  unfolding deliveryChange
   prepare-passed h = rw h
 
-  pub prepare-promised : (x : Cell) (m : Message)
-      → x ≡ promising (p .cell) (p .message .ballot)
-      → m ≡ promiseFrom (p .message .inst) (p .message .ballot) (p .message .acceptor) (p .cell .ballot) (p .cell .batch)
-      → promises (p .cell) (p .message .ballot) ≡ true
-      → sending (cellNow p x) 1 m ≡ handed p Prepare
-  unfolding handed
+  pub prepare-promised : (x : AcceptorSlot) (m : Message)
+      → x ≡ promising (p .slot) (p .message .ballot)
+      → m ≡ promiseFrom (p .message .inst) (p .message .ballot) (p .message .acceptor) (p .slot .ballot) (p .slot .batch)
+      → promises (p .slot) (p .message .ballot) ≡ true
+      → sending (slotNow p x) 1 m ≡ deliveryChange p Prepare
+  unfolding deliveryChange
   prepare-promised x m x-is m-is h = rw (h, x-is, m-is)
 
-  pub accept-passed : accepts (p .cell) (p .message .ballot) ≡ false → done p ≡ handed p Accept
-  unfolding handed
+  pub accept-passed : accepts (p .slot) (p .message .ballot) ≡ false → done p ≡ deliveryChange p Accept
+  unfolding deliveryChange
   accept-passed h = rw h
 
-  pub accept-accepted : (x : Cell) (m : Message)
+  pub accept-accepted : (x : AcceptorSlot) (m : Message)
       → x ≡ accepting (p .message .ballot) (p .message .batch)
       → m ≡ acceptedFrom (p .message .inst) (p .message .ballot) (p .message .acceptor)
-      → accepts (p .cell) (p .message .ballot) ≡ true
-      → sending (cellNow p x) 1 m ≡ handed p Accept
-  unfolding handed
+      → accepts (p .slot) (p .message .ballot) ≡ true
+      → sending (slotNow p x) 1 m ≡ deliveryChange p Accept
+  unfolding deliveryChange
   accept-accepted x m x-is m-is h = rw (h, x-is, m-is)
 
-  pub tell-heard : (h : Process) → h ≡ hearingOutcome (p .process) (p .message .tx) (p .message .outcome) → done (processNow p h) ≡ handed p Tell
-  unfolding handed
+  pub tell-heard : (h : Process) → h ≡ hearingOutcome (p .process) (p .message .tx) (p .message .outcome) → done (processNow p h) ≡ deliveryChange p Tell
+  unfolding deliveryChange
   tell-heard h is = ap (λ (x : Process). done (processNow p x)) is
 
-  pub restore-passed : p .message .position ≤ p .process .position → done p ≡ handed p Restore
-  unfolding handed
+  pub restore-passed : p .message .position ≤ p .process .position → done p ≡ deliveryChange p Restore
+  unfolding deliveryChange
   restore-passed h = rw (le-ltb (p .process .position) (p .message .position) h)
 
   pub restore-taken : (h : Process)
       → h ≡ taking (p .process) (p .message .store) (p .message .position) (p .message .replay)
       → p .process .position < p .message .position
-      → done (processNow p h) ≡ handed p Restore
-  unfolding handed
+      → done (processNow p h) ≡ deliveryChange p Restore
+  unfolding deliveryChange
   restore-taken h is above = rw (lt-ltb (p .process .position) (p .message .position) above, is)
 
   -- ---- the message is for another instance or ballot
 
   module _ (other : isCurrent (p .coordinator) (p .message .inst) (p .message .ballot) ≡ false) where
-    pub promise-other : done p ≡ handed p Promise
-    unfolding handed
+    pub promise-other : done p ≡ deliveryChange p Promise
+    unfolding deliveryChange
     promise-other = rw (not-current (p .coordinator) (p .message .inst) (p .message .ballot) (p .message .acceptor) other)
 
-    pub accepted-other : done p ≡ handed p Accepted
-    unfolding handed
+    pub accepted-other : done p ≡ deliveryChange p Accepted
+    unfolding deliveryChange
     accepted-other = rw (not-current (p .coordinator) (p .message .inst) (p .message .ballot) (p .message .acceptor) other)
 
   module _ (current : isCurrent (p .coordinator) (p .message .inst) (p .message .ballot) ≡ true) where
-    pub promise-past : mostAcceptors ≤ p .message .acceptor → done p ≡ handed p Promise
-    unfolding handed
+    pub promise-past : mostAcceptors ≤ p .message .acceptor → done p ≡ deliveryChange p Promise
+    unfolding deliveryChange
     promise-past past = rw (past-acceptors (p .coordinator) (p .message .inst) (p .message .ballot) (p .message .acceptor) current past)
 
-    pub accepted-past : mostAcceptors ≤ p .message .acceptor → done p ≡ handed p Accepted
-    unfolding handed
+    pub accepted-past : mostAcceptors ≤ p .message .acceptor → done p ≡ deliveryChange p Accepted
+    unfolding deliveryChange
     accepted-past past = rw (past-acceptors (p .coordinator) (p .message .inst) (p .message .ballot) (p .message .acceptor) current past)
 
     module _ (inside : p .message .acceptor < mostAcceptors) where
@@ -117,21 +117,21 @@ module _ (p : Parts) where
           → r
           ≡ cond
           (ltb (p .message .acceptor) setPlaces)
-          (promiseHeard (p .coordinator .round) (p .message .acceptor) (p .message .held) (p .message .batch))
+          (promiseHeard (p .coordinator .round) (p .message .acceptor) (p .message .accepted) (p .message .batch))
           (p .coordinator .round)
-          → done (coordinatorNow p (withRound (p .coordinator) r)) ≡ handed p Promise
-      unfolding handed
+          → done (coordinatorNow p (withRound (p .coordinator) r)) ≡ deliveryChange p Promise
+      unfolding deliveryChange
       promise-counted r is = rw (heard, in-set (p .message .acceptor) r _ _ inside is)
 
       module _ (r : Round) (is : r ≡ cond (ltb (p .message .acceptor) setPlaces) (counting (p .coordinator .round) (p .message .acceptor)) (p .coordinator .round)) where
         counted : r ≡ counting (p .coordinator .round) (p .message .acceptor)
         counted = in-set (p .message .acceptor) r _ _ inside is
 
-        pub acceptance-counted : majority (p .acceptors) (r .acceptances) ≡ false → done (coordinatorNow p (withRound (p .coordinator) r)) ≡ handed p Accepted
-        unfolding handed
+        pub acceptance-counted : majority (p .acceptors) (r .acceptances) ≡ false → done (coordinatorNow p (withRound (p .coordinator) r)) ≡ deliveryChange p Accepted
+        unfolding deliveryChange
         acceptance-counted few = let k = rw counted at few in rw (heard, k, counted)
 
         pub batch-learned : majority (p .acceptors) (r .acceptances) ≡ true → (c : Coordinator) → c ≡ learning (p .coordinator)
-            → learns (coordinatorNow p c) (p .coordinator .round .proposal) ≡ handed p Accepted
-        unfolding handed
+            → learns (coordinatorNow p c) (p .coordinator .round .proposal) ≡ deliveryChange p Accepted
+        unfolding deliveryChange
         batch-learned most c after = let k = rw counted at most in rw (heard, k, after)

@@ -1,6 +1,6 @@
 use borrow.Author.Needs.{needs}
-use Rattle.world_messages.proofs.message.balloting.Statement.{statement}
-use Rattle.world_messages.proofs.message.balloting.Tie as tie
+use Rattle.world_messages.proofs.message.ballot_message.Statement.{statement}
+use Rattle.world_messages.proofs.message.ballot_message.Tie as tie
 
 no-entry-requires : tie.Need-no-entry-requires
 no-entry-requires c κs = search needs
@@ -11,5 +11,5 @@ no-replay-requires c κs = search needs
 returns : tie.Need-returns
 returns c = rw (c .no-replay .ensures, c .before .no-entry .ensures)
 
-pub balloting-spec : {M : Type 1} → statement M
-balloting-spec = tie.close (tie.spec no-entry-requires no-replay-requires returns)
+pub ballot-message-spec : {M : Type 1} → statement M
+ballot-message-spec = tie.close (tie.spec no-entry-requires no-replay-requires returns)
