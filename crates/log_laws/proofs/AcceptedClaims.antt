@@ -24,8 +24,9 @@ use Rattle.log_laws.specs.Votes.{AcceptedVoteIsKept}
 use Rattle.log_laws.proofs.Replicated.{holders-length, rows-length, votes-length}
 use Rattle.log_laws.proofs.Steps.{answer-is, groupAfter, vote-entered, voted-rows}
 
-pub vote-is-kept : AcceptedVoteIsKept
-vote-is-kept es e vote ok =
+stands-there : (es : List Entry) (e : Entry) → e .take ≡ false → enter (reached es) e .answer ≡ accepted
+    → voteAt (enter (reached es) e .log) (e .tx) (e .store) ≡ voteOfEntry e
+stands-there es e vote ok =
     let l = reached es in
     let is : refusalOf l e ≡ accepted = sym (answer-is l e) ∙ ok in
     let inside = accepted-inside l e is in
@@ -35,6 +36,18 @@ vote-is-kept es e vote ok =
     ∙ ap (λ (rows : List Row). getD (getD rows (e .tx) noRow .votes) (e .store) noVote) (voted-rows l (e .tx) r)
     ∙ ap (λ (x : Row). getD (x .votes) (e .store) noVote) (getD-set-same (l .rows) (e .tx) (inGroup r (groupAfter l (e .tx) r)) noRow tx)
     ∙ getD-set-same (rowOf l (e .tx) .votes) (e .store) (voteOfEntry e) noVote (omega (arith, votes-length es (e .tx) (omega (arith, inside-vote e inside vote .tx)), inside-store e inside))
+
+pub vote-is-kept : AcceptedVoteIsKept
+vote-is-kept es e vote ok =
+    let is = stands-there es e vote ok in
+    record {
+      kept = ap (λ (v : Vote). v .kept) is;
+      commit = ap (λ (v : Vote). v .commit) is;
+      list = ap (λ (v : Vote). v .participants) is;
+      process = ap (λ (v : Vote). v .process) is;
+      by = ap (λ (v : Vote). v .by) is;
+      update = ap (λ (v : Vote). v .update) is;
+    }
 
 pub take-holds : AcceptedTakeHolds
 take-holds es e take ok =

@@ -3,7 +3,9 @@ pub mod AcceptedClaims
 pub mod AnswerClaims
 pub mod Answers
 pub mod CaseTable
+pub mod ChangeClaims
 pub mod CommitIff
+pub mod ConditionClaims
 pub mod EmptyRows
 pub mod Feed
 pub mod GroupClaims
@@ -14,6 +16,7 @@ pub mod InvolvementClaims
 pub mod LastGroup
 pub mod Lists
 pub mod Lost
+pub mod OutcomeClaims
 pub mod Outcomes
 pub mod Places
 pub mod Remembered
@@ -28,6 +31,7 @@ pub mod Sets
 pub mod Sizes
 pub mod Stays
 pub mod Steps
+pub mod TakenBefore
 pub mod Tests
 pub mod Theorems
 pub mod WellFormed

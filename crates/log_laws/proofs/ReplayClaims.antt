@@ -1,25 +1,31 @@
 -- A store's replay lists the committed transactions with its kept commit vote, each once, by group and then transaction.
 use Prim.Native.Nat.{ℕ, _+_, _≤_, _<_}
-use mathlib.Core.Path.{_≡_, refl, sym, ap, subst, _∙_}
+use mathlib.Core.Path.{_≡_, refl, sym, ap, subst, subst₂, _∙_}
 use mathlib.Core.Bool.{true}
+use mathlib.Core.List.{List}
 use mathlib.Core.Logic.{_≢_, inl, inr, ⊎-elim}
 use native.Mathlib.Omega.{arith}
 use lib.Dec.{eqb}
-use lib.ListN.{length, List·getD-eq-default}
+use lib.ListN.{drop, getD, length, length-replicate, List·getD-append, List·getD-eq-default, replicate}
+use lib.Seq.{sets-eq}
 use borrow.Author.Tests.{eq-eqb, eqb-true}
+use Rattle.log_entry.specs.declared.Entry.{Entry}
+use Rattle.log_entry.specs.Limits.{transactions}
+use Rattle.log_core.proofs.ReplayLength.{replay-length}
 use Rattle.log_core.specs.declared.Log.{Log}
 use Rattle.log_core.specs.declared.Replayed.{Replayed}
 use Rattle.log_votes.specs.declared.Row.{Row}
 use Rattle.log_core.specs.Log.{groupOf, rowOf, voteAt, outcomeOf}
 use Rattle.log_votes.specs.Row.{noRow, replays}
 use Rattle.log_votes.specs.Outcome.{isCommit, isCommitted}
-use Rattle.log_core.specs.Replay.{groupReplay, noReplayed, replayRows}
+use Rattle.log_core.specs.Replay.{groupReplay, noReplayed, replayOf, replayRows}
 use Rattle.log_laws.specs.Reached.{reached}
 use Rattle.log_laws.specs.Replays.{Before, ReplayListsExactly, ReplayListsOnce, ReplayOrdered, Replays, replayed}
 use Rattle.log_laws.proofs.Feed.{wf-reached}
 use Rattle.log_laws.proofs.Lists.{In, at-in, in-at, sorted-at}
 use Rattle.log_laws.proofs.Outcomes.{is-commit}
 use Rattle.log_laws.proofs.ReplayRows.{From, from-group, from-sorted, group-has, group-in, replayedOf}
+use Rattle.log_laws.proofs.Replicated.{rows-length}
 use Rattle.log_laws.proofs.Tests.{and-left, and-right, below-or-not, both, same-number}
 use Rattle.log_laws.proofs.WellFormed.{Wf}
 
@@ -74,16 +80,37 @@ module _ (l : Log) (w : Wf l) (store : ℕ) where
           at : 0 + x .tx ≡ x .tx
           at = omega arith
 
+-- ---- the replay as a value holds these rows
+
+module _ (es : List Entry) (store : ℕ) where
+  abbrev rows : List Replayed
+  rows = replayRows (reached es) store
+
+  room : 0 + length rows ≤ length (replicate transactions noReplayed)
+  room = rw (length-replicate transactions noReplayed) (omega (arith, replay-length (reached es) store, rows-length es))
+
+  row-is : (i : ℕ) → i < length rows → replayed (reached es) store i ≡ getD rows i noReplayed
+  unfolding replayOf
+  row-is i h =
+      ap (λ (x : List Replayed). getD x i noReplayed) (sets-eq rows (replicate transactions noReplayed) 0 room)
+      ∙ List·getD-append rows (drop (0 + length rows) (replicate transactions noReplayed)) noReplayed i h
+
 pub lists-exactly : ReplayListsExactly
+unfolding replayOf
 lists-exactly es store x = (
   λ h. replays-row (reached es) (wf-reached es) store x
-      (subst (λ (y : Replayed). In y (replayRows (reached es) store)) (h .2) (at-in noReplayed (replayRows (reached es) store) (h .0) (h .1))),
-  λ r. in-at noReplayed x (replayRows (reached es) store) (row-replayed (reached es) (wf-reached es) store x r),
+      (subst (λ (y : Replayed). In y (replayRows (reached es) store)) (sym (row-is es store (h .0) (h .1)) ∙ h .2)
+      (at-in noReplayed (replayRows (reached es) store) (h .0) (h .1))),
+  λ r.
+      let at = in-at noReplayed x (replayRows (reached es) store) (row-replayed (reached es) (wf-reached es) store x r) in
+      (at .0, at .1, row-is es store (at .0) (at .1) ∙ at .2),
 )
 
 pub ordered : ReplayOrdered
+unfolding replayOf
 ordered es store i j h k =
-    sorted-at Before noReplayed (replayRows (reached es) store) (from-sorted store (reached es .rows) 1 (reached es .groups)) i j h k
+    subst₂ Before (sym (row-is es store i (omega arith))) (sym (row-is es store j k))
+    (sorted-at Before noReplayed (replayRows (reached es) store) (from-sorted store (reached es .rows) 1 (reached es .groups)) i j h k)
 
 -- of two rows in order the transactions differ
 differ : (l : Log) (a b : Replayed) → groupOf l (a .tx) ≡ a .group → groupOf l (b .tx) ≡ b .group → Before a b → a .tx ≡ b .tx → ⊥
@@ -100,5 +127,5 @@ lists-once es store i j h k e =
     l : Log
     l = reached es
 
-    group-at : (m : ℕ) → m < length (replayRows l store) → groupOf l (replayed l store m .tx) ≡ replayed l store m .group
+    group-at : (m : ℕ) → m < replayOf l store .count → groupOf l (replayed l store m .tx) ≡ replayed l store m .group
     group-at m b = lists-exactly es store (replayed l store m) .0 (m, b, refl) .group

@@ -1,25 +1,37 @@
 -- The theorems about the definitions of the commit log; specs/ has what each claims.
 use Rattle.log_laws.specs.Answers.{RefusedEntryChangesNothing, TakeAnswerExactly, VoteAnswerExactly}
 use Rattle.log_laws.specs.Cases.{CasesHold}
+use Rattle.log_laws.specs.Changes.{TakeChangesOnly, VoteChangesOnly}
+use Rattle.log_laws.specs.Conditions.{ClashExactly, HeldBeforeExactly, HeldExactly, HoldsNotExactly, IllFormedExactly, OutsideExactly}
 use Rattle.log_laws.specs.Groups.{BegunByCommit, FirstCommitBegins, GroupAtCommit, GroupIffCommitted, GroupNeverChanges, GroupsWithoutGaps, JoinsIfRunningWhenBegun, LastGroupWasBegun, RememberedNeverChanges, GroupRemembersRunning}
 use Rattle.log_laws.specs.Holders.{AcceptedTakeHolds, HoldsAtMostOneStore, LostStoreNeverAgain}
 use Rattle.log_laws.specs.Involvement.{InvolvementExactly}
 use Rattle.log_laws.specs.Replays.{ReplayListsExactly, ReplayListsOnce, ReplayOrdered}
-use Rattle.log_laws.specs.Votes.{AcceptedVoteIsKept, CommitVotesNameOneList, CommittedKeepsNoVote, CommittedRowStays, KeptVoteStays, OutcomeCommitIff, OutcomeNeverChanges}
+use Rattle.log_laws.specs.Votes.{AcceptedVoteIsKept, CommitVotesNameOneList, CommittedKeepsNoVote, CommittedRowStays, KeptVoteStays, OutcomeAbortIff, OutcomeCommitIff, OutcomeNeverChanges, RunningExactly}
 use Rattle.log_laws.proofs.AcceptedClaims.{take-holds, vote-is-kept}
 use Rattle.log_laws.proofs.AnswerClaims.{refused-same, take-exactly, vote-exactly}
 use Rattle.log_laws.proofs.CaseTable.{table-holds}
+use Rattle.log_laws.proofs.ChangeClaims.{only-holder, only-vote}
 use Rattle.log_laws.proofs.CommitIff.{commit-iff}
+use Rattle.log_laws.proofs.ConditionClaims.{clash-by-lists, held-by-takes, holds-not-by-holder, ill-formed-by-values, outside-by-limits}
 use Rattle.log_laws.proofs.GroupClaims.{at-commit, by-commit, first-begins, iff-committed, joins-if-running, never-changes, without-gaps}
 use Rattle.log_laws.proofs.InvolvementClaims.{involvement-by-votes}
 use Rattle.log_laws.proofs.LastGroup.{was-begun}
 use Rattle.log_laws.proofs.Lost.{never-again, one-store}
+use Rattle.log_laws.proofs.OutcomeClaims.{abort-iff, running-by-votes}
 use Rattle.log_laws.proofs.Remembered.{remembered-stays, remembers-running}
 use Rattle.log_laws.proofs.ReplayClaims.{lists-exactly, lists-once, ordered}
 use Rattle.log_laws.proofs.Stays.{no-vote-kept, one-list-named, outcome-stays, row-stays, vote-stays}
+use Rattle.log_laws.proofs.TakenBefore.{held-exactly}
 
 pub outcome-commit-iff : OutcomeCommitIff
 outcome-commit-iff = commit-iff
+
+pub outcome-abort-iff : OutcomeAbortIff
+outcome-abort-iff = abort-iff
+
+pub running-exactly : RunningExactly
+running-exactly = running-by-votes
 
 pub accepted-vote-is-kept : AcceptedVoteIsKept
 accepted-vote-is-kept = vote-is-kept
@@ -98,6 +110,30 @@ take-answer-exactly = take-exactly
 
 pub refused-entry-changes-nothing : RefusedEntryChangesNothing
 refused-entry-changes-nothing = refused-same
+
+pub outside-exactly : OutsideExactly
+outside-exactly = outside-by-limits
+
+pub ill-formed-exactly : IllFormedExactly
+ill-formed-exactly = ill-formed-by-values
+
+pub holds-not-exactly : HoldsNotExactly
+holds-not-exactly = holds-not-by-holder
+
+pub clash-exactly : ClashExactly
+clash-exactly = clash-by-lists
+
+pub held-before-exactly : HeldBeforeExactly
+held-before-exactly = held-exactly
+
+pub held-exactly-by-takes : HeldExactly
+held-exactly-by-takes = held-by-takes
+
+pub take-changes-only : TakeChangesOnly
+take-changes-only = only-holder
+
+pub vote-changes-only : VoteChangesOnly
+vote-changes-only = only-vote
 
 pub cases-hold : CasesHold
 cases-hold = table-holds

@@ -1,5 +1,7 @@
 pub mod Answers
 pub mod Cases
+pub mod Changes
+pub mod Conditions
 pub mod Groups
 pub mod Holders
 pub mod Involvement

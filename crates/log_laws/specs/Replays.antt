@@ -3,23 +3,23 @@ use Prim.Native.Nat.{ℕ, _<_}
 use mathlib.Core.Path.{_≡_}
 use mathlib.Core.List.{List}
 use mathlib.Core.Logic.{_↔_, _⊎_}
-use lib.ListN.{getD, length}
+use lib.ListN.{getD}
 use Rattle.log_entry.specs.declared.Entry.{Entry}
 use Rattle.log_core.specs.declared.Log.{Log}
 use Rattle.log_votes.specs.declared.Outcome.the-variants.{Commit}
 use Rattle.log_core.specs.declared.Replayed.{Replayed}
 use Rattle.log_core.specs.Log.{groupOf, voteAt, outcomeOf}
-use Rattle.log_core.specs.Replay.{noReplayed, replayRows}
+use Rattle.log_core.specs.Replay.{noReplayed, replayOf}
 use Rattle.log_laws.specs.Reached.{reached}
 use Rattle.log_laws.specs.Votes.{KeptCommit}
 
 -- row i of the store's replay
 abbrev pub replayed : Log → ℕ → ℕ → Replayed
-replayed l store i = getD (replayRows l store) i noReplayed
+replayed l store i = getD (replayOf l store .rows) i noReplayed
 
 -- the replay has the row
 abbrev pub InReplay : Log → ℕ → Replayed → Type 0
-InReplay l store r = (i : ℕ) × (i < length (replayRows l store)) × (replayed l store i ≡ r)
+InReplay l store r = (i : ℕ) × (i < replayOf l store .count) × (replayed l store i ≡ r)
 
 -- tx is committed, in this group, with a kept commit vote of the store that has this update
 pub record Replays (l : Log) (store : ℕ) (r : Replayed) : Type 0 where
@@ -37,14 +37,14 @@ Before a b = (a .group < b .group) ⊎ ((a .group ≡ b .group) × (a .tx < b .t
 
 abbrev pub ReplayOrdered : Type 0
 ReplayOrdered =
-    (es : List Entry) (store i j : ℕ) → i < j → j < length (replayRows (reached es) store)
+    (es : List Entry) (store i j : ℕ) → i < j → j < replayOf (reached es) store .count
     → Before (replayed (reached es) store i) (replayed (reached es) store j)
 
 -- each transaction once
 abbrev pub ReplayListsOnce : Type 0
 ReplayListsOnce =
     (es : List Entry) (store i j : ℕ)
-    → i < length (replayRows (reached es) store)
-    → j < length (replayRows (reached es) store)
+    → i < replayOf (reached es) store .count
+    → j < replayOf (reached es) store .count
     → replayed (reached es) store i .tx ≡ replayed (reached es) store j .tx
     → i ≡ j

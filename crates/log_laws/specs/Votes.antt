@@ -8,10 +8,11 @@ use Rattle.log_entry.specs.declared.Entry.{Entry}
 use Rattle.log_entry.specs.Bits.{has}
 use Rattle.log_entry.specs.Refusal.{accepted}
 use Rattle.log_core.specs.declared.Log.{Log}
-use Rattle.log_votes.specs.declared.Outcome.the-variants.{Open, Commit}
+use Rattle.log_votes.specs.declared.Outcome.the-variants.{Abort, Commit, Open}
+use Rattle.log_votes.specs.declared.Vote.{Vote}
+use Rattle.log_votes.specs.Outcome.{running}
 use Rattle.log_core.specs.Enter.{enter}
 use Rattle.log_core.specs.Log.{rowOf, voteAt, outcomeOf}
-use Rattle.log_votes.specs.Row.{voteOfEntry}
 use Rattle.log_laws.specs.Reached.{reached}
 
 -- a vote of store s on tx is kept
@@ -38,11 +39,28 @@ pub record AllCommit (l : Log) (tx : ℕ) : Type 0 where
 abbrev pub OutcomeCommitIff : Type 0
 OutcomeCommitIff = (es : List Entry) (tx : ℕ) → (outcomeOf (reached es) tx ≡ Commit) ↔ AllCommit (reached es) tx
 
--- an accepted vote is kept, all that it said
+-- "abort if an abort vote is kept"
+abbrev pub OutcomeAbortIff : Type 0
+OutcomeAbortIff = (l : Log) (tx : ℕ) → (outcomeOf l tx ≡ Abort) ↔ ((s : ℕ) × KeptAbort l tx s)
+
+-- "A transaction is running from its first kept vote until its outcome is commit or abort."
+abbrev pub RunningExactly : Type 0
+RunningExactly = (l : Log) (tx : ℕ) → (running (rowOf l tx) ≡ true) ↔ (((s : ℕ) × Kept l tx s) × (outcomeOf l tx ≡ Open))
+
+-- all that the vote said
+pub record KeptAs (v : Vote) (e : Entry) : Type 0 where
+  pub kept : v .kept ≡ true
+  pub commit : v .commit ≡ e .commit
+  pub list : v .participants ≡ e .participants
+  pub process : v .process ≡ e .process
+  pub by : v .by ≡ e .by
+  pub update : v .update ≡ e .update
+
+-- an accepted vote is kept
 abbrev pub AcceptedVoteIsKept : Type 0
 AcceptedVoteIsKept =
     (es : List Entry) (e : Entry) → e .take ≡ false → enter (reached es) e .answer ≡ accepted
-    → voteAt (enter (reached es) e .log) (e .tx) (e .store) ≡ voteOfEntry e
+    → KeptAs (voteAt (enter (reached es) e .log) (e .tx) (e .store)) e
 
 -- "An accepted vote is kept for good": it stays as it is, whatever follows.
 abbrev pub KeptVoteStays : Type 0

@@ -1,0 +1,86 @@
+-- What the conditions of the refusals say, in document 01's own numbers and words. `Answers` says which of them gives the answer.
+use Prim.Native.Nat.{ℕ, _^_, _≤_, _<_}
+use mathlib.Core.Path.{_≡_}
+use mathlib.Core.Bool.{true, false}
+use mathlib.Core.List.{List, _∷_, _++_}
+use mathlib.Core.Logic.{_↔_, _≢_}
+use Rattle.log_entry.specs.declared.Entry.{Entry}
+use Rattle.log_entry.specs.Bits.{has}
+use Rattle.log_entry.specs.Entry.{illFormed, outside}
+use Rattle.log_entry.specs.Refusal.{accepted}
+use Rattle.log_core.specs.declared.Log.{Log}
+use Rattle.log_core.specs.Enter.{enter, feed}
+use Rattle.log_core.specs.Log.{emptyLog, heldBefore, holderOf, voteAt}
+use Rattle.log_laws.specs.Answers.{clash, held, holdsNot}
+use Rattle.log_laws.specs.Reached.{reached}
+use Rattle.log_laws.specs.Votes.{KeptCommit}
+
+-- ---- 2: a number outside its limits
+
+-- "Stores 0 to 7. Transactions (`tx`) 0 to 31." A list has bits for stores 0 to 7. "An update is 32 bits".
+pub record VoteInLimits (e : Entry) : Type 0 where
+  pub by : e .by ≤ 7
+  pub tx : e .tx ≤ 31
+  pub list : e .participants < 2 ^ 8
+  pub update : e .update < 2 ^ 32
+
+-- "Processes 1 to 15"; a take has a process and a store
+pub record InLimits (e : Entry) : Type 0 where
+  pub process-from : 1 ≤ e .process
+  pub process-to : e .process ≤ 15
+  pub store : e .store ≤ 7
+  pub vote : e .take ≡ false → VoteInLimits e
+
+abbrev pub OutsideExactly : Type 0
+OutsideExactly = (e : Entry) → (outside e ≡ false) ↔ InLimits e
+
+-- ---- 7: "list without `store` or `by`; commit on behalf; abort with an update other than 0"
+
+pub record WellFormed (e : Entry) : Type 0 where
+  pub lists-store : has (e .participants) (e .store) ≡ true
+  pub lists-by : has (e .participants) (e .by) ≡ true
+  pub commit-own : e .commit ≡ true → e .by ≡ e .store
+  pub abort-zero : e .commit ≡ false → e .update ≡ 0
+
+abbrev pub IllFormedExactly : Type 0
+IllFormedExactly = (e : Entry) → (illFormed e ≡ false) ↔ WellFormed e
+
+-- ---- 8: "process does not hold `by`"
+
+abbrev pub HoldsNotExactly : Type 0
+HoldsNotExactly = (l : Log) (e : Entry) → (holdsNot l e ≡ false) ↔ (holderOf l (e .by) ≡ e .process)
+
+-- ---- 9: "a commit vote with list L is kept, and this is a commit with another list or an abort whose list is not within L"
+
+pub record Fits (e : Entry) (list : ℕ) : Type 0 where
+  pub same-list : e .commit ≡ true → e .participants ≡ list
+  pub within-list : e .commit ≡ false → (t : ℕ) → has (e .participants) t ≡ true → has list t ≡ true
+
+abbrev pub ClashExactly : Type 0
+ClashExactly =
+    (l : Log) (e : Entry)
+    → (clash l e ≡ false) ↔ ((s : ℕ) → KeptCommit l (e .tx) s → Fits e (voteAt l (e .tx) s .participants))
+
+-- ---- 11: "it holds some store, or held this one before"
+
+-- a take of the store by the process stands in the list, and was accepted
+pub record TookFrom (l : Log) (es : List Entry) (process store : ℕ) : Type 0 where
+  pub before : List Entry
+  pub entry : Entry
+  pub after : List Entry
+  pub split : es ≡ before ++ entry ∷ after
+  pub is-take : entry .take ≡ true
+  pub taker : entry .process ≡ process
+  pub taken : entry .store ≡ store
+  pub is-accepted : enter (feed l before) entry .answer ≡ accepted
+
+abbrev pub Took : List Entry → ℕ → ℕ → Type 0
+Took es process store = TookFrom emptyLog es process store
+
+abbrev pub HeldBeforeExactly : Type 0
+HeldBeforeExactly = (es : List Entry) (process store : ℕ) → (heldBefore (reached es) process store ≡ true) ↔ Took es process store
+
+abbrev pub HeldExactly : Type 0
+HeldExactly =
+    (es : List Entry) (e : Entry) → 1 ≤ e .process
+    → (held (reached es) e ≡ false) ↔ (((s : ℕ) → holderOf (reached es) s ≢ e .process) × (Took es (e .process) (e .store) → ⊥))
