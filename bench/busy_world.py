@@ -1,10 +1,13 @@
 #!/usr/bin/env python3
-"""Prints a busy step file of 1,000 lines for `world`: eight stores taken, sixteen votes, two coordinators, until all 128 numbers are used;
-then every message that is still answered 0 is delivered again, in turn."""
+"""Prints a busy step file of 1,000 lines for `world`: eight stores taken, sixteen votes, two
+coordinators, until all 128 numbers are used; then every message that is still answered 0 is
+delivered again, in turn."""
 import os
 import sys
 
-sys.path.insert(0, os.path.join(os.path.dirname(__file__), "..", "tests"))
+sys.dont_write_bytecode = True
+sys.path.insert(0, os.path.join(os.path.dirname(os.path.abspath(__file__)), "..", "tests"))
+from plain_log import LINES
 from world_script import Script
 
 
@@ -17,7 +20,8 @@ def busy():
         script.deliver(*script.restore(0, p))
     for instance in range(4):  # two transactions of two stores each
         pairs = [(2 * instance + k, s) for k in (0, 1) for s in (2 * instance, 2 * instance + 1)]
-        script.queue(*(script.commit(s + 1, s, tx, "%02x" % (3 << 2 * instance), 16 * tx + s) for tx, s in pairs))
+        stores = "%02x" % (3 << 2 * instance)
+        script.queue(*(script.commit(s + 1, s, tx, stores, 16 * tx + s) for tx, s in pairs))
         script.learn(0, 3)
     script.learn(1, 4, (1, 2))
     script.learn(1, 4, (0, 2))
@@ -27,16 +31,20 @@ def busy():
     return script
 
 
-def again(script, lines):
+def again(script):
     number = 0
-    while len(script.rows) < lines:
+    while len(script.rows) < LINES:
         script.deliver(number)
         if script.answer:
             script.rows.pop()
         number = (number + 1) % 128
 
 
-script = busy()
-print(len(script.rows), "lines until the last number", file=sys.stderr)
-again(script, 1000)
-sys.stdout.buffer.write(script.data())
+def data():
+    script = busy()
+    again(script)
+    return script.data()
+
+
+if __name__ == "__main__":
+    sys.stdout.buffer.write(data())

@@ -9,7 +9,7 @@ class Draw:
         self.state = seed
 
     def below(self, n):
-        self.state = (1664525 * self.state + 1013904223) % 2 ** 32
+        self.state = (1664525 * self.state + 1013904223) % 2**32
         return (self.state >> 8) % n
 
     def of(self, values):
@@ -23,7 +23,9 @@ def random_step(script, draw, hostile):
     kind = draw.below(20)
     if kind < 11 and world.messages:
         count = len(world.messages)
-        script.deliver(count - 1 - draw.below(min(count, 12)) if draw.below(4) else draw.below(count + hostile))
+        script.deliver(
+            count - 1 - draw.below(min(count, 12)) if draw.below(4) else draw.below(count + hostile)
+        )
     elif kind == 11:
         script.take(process, store, c)
     elif kind < 14:
@@ -36,7 +38,9 @@ def random_step(script, draw, hostile):
         else:
             script.abort(p, by, store, tx, stores, c)
     elif kind == 14:
-        script.open(c, coordinator.applied, (c or 3) + 3 * ((coordinator.opened + 2) // 3 + draw.below(2)))
+        script.open(
+            c, coordinator.applied, (c or 3) + 3 * ((coordinator.opened + 2) // 3 + draw.below(2))
+        )
     elif kind < 17:
         script.propose(c, coordinator.applied, coordinator.opened or 1)
     elif kind == 17:
@@ -60,31 +64,191 @@ def random_script(seed):
     return script
 
 
+def next_ballot(script, c):
+    """The least ballot of the coordinator's above all that its current instance has seen."""
+    now = script.world.coordinators[c]
+    ballot = max([now.opened] + [a.promised[now.applied] for a in script.world.acceptors]) + 1
+    return ballot + (c - ballot) % 3
+
+
+def guided_round(script, draw, hostile):
+    """Some steps, then mostly an instance that a coordinator brings near its end, and restores."""
+    world = script.world
+    acceptors = world.acceptor_count()
+    for _ in range(draw.below(12)):
+        random_step(script, draw, hostile)
+    c = draw.below(3)
+    now = world.coordinators[c]
+    ballot = next_ballot(script, c)
+    first = draw.below(acceptors)
+    among = [(first + k) % acceptors for k in range(acceptors // 2 + 1)]
+    if draw.below(4) and ballot < 256:
+        sent = script.open(c, now.applied, ballot)
+        if sent:
+            script.deliver(*script.deliver(*(sent[a] for a in among)))
+            if not draw.below(4):
+                random_step(script, draw, False)
+            sent = script.propose(c, now.applied, ballot)
+            if sent:
+                script.deliver(*script.deliver(*(sent[a] for a in among if draw.below(8))))
+    for p in range(1, 7):
+        if not draw.below(6):
+            script.deliver(*script.restore(c, p))
+
+
 def guided_script(seed):
     """As random_script, with a coordinator that often brings an instance to its end."""
     draw = Draw(seed)
-    acceptors = draw.of([3, 3, 5])
-    script = Script(acceptors)
-    need = acceptors // 2 + 1
+    script = Script(draw.of([3, 3, 5]))
     while script.world.left() > 6 and len(script.rows) < 900:
-        for _ in range(draw.below(12)):
-            random_step(script, draw, seed % 4 == 0)
-        c = draw.below(3)
-        now = script.world.coordinators[c]
-        ballot = max([now.opened] + [a.promised[now.applied] for a in script.world.acceptors]) + 1
-        ballot += (c - ballot) % 3
-        first = draw.below(acceptors)
-        among = [(first + k) % acceptors for k in range(need)]
-        if draw.below(4) and ballot < 256:
-            sent = script.open(c, now.applied, ballot)
-            if sent:
-                script.deliver(*script.deliver(*(sent[a] for a in among)))
-                if not draw.below(4):
-                    random_step(script, draw, False)
-                sent = script.propose(c, now.applied, ballot)
-                if sent:
-                    script.deliver(*script.deliver(*(sent[a] for a in among if draw.below(8))))
-        for p in range(1, 7):
-            if not draw.below(6):
-                script.deliver(*script.restore(c, p))
+        guided_round(script, draw, seed % 4 == 0)
     return script
+
+
+# Everything mixed: traffic, repeats, full queues, used up numbers, crashes and hostile lines
+
+NUMBERS = ["", "0", "1", "2", "3", "4", "5", "7", "8", "15", "16", "31", "32", "127", "128", "255"]
+NUMBERS += ["256", "257", "00", "01", "-1", "4294967296", "18446744073709551617", "9" * 60]
+
+
+def one_byte_other(draw, line):
+    at = draw.below(len(line) + 1)
+    byte = bytes([draw.below(256)]).replace(b"\n", b" ")
+    return line[:at] + draw.of([b"", byte, byte * 2, line[at : at + 1] * 2]) + line[at + 1 :]
+
+
+def one_number_other(draw, line):
+    words = line.split(b" ")
+    at = draw.below(len(words))
+    words[at] = words[at].split(b"=")[0] + b"=" + draw.of(NUMBERS).encode()
+    return b" ".join(words)
+
+
+def fields_moved(draw, line):
+    words = line.split(b" ")
+    at = draw.below(len(words))
+    return b" ".join(words[:at] + draw.of([[], words[at:][::-1], words, [b""] + words[at:]]))
+
+
+def any_bytes(draw, _):
+    return bytes(draw.below(256) for _ in range(draw.of([0, 1, 5, 99, 101]))).replace(b"\n", b"")
+
+
+def as_long_as(draw, line):
+    return line[:99].ljust(draw.of([99, 100, 101, 102]), draw.of([b"0", b" ", b"x"]))
+
+
+HOSTILE = [one_byte_other, one_byte_other, one_number_other, one_number_other, fields_moved]
+HOSTILE += [any_bytes, as_long_as]
+
+
+def hostile_lines(script, draw):
+    for _ in range(1 + draw.below(6)):
+        line = draw.of(HOSTILE)(draw, draw.of(script.rows or [b"do=setup acceptors=3"]))
+        script.row(line)
+
+
+def full_queue(script, draw):
+    """More different requests than a queue has places, each delivered, some twice."""
+    c = draw.below(3)
+    for k in range(draw.of([3, 9, 11])):
+        sent = script.take(1 + (k + draw.below(4)) % 15, draw.below(8), c)
+        script.deliver(*sent * draw.of([1, 1, 2]))
+
+
+def numbers_used_up(script, draw):
+    """Takes until few numbers are left, which the steps that follow use."""
+    world, left = script.world, draw.below(7)
+    sends = [(p, c) for p in range(1, 16) for c in range(3)]
+    ups = [(p, c) for p, c in sends if not world.down & {("proc", p), ("coord", c)}]
+    while world.acceptors and ups and world.left() > left:
+        p, c = draw.of(ups)
+        script.take(p, draw.below(8), c)
+
+
+def all_again(script, draw):
+    """Many of the messages once more, from the first or from the last."""
+    numbers = list(range(len(script.world.messages)))[:: draw.of([1, -1])]
+    script.deliver(*numbers[draw.below(3) :: 1 + draw.below(4)])
+
+
+def crashes(script, draw):
+    for _ in range(1 + draw.below(2)):
+        role = draw.of(["acceptor", "coord", "proc"])
+        script.crash(role, draw.below({"acceptor": 5, "coord": 3, "proc": 7}[role]))
+
+
+def traffic(script, draw):
+    for _ in range(10 + draw.below(40)):
+        random_step(script, draw, True)
+
+
+def instances(script, draw):
+    for _ in range(1 + draw.below(5)):
+        if script.world.acceptors and script.world.left() > 6:
+            guided_round(script, draw, False)
+
+
+def learned(script, draw, c, requests):
+    """The requests in the coordinator's queue, and an instance that it mostly learns."""
+    script.queue(*(request for request in requests if draw.below(9)))
+    count, now = script.world.acceptor_count(), script.world.coordinators[c]
+    first = draw.below(count)
+    among = [(first + k) % count for k in range(count // 2 + 1)]
+    for phase in (script.open, script.propose):
+        ballot = next_ballot(script, c) if phase == script.open else now.opened or 1
+        sent = phase(c, now.applied, ballot)
+        if sent:
+            script.deliver(*script.deliver(*(sent[a] for a in among)))
+
+
+def stores_held(script, draw):
+    """Some stores get holders, which are restored."""
+    if script.world.acceptors:
+        c, pairs = draw.below(3), [(s + 1 + draw.below(2), s) for s in range(1 + draw.below(4))]
+        learned(script, draw, c, [script.take(p, s, c) for p, s in pairs])
+        script.deliver(*(n for p, _ in pairs for n in script.restore(c, p)))
+
+
+def one_vote(script, draw, p, tx, stores, c):
+    by = script.world.processes[p].store
+    if draw.below(8):
+        return script.commit(p, by, tx, stores, draw.below(1 << 20) ** 2 % (1 << 32), c)
+    return script.abort(p, by, draw.of([by, draw.below(4)]), tx, stores, c)
+
+
+def transaction(script, draw):
+    """All that believe they hold a store vote; the outcome is told, and some are restored."""
+    believers = [p for p in range(1, 16) if script.world.processes[p].position]
+    if script.world.acceptors and believers:
+        applied = [c.applied for c in script.world.coordinators]
+        c = applied.index(max(applied)) if draw.below(8) else draw.below(3)
+        tx = draw.of([0, 1, 2, 3, 30, 31])
+        stores = "%02x" % sum({1 << script.world.processes[p].store for p in believers})
+        votes = [one_vote(script, draw, p, tx, stores, c) for p in believers]
+        learned(script, draw, c, votes)
+        script.deliver(*script.tell(c, draw.of(believers), tx), *script.tell(c, 9, draw.below(32)))
+        script.deliver(*script.restore(c, draw.of(believers)))
+
+
+def setups(script, draw):
+    script.setup(draw.of([3, 4, 5]))
+
+
+PARTS = [transaction, transaction, transaction, stores_held, instances, traffic, hostile_lines]
+RARE = [numbers_used_up, crashes, setups, full_queue, all_again, hostile_lines]
+
+
+def mixed_file(seed):
+    """A step file; at times without setup or its last LF, or with more than 1,000 lines."""
+    draw = Draw(seed)
+    script = Script(draw.of([3, 3, 3, 5, 5, 0]))
+    stores_held(script, draw)
+    for _ in range(2 + draw.below(8)):
+        draw.of(PARTS if draw.below(3) else RARE)(script, draw)
+    long = draw.below(40) == 0
+    while long and len(script.rows) < 990 + draw.below(30):
+        all_again(script, draw)
+        hostile_lines(script, draw)
+    data = script.data()
+    return data[:-1] if not draw.below(5) else data

@@ -36,7 +36,7 @@ NOTE = (
 )
 SHORT = (
     "p process, c coordinator, a acceptor, s store, i instance, b ballot; "
-    "behind a vote's store its list, and the update. Numbers at arrows are messages."
+    "in brackets a vote's list, then its update. Numbers at arrows are messages."
 )
 
 

@@ -53,6 +53,16 @@ pub struct Vote {
     pub update: u32,
 }
 
+impl Vote {
+    /// A list without store or by, a commit on behalf, or an abort with an update.
+    pub fn ill_formed(&self) -> bool {
+        !has(self.list, self.store)
+            || !has(self.list, self.by)
+            || self.commit && self.by != self.store
+            || !self.commit && self.update != 0
+    }
+}
+
 #[derive(Clone, Copy, PartialEq, Eq, Debug)]
 pub enum Entry {
     Take { process: u8, store: u8 },
@@ -150,6 +160,12 @@ fn has(list: u8, store: u8) -> bool {
     list >> store & 1 == 1
 }
 
+impl Default for Log {
+    fn default() -> Log {
+        Log::new()
+    }
+}
+
 impl Log {
     pub fn new() -> Log {
         Log {
@@ -215,11 +231,7 @@ impl Log {
     }
 
     fn vote(&mut self, v: Vote) -> u32 {
-        if !has(v.list, v.store)
-            || !has(v.list, v.by)
-            || v.commit && v.by != v.store
-            || !v.commit && v.update != 0
-        {
+        if v.ill_formed() {
             return ILL_FORMED;
         }
         if self.holders[v.by as usize] != v.process {

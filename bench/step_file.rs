@@ -1,0 +1,131 @@
+//! Step files, for the programs in plain Rust: lines and fields read, answers and a log printed.
+
+use crate::plain_log::{Entry, Log, Vote, STORES, TRANSACTIONS};
+use std::io::{Read, Write};
+use std::ops::RangeInclusive;
+
+const LINES: usize = 1000;
+const BYTES: usize = 100;
+
+/// The rest of a line that is being read, and whether a number was outside its limits.
+pub struct Fields<'a> {
+    rest: &'a [u8],
+    pub outside: bool,
+}
+
+impl<'a> Fields<'a> {
+    fn key(&mut self, key: &[u8]) -> Option<()> {
+        self.rest = self.rest.strip_prefix(key)?;
+        Some(())
+    }
+
+    pub fn decimal(&mut self, key: &[u8], limits: RangeInclusive<u64>) -> Option<u8> {
+        self.key(key)?;
+        let n = self.rest.iter().take_while(|c| c.is_ascii_digit()).count();
+        let (digits, rest) = self.rest.split_at(n);
+        if n == 0 || n > 1 && digits[0] == b'0' {
+            return None;
+        }
+        let add = |v: u64, c: &u8| v.saturating_mul(10).saturating_add((c - b'0') as u64);
+        let value = digits.iter().fold(0u64, add);
+        self.rest = rest;
+        self.outside |= !limits.contains(&value);
+        Some(value as u8)
+    }
+
+    fn hex(&mut self, key: &[u8], count: usize) -> Option<u32> {
+        self.key(key)?;
+        let (digits, rest) = self.rest.split_at_checked(count)?;
+        self.rest = rest;
+        digits.iter().try_fold(0, |v, c| match c {
+            b'0'..=b'9' => Some(v << 4 | (c - b'0') as u32),
+            b'a'..=b'f' => Some(v << 4 | (c - b'a' + 10) as u32),
+            _ => None,
+        })
+    }
+
+    pub fn word<T: Copy>(&mut self, key: &[u8], words: &[(&[u8], T)]) -> Option<T> {
+        self.key(key)?;
+        let (word, value) = words.iter().find(|(word, _)| self.rest.starts_with(word))?;
+        self.rest = &self.rest[word.len()..];
+        Some(*value)
+    }
+
+    pub fn take(&mut self) -> Option<Entry> {
+        let process = self.decimal(b" proc=", 1..=15)?;
+        Some(Entry::Take { process, store: self.decimal(b" store=", 0..=7)? })
+    }
+
+    pub fn vote(&mut self) -> Option<Entry> {
+        Some(Entry::Vote(Vote {
+            process: self.decimal(b" proc=", 1..=15)?,
+            by: self.decimal(b" by=", 0..=7)?,
+            store: self.decimal(b" store=", 0..=7)?,
+            tx: self.decimal(b" tx=", 0..=31)?,
+            list: self.hex(b" list=", 2)? as u8,
+            commit: self.word(b" say=", &[(b"commit", true), (b"abort", false)])?,
+            update: self.hex(b" upd=", 8)?,
+        }))
+    }
+}
+
+/// The step of a line as `read` finds it, or refusal 1 or 2.
+pub fn step<T>(line: &[u8], read: impl FnOnce(&mut Fields) -> Option<T>) -> Result<T, u32> {
+    if line.len() > BYTES {
+        return Err(1);
+    }
+    let mut fields = Fields { rest: line, outside: false };
+    let step = read(&mut fields).ok_or(1u32)?;
+    match fields {
+        Fields { rest: [], outside: false } => Ok(step),
+        Fields { rest: [], .. } => Err(2),
+        _ => Err(1),
+    }
+}
+
+/// Prints the answer of each line.
+pub fn answers(input: &[u8], out: &mut Vec<u8>, mut answer: impl FnMut(&[u8]) -> u32) {
+    if input.is_empty() {
+        return;
+    }
+    let body = input.strip_suffix(b"\n").unwrap_or(input);
+    for (i, line) in body.split(|&c| c == b'\n').enumerate() {
+        let answer = if i == LINES { 6 } else { answer(line) };
+        writeln!(out, "step={} answer={}", i + 1, answer).unwrap();
+        if i == LINES {
+            break;
+        }
+    }
+}
+
+/// Group, tx and update.
+pub type Row = (u8, u8, u32);
+
+pub fn print_rows(out: &mut Vec<u8>, store: u8, rows: &[Row]) {
+    for (group, tx, update) in rows {
+        writeln!(out, "store={store} group={group} tx={tx} upd={update:08x}").unwrap();
+    }
+}
+
+pub fn print_log(out: &mut Vec<u8>, log: &Log) {
+    for tx in (0..TRANSACTIONS as u8).filter(|&tx| log.has_vote(tx)) {
+        writeln!(out, "tx={} outcome={} group={}", tx, log.outcome(tx).word(), log.group(tx))
+            .unwrap();
+    }
+    for store in (0..STORES as u8).filter(|&s| log.holder(s) != 0) {
+        writeln!(out, "store={} holder={}", store, log.holder(store)).unwrap();
+    }
+    let committed = (0..TRANSACTIONS as u8).any(|tx| log.group(tx) != 0);
+    for store in (0..STORES as u8).filter(|_| committed) {
+        print_rows(out, store, &log.replay(store));
+    }
+}
+
+/// Standard input read whole, and what `run` prints of it written at once.
+pub fn program(run: impl FnOnce(&[u8], &mut Vec<u8>)) {
+    let mut input = Vec::new();
+    std::io::stdin().read_to_end(&mut input).unwrap();
+    let mut out = Vec::with_capacity(32 * LINES);
+    run(&input, &mut out);
+    std::io::stdout().write_all(&out).unwrap();
+}
