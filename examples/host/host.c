@@ -20,7 +20,8 @@
  * written at that moment is the last one, and it was not answered: it is
  * dropped at the next start, and the host says so. Anything else that is wrong
  * with the file is damage: the host names the record, leaves the file as it is
- * and stops. What cannot be noticed is that whole slots are missing at the end.
+ * and stops. One damage cannot be told from that: a file that lost bytes at its
+ * end looks as if its last entries had not been written.
  */
 #define _XOPEN_SOURCE 700
 #include <errno.h>
@@ -166,6 +167,12 @@ static void open_file(void)
 	file = open(path, O_RDWR | O_CREAT, 0666);
 	if (file < 0 || fstat(file, &about) < 0)
 		fail(path);
+	if (file <= STDERR_FILENO) {
+		/* Such a stream was closed, and what is printed to it would go to the file. */
+		close(file);
+		fprintf(stderr, "%s: standard input, output or error is closed\n", path);
+		exit(1);
+	}
 	if (!S_ISREG(about.st_mode)) {
 		fprintf(stderr, "%s: not a regular file\n", path);
 		exit(1);
@@ -485,7 +492,7 @@ int main(int argc, char **argv)
 	load();
 	while (read_line(line, &length)) {
 		obey(line, length);
-		if (fflush(stdout) != 0)
+		if (fflush(stdout) != 0 || ferror(stdout))
 			fail("standard output");
 	}
 	if (ferror(stdin))

@@ -1,10 +1,14 @@
 /* Calls every entry point with buffers of the exact size, each from the heap, so that a memory
    checker sees a byte too far. Bytes that the library must not look at are never written. */
+#include <pthread.h>
 #include <stdio.h>
 #include <stdlib.h>
 #include <string.h>
 
 #include "release_log.h"
+
+/* What the header says of a call, and here also of all that a thread has on its stack. */
+#define STACK_SIZE (48 * 1024)
 
 static int failures;
 
@@ -242,6 +246,41 @@ static void test_replay(void)
 	free(exact);
 }
 
+/* Eight takes and 256 votes, and then each query, on a stack of the thread's own. */
+static void *many_calls(void *nothing)
+{
+	uint8_t *records = malloc(RELEASE_LOG_RECORDS_ROOM), *out = malloc(RELEASE_LOG_REPLAY_ROOM);
+	const size_t room = RELEASE_LOG_RECORDS_ROOM;
+	size_t count = 0;
+	for (uint32_t s = 0; s < RELEASE_LOG_STORES; s++, count++)
+		expect("many takes", release_log_add_take(records, room, count, s + 1, s), RELEASE_LOG_OK);
+	for (uint32_t i = 0; i < RELEASE_LOG_STORES * RELEASE_LOG_TRANSACTIONS; i++, count++) {
+		uint32_t s = i % RELEASE_LOG_STORES, tx = i / RELEASE_LOG_STORES;
+		struct release_log_vote vote = {s + 1, s, s, tx, 0xff, RELEASE_LOG_SAY_COMMIT, i};
+		expect("many votes", release_log_add_vote(records, room, count, &vote), RELEASE_LOG_OK);
+	}
+	expect("many", release_log_outcome(records, room, count, 31, out, 1), RELEASE_LOG_OK);
+	expect("many", out[0], RELEASE_LOG_OUTCOME_COMMIT);
+	expect("many", release_log_involvement(records, room, count, 31, 7, out, 1), RELEASE_LOG_OK);
+	expect("many", out[0], RELEASE_LOG_INVOLVED_YES);
+	expect("many", release_log_replay(records, room, count, 7, out, RELEASE_LOG_REPLAY_ROOM),
+	    RELEASE_LOG_OK);
+	expect("many", out[0], RELEASE_LOG_TRANSACTIONS);
+	free(records);
+	free(out);
+	return nothing;
+}
+
+static void test_stack(void)
+{
+	pthread_attr_t small;
+	pthread_t thread;
+	int made = pthread_attr_init(&small) == 0 && pthread_attr_setstacksize(&small, STACK_SIZE) == 0 &&
+	    pthread_create(&thread, &small, many_calls, NULL) == 0 && pthread_join(thread, NULL) == 0;
+	expect("a thread", (uint32_t)made, 1);
+	pthread_attr_destroy(&small);
+}
+
 int main(void)
 {
 	test_add();
@@ -252,6 +291,7 @@ int main(void)
 	test_outcome();
 	test_involvement();
 	test_replay();
+	test_stack();
 	if (failures == 0)
 		puts("every entry point as expected");
 	return failures != 0;

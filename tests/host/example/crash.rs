@@ -11,7 +11,7 @@ use std::process::{Command, Stdio};
 use std::thread::sleep;
 use std::time::Duration;
 
-const ROUNDS: usize = 200;
+const ROUNDS: usize = 300;
 
 /// Entries to ask for, the answers that they will get, and those that will be accepted.
 struct Script {
@@ -125,7 +125,7 @@ fn stops_after(b: &Bench, command: Command, fit: usize, there: usize, why: &str)
     assert_eq!(b.bytes(), slots(entries));
 }
 
-/// Room for so many bytes and no more, by the system's own limit and by a full disk.
+/// Room for a number of bytes and no more, by the system's own limit and by a full disk.
 fn full(b: &Bench) {
     for bytes in 0..5 * SLOT {
         let fit = bytes / SLOT;
@@ -172,6 +172,7 @@ fn no_output(b: &Bench) {
     let mut host = command.stderr(Stdio::piped()).spawn().expect("the host starts");
     let mut input = host.stdin.take().expect("its input");
     input.write_all(b"take 1 0\ntake 2 1\n").expect("the host reads");
+    drop(input);
     let output = host.wait_with_output().expect("the host ends");
     assert_eq!(output.status.code(), Some(1));
     assert_eq!(output.stderr, b"standard output: No space left on device\n");
@@ -215,6 +216,19 @@ fn no_file(b: &Bench) {
     assert_eq!(b.bytes().len(), SLOT);
 }
 
+/// With a standard stream closed, the file would get its number, and what is printed to it.
+fn closed_streams(b: &Bench) {
+    b.put(&slots(&longest()[..2]));
+    for closed in ["<&-", ">&-", "2>&-", ">&- 2>&-", "<&- >&- 2>&-"] {
+        let mut shell = Command::new("sh");
+        let host = format!("exec \"$0\" \"$1\" {closed}");
+        shell.args(["-c", &host]).args([b.program.as_path(), &b.file()]);
+        let ran = b.run_with(shell, b"take 9 0\noutcome 0\nfoo\n");
+        assert_eq!((ran.code, &ran.out[..]), (Some(1), ""), "{}", ran.err);
+        assert_eq!(b.bytes(), slots(&longest()[..2]), "{closed}");
+    }
+}
+
 pub fn all(b: &Bench, seed: u64) {
     kills(b, seed);
     full(b);
@@ -223,5 +237,6 @@ pub fn all(b: &Bench, seed: u64) {
     no_output(b);
     two_hosts(b);
     no_file(b);
+    closed_streams(b);
     println!("it answers nothing that is not on the disk, and only one at a time has the file");
 }
