@@ -146,6 +146,7 @@ def replay_lines(store, rows):
 
 # Step files
 
+DECIMAL = "0|[1-9][0-9]*"
 FORMS = {
     "list": "[0-9a-f]{2}",
     "upd": "[0-9a-f]{8}",
@@ -165,27 +166,20 @@ class Reader:
 
     def __init__(self, fields):
         self.keys = {name: keys.split() for name, keys in fields.items()}
-        self.forms = {name: re.compile(self.form(name).encode()) for name in fields}
+        self.forms = {name.encode(): re.compile(self.form(name).encode()) for name in fields}
 
     def form(self, name):
-        return (
-            "do="
-            + name
-            + "".join(
-                " %s=(%s)" % (key, FORMS.get(key, "0|[1-9][0-9]*")) for key in self.keys[name]
-            )
-        )
+        fields = [" %s=(%s)" % (key, FORMS.get(key, DECIMAL)) for key in self.keys[name]]
+        return "do=" + name + "".join(fields)
 
     def read(self, line):
         """The step's name and values by key, or None."""
-        for name, form in self.forms.items():
-            match = form.fullmatch(line)
-            if match and len(line) <= BYTES:
-                return name, {
-                    key: VALUES.get(key, int)(text)
-                    for key, text in zip(self.keys[name], match.groups())
-                }
-        return None
+        name = line[3:BYTES].split(b" ", 1)[0]
+        match = name in self.forms and self.forms[name].fullmatch(line)
+        if not match or len(line) > BYTES:
+            return None
+        keys = self.keys[name.decode()]
+        return name.decode(), {k: VALUES.get(k, int)(v) for k, v in zip(keys, match.groups())}
 
     def text(self, name, *values):
         return "do=" + name + "".join(" %s=%s" % pair for pair in zip(self.keys[name], values))
