@@ -11,12 +11,14 @@ mod longest;
 mod plain_log;
 
 use longest::longest;
-use plain_log::{Entry, Numbers, RECORD};
+use plain_log::{Entry, Numbers, RECORD, ROW, TRANSACTIONS};
 use std::hint::black_box;
 use std::time::{Duration, Instant};
 
 const CALLS: [&str; 4] = ["add", "outcome", "involvement", "replay"];
 const COUNTS: [usize; 4] = [0, 10, 100, 376];
+/// The most bytes of a replay.
+const REPLAY: usize = 1 + TRANSACTIONS * ROW;
 const TRIALS: usize = 1000;
 const TRIAL: Duration = Duration::from_micros(100);
 
@@ -25,7 +27,7 @@ struct Lent {
     count: usize,
     records: Vec<u8>,
     next: Numbers,
-    out: [u8; 1 + 32 * plain_log::ROW],
+    out: [u8; REPLAY],
 }
 
 impl Lent {
@@ -33,7 +35,7 @@ impl Lent {
         let mut records: Vec<u8> = entries[..count].iter().flat_map(|e| e.to_record()).collect();
         records.resize(records.len() + RECORD, 0);
         let next = entries.get(count).unwrap_or(&entries[0]).numbers();
-        Lent { count, records, next, out: [0; 1 + 32 * plain_log::ROW] }
+        Lent { count, records, next, out: [0; REPLAY] }
     }
 
     fn library(&mut self, call: &str) -> u32 {
