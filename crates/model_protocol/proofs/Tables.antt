@@ -84,9 +84,11 @@ rowsOf w p = take (processOf w p .replay .count) (processOf w p .replay .rows)
 
 -- "the first up to four queue entries" were proposed; the rest keep their order, and the refused
 -- one could join later
-pub first-four : (logOf (after fullQueue) 0 .holders ≡ 1 ∷ 2 ∷ 3 ∷ 4 ∷ 0 ∷ 0 ∷ 0 ∷ 0 ∷ []) × (queuedBy (after fullQueue) 0 ≡ 5 ∷ 6 ∷ 7 ∷ 8 ∷ 9 ∷ [])
+pub first-four : (messageOf (after fullQueue) 15 .batch .count ≡ 4)
+    × (logOf (after fullQueue) 0 .holders ≡ 1 ∷ 2 ∷ 3 ∷ 4 ∷ 0 ∷ 0 ∷ 0 ∷ 0 ∷ [])
+    × (queuedBy (after fullQueue) 0 ≡ 5 ∷ 6 ∷ 7 ∷ 8 ∷ 9 ∷ [])
 unfolding computed fullQueue
-first-four = (refl, refl)
+first-four = (refl, refl, refl)
 
 -- "Queue entries equal to an entry of the learned batch leave, the rest keep their order."
 pub equal-ones-leave : (logOf (after learnsAnothers) 1 .holders ≡ 1 ∷ 2 ∷ 0 ∷ 0 ∷ 0 ∷ 0 ∷ 0 ∷ 0 ∷ [])
