@@ -25,7 +25,7 @@ def long_take(length):
     return take("9" * (length - len(take(""))))
 
 
-def cases():
+def shape_cases():
     good = take()
     yield "empty", b""
     yield "one-lf", b"\n"
@@ -46,6 +46,9 @@ def cases():
     yield "all-bytes", b"".join(bytes([b]) + b"\n" for b in range(256)) + b"".join(good + bytes([b]) + b"\n" for b in range(256))
     yield "all-bytes-inside", b"".join(b"do=take proc=" + bytes([b]) + b" store=0\n" for b in range(256))
     yield "all-bytes-hex", b"".join(b"do=vote proc=1 by=0 store=0 tx=0 list=0" + bytes([b]) + b" say=commit upd=00000001\n" for b in range(256))
+
+
+def value_cases():
     numbers = ["0", "1", "7", "8", "15", "16", "31", "32", "99", "100", "127", "128", "255", "256", "257", "264", "287", "511", "512", "999", "1000",
                "65535", "65536", "65537", "4294967295", "4294967296", "4294967297", "18446744073709551615", "18446744073709551616",
                "18446744073709551617", "340282366920938463463374607431768211457", "00", "01", "015", "-1", "+1", "1.", "", " 1", "1 ", "0x1", "１"]
@@ -64,10 +67,13 @@ def cases():
     yield "ninety-digits", lines(take("9" * 79, 0), take("1" + "0" * 76, 0), b"do=vote proc=1 by=0 store=0 tx=" + b"9" * 40 + b" list=01 say=abort upd=00000000",
                                  take("0" * 76, 0), b"do=take proc=" + b"9" * 80 + b" store=0")
     yield "unreadable-before-outside", lines(take(99, "x"), take("x", 99), vote(p=99, upd="x"), vote(tx=99, say="no"), vote(by=300, lst="FF"), take(99, 99))
+
+
+def log_cases():
     yield "words", lines(b"do=take", b"do=", b"do", b"", b"do=taken proc=1 store=0", b"do= take proc=1 store=0", b"Do=take proc=1 store=0",
                          b"do=take  proc=1 store=0", b"do=take proc=1  store=0", b"do=take proc=1 store=0 ", b" do=take proc=1 store=0", b"do=take store=0 proc=1",
                          b"do=take proc=1", b"do=take proc=1 store=0 to=0", b"do=take proc=1 proc=1 store=0", b"do=take\tproc=1 store=0", b"do=take proc=1 store=0\r",
-                         b"do=take proc=1 store=0\0", b"\xef\xbb\xbfdo=take proc=1 store=0", b"do=setup acceptors=3", b"do=vote", b"do=take,proc=1,store=0", good)
+                         b"do=take proc=1 store=0\0", b"\xef\xbb\xbfdo=take proc=1 store=0", b"do=setup acceptors=3", b"do=vote", b"do=take,proc=1,store=0", take())
     yield "refusals", lines(
         b"bad", take(0, 0), take(1, 0), take(1, 1), take(2, 1), take(3, 2),
         vote(p=1, by=0, store=0, tx=1, lst="02"), vote(p=1, by=0, store=1, tx=1, lst="03"), vote(p=1, by=0, store=1, tx=1, lst="03", say="abort", upd="00000001"),
@@ -81,6 +87,11 @@ def cases():
         *[vote(s + 1, s, s, 30, "ff", "commit", "ffffffff") for s in range(7)], vote(1, 0, 7, 30, "81", "abort", "00000000"))
     yield "full-log", lines(*[take(s + 1, s) for s in range(8)], *[vote(s + 1, s, s, t, "ff", "commit", "%08x" % (t * 8 + s)) for t in range(32) for s in range(8)])
     yield "one-store-each", lines(*[take(s + 1, s) for s in range(8)], *[vote(s + 1, s, s, t, "%02x" % (1 << s), "commit", "ffffffff") for t in range(32) for s in (t % 8,)])
+
+
+def cases():
+    for group in (shape_cases, value_cases, log_cases):
+        yield from group()
 
 
 def files(where):

@@ -240,7 +240,7 @@ def last_number_cases():
 
 # Traffic
 
-def traffic_cases():
+def most_instances():
     for acceptors, most in ((3, 12), (5, 7)):
         among = range(acceptors // 2 + 1)
         script = Script(acceptors)
@@ -256,6 +256,8 @@ def traffic_cases():
         script.restore(0, 1)
         yield "most-instances-%d" % acceptors, script.data()
 
+
+def eight_stores_two_down():
     script = Script(5)
     script.crash("acceptor", 3)
     script.crash("acceptor", 4)
@@ -270,6 +272,8 @@ def traffic_cases():
     script.deliver(*script.tell(1, 15, 31), *script.restore(1, 8))
     yield "eight-stores-two-down", script.data()
 
+
+def outbid():
     script = Script()
     script.queue(*(script.take(c + 1, c, c) for c in range(3)))
     for ballot in range(1, 10):  # each outbids the last before its accepts arrive
@@ -284,6 +288,8 @@ def traffic_cases():
         script.learn(c, ballot, (0, 2))
     yield "outbid", script.data()
 
+
+def learned_by_three_and_all_again():
     script = Script()
     script.queue(*(script.take(c + 1, c, c) for c in range(3)))
     for c, ballot in ((1, 1), (2, 2), (0, 3), (2, 2), (0, 3), (1, 4)):  # two instances
@@ -294,17 +300,23 @@ def traffic_cases():
         script.deliver(n)
     yield "learned-by-three-and-all-again", script.data()
 
+
+def everything_thrice():
     script = busy()
     for _ in range(3):
         for n in range(len(script.world.messages)):
             script.deliver(n)
     yield "everything-thrice", script.data()
 
+
+def everything_backwards():
     script = busy()
     for n in reversed(range(len(script.world.messages))):
         script.deliver(n)
     yield "everything-backwards", script.data()
 
+
+def takeovers():
     script = Script()
     script.queue(*(script.take(p, 0) for p in (1, 2, 3, 4)))  # four takers in one batch: the last one holds
     script.learn(0, 3)
@@ -318,6 +330,8 @@ def traffic_cases():
         script.commit(p, s, 7, "07")
     yield "takeovers", script.data()
 
+
+def restores_of_three_stores():
     script = Script()
     requests = [script.take(p, s) for p, s in ((1, 0), (2, 0), (1, 1), (2, 1), (1, 2))]
     restores = []
@@ -332,6 +346,8 @@ def traffic_cases():
                 script.step("vote", p, s, s, 1, "00", "commit", "00000000", 0)  # 7 where it believes, else 5
     yield "restores-of-three-stores", script.data()
 
+
+def groups():
     script = Script()
     script.hold((1, 0), (2, 1))
     first = script.commit(1, 0, 1, "03") + script.commit(1, 0, 2, "03") + script.commit(2, 1, 1, "03")
@@ -346,6 +362,8 @@ def traffic_cases():
     script.deliver(*script.restore(0, 2), *script.restore(0, 1))
     yield "groups", script.data()
 
+
+def sender_down():
     script = Script()
     script.crash("coord", 1)
     script.queue(script.take(1, 0))
@@ -358,6 +376,8 @@ def traffic_cases():
     script.take(2, 0, 0)
     yield "sender-down", script.data()
 
+
+def equal_entries():
     script = Script()
     equal = [script.take(1, 0) for _ in range(9)] + [script.take(1, 0, 1), script.take(1, 1), script.take(2, 0)]
     script.queue(*equal)
@@ -366,6 +386,8 @@ def traffic_cases():
     script.learn(0, 3)
     yield "equal-entries", script.data()
 
+
+def batch_of_another():
     script = Script()
     script.queue(*(script.take(s + 1, s) for s in range(8)))
     script.queue(script.take(9, 0, 1), script.take(2, 1, 1), script.take(5, 4, 1))
@@ -374,6 +396,8 @@ def traffic_cases():
     script.learn(0, 3)  # processes 1, 3, 4 and 6; 7 and 8 are left
     yield "batch-of-another", script.data()
 
+
+def entries_that_differ_in_one_value():
     script = Script()
     script.hold((1, 0))
     votes = [script.abort(1, 0, s, tx, stores, 1) for s, tx, stores in ((1, 4, "0f"), (2, 4, "0f"), (1, 5, "0f"), (1, 4, "1f"), (0, 4, "0f"))]
@@ -389,6 +413,8 @@ def traffic_cases():
     script.queue(*votes)
     yield "entries-that-differ-in-one-value", script.data()
 
+
+def full_queues():
     script = Script()
     for c in range(3):
         script.queue(*(script.take(p, s, c) for p, s in ((1, 0), (1, 1), (1, 2), (2, 0), (2, 1), (2, 2), (3, 0), (3, 1), (15, 7))))
@@ -398,6 +424,18 @@ def traffic_cases():
     script.leave(0)
     script.deliver(8, 9, 17, 26)
     yield "full-queues", script.data()
+
+
+TRAFFIC = (
+    most_instances, eight_stores_two_down, outbid, learned_by_three_and_all_again,
+    everything_thrice, everything_backwards, takeovers, restores_of_three_stores, groups,
+    sender_down, equal_entries, batch_of_another, entries_that_differ_in_one_value, full_queues,
+)
+
+
+def traffic_cases():
+    for group in TRAFFIC:
+        yield from group()
 
 
 def random_cases():
