@@ -48,6 +48,23 @@ enum Message {
     Restore { process: u8, store: u8, position: u8, rows: Vec<Row> },
 }
 
+impl Message {
+    fn receiver(&self) -> (Role, u8) {
+        match *self {
+            Message::Request { coord, .. } => (Role::Coord, coord),
+            Message::Prepare { acceptor, .. } | Message::Accept { acceptor, .. } => {
+                (Role::Acceptor, acceptor)
+            }
+            Message::Promise { ballot, .. } | Message::Acceptance { ballot, .. } => {
+                (Role::Coord, ballot % 3)
+            }
+            Message::Outcome { process, .. } | Message::Restore { process, .. } => {
+                (Role::Process, process)
+            }
+        }
+    }
+}
+
 #[derive(Clone, Copy, Default)]
 struct Slot {
     promised: u8,
@@ -75,6 +92,33 @@ impl Coordinator {
         self.accepted = 0;
     }
 
+    fn request(&mut self, entry: &Entry) -> Result<(), u32> {
+        if !self.queue.contains(entry) {
+            refuse(6, self.queue.len() == QUEUE)?;
+            self.queue.push(*entry);
+        }
+        Ok(())
+    }
+
+    fn promise(&mut self, acceptor: u8, inst: u8, ballot: u8, accepted: &Option<Accepted>) {
+        if inst == self.applied && ballot == self.opened {
+            self.promised |= 1 << acceptor;
+            if accepted.map_or(0, |a| a.ballot) > self.highest.map_or(0, |a| a.ballot) {
+                self.highest = *accepted;
+            }
+        }
+    }
+
+    fn acceptance(&mut self, acceptor: u8, inst: u8, ballot: u8, acceptors: u8) {
+        if inst == self.applied && ballot == self.opened {
+            self.accepted |= 1 << acceptor;
+            if majority(self.accepted, acceptors) {
+                let batch = self.proposed.expect("an accepted ballot was proposed");
+                self.learn(batch);
+            }
+        }
+    }
+
     fn learn(&mut self, batch: Batch) {
         for entry in batch.entries() {
             self.log.enter(entry);
@@ -91,6 +135,16 @@ struct Process {
     store: Option<u8>,
     position: u8,
     rows: Vec<Row>,
+}
+
+impl Process {
+    fn restore(&mut self, store: u8, position: u8, rows: &Vec<Row>) {
+        if position > self.position {
+            self.store = Some(store);
+            self.position = position;
+            self.rows.clone_from(rows);
+        }
+    }
 }
 
 #[derive(Clone, Copy)]
@@ -224,38 +278,17 @@ impl World {
     fn deliver(&mut self, msg: usize) -> Result<(), u32> {
         refuse(4, msg >= self.messages.len())?;
         let full = self.is_full(1);
-        let (role, id) = match self.messages[msg] {
-            Message::Request { coord, .. } => (Role::Coord, coord),
-            Message::Prepare { acceptor, .. } | Message::Accept { acceptor, .. } => {
-                (Role::Acceptor, acceptor)
-            }
-            Message::Promise { ballot, .. } | Message::Acceptance { ballot, .. } => {
-                (Role::Coord, ballot % 3)
-            }
-            Message::Outcome { process, .. } | Message::Restore { process, .. } => {
-                (Role::Process, process)
-            }
-        };
+        let (role, id) = self.messages[msg].receiver();
         refuse(3, self.is_down(role, id))?;
         match &self.messages[msg] {
-            Message::Request { entry, .. } => {
-                let queue = &mut self.coordinators[id as usize].queue;
-                if !queue.contains(entry) {
-                    refuse(6, queue.len() == QUEUE)?;
-                    queue.push(*entry);
-                }
-            }
+            Message::Request { entry, .. } => self.coordinators[id as usize].request(entry)?,
             &Message::Prepare { acceptor, inst, ballot } => {
                 let slot = &mut self.slots[acceptor as usize][inst as usize];
                 if ballot > slot.promised {
                     refuse(6, full)?;
                     slot.promised = ballot;
-                    self.messages.push(Message::Promise {
-                        acceptor,
-                        inst,
-                        ballot,
-                        accepted: slot.accepted,
-                    });
+                    let accepted = slot.accepted;
+                    self.messages.push(Message::Promise { acceptor, inst, ballot, accepted });
                 }
             }
             &Message::Accept { acceptor, inst, ballot, batch } => {
@@ -267,34 +300,17 @@ impl World {
                 }
             }
             Message::Promise { acceptor, inst, ballot, accepted } => {
-                let c = &mut self.coordinators[id as usize];
-                if *inst == c.applied && *ballot == c.opened {
-                    c.promised |= 1 << acceptor;
-                    if accepted.map_or(0, |a| a.ballot) > c.highest.map_or(0, |a| a.ballot) {
-                        c.highest = *accepted;
-                    }
-                }
+                self.coordinators[id as usize].promise(*acceptor, *inst, *ballot, accepted);
             }
-            Message::Acceptance { acceptor, inst, ballot } => {
+            &Message::Acceptance { acceptor, inst, ballot } => {
                 let c = &mut self.coordinators[id as usize];
-                if *inst == c.applied && *ballot == c.opened {
-                    c.accepted |= 1 << acceptor;
-                    if majority(c.accepted, self.acceptors) {
-                        let batch = c.proposed.expect("an accepted ballot was proposed");
-                        c.learn(batch);
-                    }
-                }
+                c.acceptance(acceptor, inst, ballot, self.acceptors);
             }
             Message::Outcome { tx, outcome, .. } => {
                 self.processes[id as usize].heard[*tx as usize] = Some(*outcome)
             }
             Message::Restore { store, position, rows, .. } => {
-                let p = &mut self.processes[id as usize];
-                if *position > p.position {
-                    p.store = Some(*store);
-                    p.position = *position;
-                    p.rows.clone_from(rows);
-                }
+                self.processes[id as usize].restore(*store, *position, rows);
             }
         }
         Ok(())
@@ -391,21 +407,20 @@ impl Step {
                 tx: fields.decimal(b" tx=", 0..=31)?,
             },
             7 => Step::Restore { coord: coord(fields)?, process: process(fields)? },
-            _ => {
-                let roles: [(&[u8], Role); 3] = [
-                    (b"acceptor", Role::Acceptor),
-                    (b"coord", Role::Coord),
-                    (b"proc", Role::Process),
-                ];
-                let role = fields.word(b" role=", &roles)?;
-                let limits = match role {
-                    Role::Acceptor => 0..=if acceptors == 0 { 4 } else { acceptors as u64 - 1 },
-                    Role::Coord => 0..=2,
-                    Role::Process => 1..=15,
-                };
-                Step::Crash { role, id: fields.decimal(b" id=", limits)? }
-            }
+            _ => Step::read_crash(fields, acceptors)?,
         })
+    }
+
+    fn read_crash(fields: &mut Fields, acceptors: u8) -> Option<Step> {
+        let roles: [(&[u8], Role); 3] =
+            [(b"acceptor", Role::Acceptor), (b"coord", Role::Coord), (b"proc", Role::Process)];
+        let role = fields.word(b" role=", &roles)?;
+        let limits = match role {
+            Role::Acceptor => 0..=if acceptors == 0 { 4 } else { acceptors as u64 - 1 },
+            Role::Coord => 0..=2,
+            Role::Process => 1..=15,
+        };
+        Some(Step::Crash { role, id: fields.decimal(b" id=", limits)? })
     }
 }
 
