@@ -10,6 +10,4 @@ pub mod Process
 pub mod Queue
 pub mod Send
 pub mod Step
-pub mod Tables
-pub mod Unchanged
 pub mod World

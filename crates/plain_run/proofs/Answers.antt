@@ -1,9 +1,10 @@
--- What each answer says of a line: which lines are answered 1, which 2, and that all others are texts of entries within the limits.
-use Prim.Native.Nat.{ℕ, _≤_, _<_}
+-- What each answer says of a line: which lines are answered 1, which 2, and that all others are
+-- texts of entries within the limits.
+use Prim.Native.Nat.{ℕ, _≤_}
 use native.Mathlib.Omega.{arith}
 use mathlib.Core.Bool.{Bool, true, false, _||_, not, cond}
 use mathlib.Core.List.{List}
-use mathlib.Core.Option.{Option, none, some}
+use mathlib.Core.Option.{Option}
 use mathlib.Core.Path.{_≡_, refl, sym, _∙_, ap}
 use lib.Dec.{eqb, ltb}
 use lib.ListN.{getD, length}
@@ -14,41 +15,60 @@ use Rattle.log_entry.specs.Refusal.{accepted, firstRefusal, holdsOrHeld, illFor
 use Rattle.log_core.specs.declared.Log.{Log}
 use Rattle.log_core.specs.Enter.{afterEntry, answered, enter, refusalOf}
 use Rattle.log_core.specs.Log.{heldBefore, holderOf, rowOf}
+use Rattle.log_core.specs.Refusal.{holdsAny, takeChecks}
 use Rattle.log_votes.specs.Row.{noVote}
 use Rattle.log_votes.specs.Refusal.{anyClash, voteChecks}
-use Rattle.log_core.specs.Refusal.{holdsAny, takeChecks}
-use Rattle.text_entry.specs.Entry.{HasText, readEntry, text}
-use Rattle.text_entry.proofs.Agreement.{IsText, read-is-text, text-reads-back}
-use Rattle.text_lines.specs.Lines.{longest}
+use Rattle.text_entry.specs.declared.Reading.{Reading}
+use Rattle.text_entry.specs.declared.Reading.the-variants.{Read, Outside, Unreadable}
+use Rattle.text_entry.specs.Claims.{IsText}
+use Rattle.text_entry.specs.Entry.{HasText, beyond, reading, readingOf, text}
+use Rattle.text_entry.proofs.Agreement.{outside-line-is-text, read-line-is-text, text-reads-back}
+use Rattle.text_entry.proofs.Beyond.{beyond-is-outside}
+use Rattle.text_lines.specs.Lines.{maxLineBytes}
+use Rattle.plain_run.specs.Claims.{Answered2IsOutside, LongLineIsUnreadable, OtherLineIsUnreadable, TextIsEntered, TextOutsideLimits}
 use Rattle.plain_run.specs.Plain.{enterLine, entering}
-use Rattle.plain_run.proofs.Entering.{enter-outside}
 
-short-line : (l : Log) (s : List ℕ) → length s ≤ longest → enterLine l s ≡ entering l (readEntry s)
+-- an entry outside its limits is refused 2
+outside-refused : (l : Log) (e : Entry) → outside e ≡ true → refusalOf l e ≡ outsideLimits
+unfolding refusalOf firstRefusal
+outside-refused l e h = go (e .take)
+  where
+    go : (t : Bool) → firstRefusal (cond t (takeChecks l e) (voteChecks (rowOf l (e .tx)) (holderOf l (e .by)) e)) ≡ outsideLimits
+    go true = rw h
+    go false = rw h
+
+enter-outside : (l : Log) (e : Entry) → outside e ≡ true → enter l e ≡ answered l outsideLimits
+unfolding enter
+enter-outside l e h = rw (outside-refused l e h)
+
+short-line : (l : Log) (s : List ℕ) → length s ≤ maxLineBytes → enterLine l s ≡ entering l (reading s)
 unfolding enterLine
-short-line l s h = rw (le-ltb longest (length s) h)
+short-line l s h = rw (le-ltb maxLineBytes (length s) h)
 
--- The text of an entry, if it is not over 100 bytes, is entered: its answer is the log's.
-pub text-is-entered : (l : Log) (e : Entry) → HasText e → length (text e) ≤ longest → enterLine l (text e) ≡ enter l e
-text-is-entered l e t h = short-line l (text e) h ∙ ap (entering l) (text-reads-back e t)
+entered : (l : Log) (e : Entry) → HasText e → (b : Bool) → beyond e ≡ b → entering l (cond b Outside (Read e)) ≡ enter l e
+entered l e t true h = sym (enter-outside l e (beyond-is-outside e t h))
+entered l e t false h = refl
 
--- The text of an entry with a number outside its limits is answered 2, and the log stays as it was.
-pub text-outside-limits : (l : Log) (e : Entry) → HasText e → length (text e) ≤ longest → outside e ≡ true → enterLine l (text e) ≡ answered l outsideLimits
+pub text-is-entered : TextIsEntered
+text-is-entered l e t h =
+    short-line l (text e) h ∙ ap (λ (o : Option Entry). entering l (readingOf o)) (text-reads-back e t) ∙ entered l e t (beyond e) refl
+
+pub text-outside-limits : TextOutsideLimits
 text-outside-limits l e t h o = text-is-entered l e t h ∙ enter-outside l e o
 
--- Every line that is the text of no entry is answered 1, and the log stays as it was.
-pub other-line-is-unreadable : (l : Log) (s : List ℕ) → ((e : Entry) → IsText s e → ⊥) → enterLine l s ≡ answered l unreadable
+pub long-line-is-unreadable : LongLineIsUnreadable
 unfolding enterLine
-other-line-is-unreadable l s h = go (ltb longest (length s)) (readEntry s) refl
-  where
-    go : (b : Bool) (o : Option Entry) → readEntry s ≡ o → cond b (answered l unreadable) (entering l o) ≡ answered l unreadable
-    go true o k = refl
-    go false none k = refl
-    go false (some e) k = let t = read-is-text s e k in absurd (h e (record { line = t .0; hasText = t .1 }))
+long-line-is-unreadable l s h = rw (lt-ltb maxLineBytes (length s) h)
 
--- A line over 100 bytes is answered 1, however long it is, and the log stays as it was.
-pub long-line-is-unreadable : (l : Log) (s : List ℕ) → longest < length s → enterLine l s ≡ answered l unreadable
+pub other-line-is-unreadable : OtherLineIsUnreadable
 unfolding enterLine
-long-line-is-unreadable l s h = rw (lt-ltb longest (length s) h)
+other-line-is-unreadable l s h = go (ltb maxLineBytes (length s)) (reading s) refl
+  where
+    go : (b : Bool) (r : Reading) → reading s ≡ r → cond b (answered l unreadable) (entering l r) ≡ answered l unreadable
+    go true r k = refl
+    go false (Read e) k = absurd (h e (read-line-is-text s e k))
+    go false Outside k = let t = outside-line-is-text s k in absurd (h (t .0) (t .1))
+    go false Unreadable k = refl
 
 -- no other refusal of an entry has the number 2
 take-not-2 : (b : Bool) → cond b holdsOrHeld accepted ≡ outsideLimits → ⊥
@@ -83,14 +103,12 @@ answer-is-refusal l e = go (eqb (refusalOf l e) accepted) refl
     go true k = sym (eqb-true (refusalOf l e) accepted k)
     go false k = refl
 
--- A line answered 2 is the text of an entry with natural numbers of any size, one of them outside its limits.
-pub answered-2-is-outside : (l : Log) (s : List ℕ) → enterLine l s .answer ≡ outsideLimits → (e : Entry) × IsText s e × (outside e ≡ true)
+pub answered-2-is-outside : Answered2IsOutside
 unfolding enterLine
-answered-2-is-outside l s h = go (ltb longest (length s)) (readEntry s) refl h
+answered-2-is-outside l s h = go (ltb maxLineBytes (length s)) (reading s) refl h
   where
-    go : (b : Bool) (o : Option Entry) → readEntry s ≡ o → cond b (answered l unreadable) (entering l o) .answer ≡ outsideLimits → (e : Entry) × IsText s e × (outside e ≡ true)
-    go true o k h = absurd (let z : ⊥ = omega arith in z)
-    go false none k h = absurd (let z : ⊥ = omega arith in z)
-    go false (some e) k h =
-        let t = read-is-text s e k in
-        (e, record { line = t .0; hasText = t .1 }, refused-2 l e (sym (answer-is-refusal l e) ∙ h))
+    go : (b : Bool) (r : Reading) → reading s ≡ r → cond b (answered l unreadable) (entering l r) .answer ≡ outsideLimits → (e : Entry) × IsText s e × (outside e ≡ true)
+    go true r k h = absurd (let z : ⊥ = omega arith in z)
+    go false (Read e) k h = (e, read-line-is-text s e k, refused-2 l e (sym (answer-is-refusal l e) ∙ h))
+    go false Outside k h = outside-line-is-text s k
+    go false Unreadable k h = absurd (let z : ⊥ = omega arith in z)

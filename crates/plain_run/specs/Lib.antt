@@ -1,3 +1,4 @@
+pub mod Claims
 pub mod Plain
 pub mod Printed
 pub mod Session

@@ -1,7 +1,23 @@
--- The room that what is printed takes at most.
+-- What the program promises of its output.
 use Prim.Native.Nat.{ℕ, _+_}
+use mathlib.Core.List.{List}
+use mathlib.Core.Path.{_≡_}
+use Rattle.text_lines.specs.Feed.{fed, fresh}
+use Rattle.text_report.specs.Printed.{Printed}
 use Rattle.text_report.specs.Within.{longestAnswers, longestLog}
+use Rattle.plain_run.specs.declared.Input.{Input}
+use Rattle.plain_run.specs.declared.Output.{Output}
+use Rattle.plain_run.specs.Plain.{plain}
+use Rattle.plain_run.specs.Session.{answerLine, freshSession, isOver, stateOf}
 
--- all that any session prints has room in so many bytes
-abbrev pub room : ℕ
-room = longestAnswers + longestLog
+-- no output is longer
+abbrev pub longestOutput : ℕ
+longestOutput = longestAnswers + longestLog
+
+-- the output is this text, all of it
+abbrev pub Prints : List ℕ → Output → Type 0
+Prints text o = Printed longestOutput text (o .bytes) (o .count)
+
+-- the output is what `plain` writes for the bytes that the input was fed, whatever they are
+abbrev pub PrintsFed : Input → Output → Type 0
+PrintsFed i o = (bytes : List ℕ) → stateOf i ≡ fed isOver answerLine (fresh freshSession) bytes → Prints (plain bytes) o

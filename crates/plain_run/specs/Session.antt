@@ -1,39 +1,39 @@
 -- What the functions under `main` do: the session that they keep, and how it stands for a run.
-use Rattle.log_entry.specs.Refusal.{noPlace, unreadable}
 use Prim.Native.Nat.{ℕ}
 use mathlib.Core.Bool.{Bool, cond}
 use mathlib.Core.List.{List}
 use lib.Dec.{leb, ltb}
+use Rattle.log_entry.specs.Refusal.{noPlace, unreadable}
 use Rattle.log_core.specs.declared.Entered.{Entered}
 use Rattle.log_core.specs.declared.Log.{Log}
 use Rattle.log_core.specs.Enter.{answered}
 use Rattle.log_core.specs.Log.{emptyLog}
-use Rattle.text_entry.specs.Entry.{readEntry}
+use Rattle.text_entry.specs.Entry.{reading}
 use Rattle.text_lines.specs.declared.Line.{Line}
 use Rattle.text_lines.specs.Answers.{answersOf, noAnswers, noted as Answers·noted}
 use Rattle.text_lines.specs.Feed.{Fed}
 use Rattle.text_lines.specs.Line.{bytesOf, tooLong}
-use Rattle.text_lines.specs.Lines.{most}
+use Rattle.text_lines.specs.Lines.{maxLines}
 use Rattle.plain_run.specs.declared.Input.{Input}
 use Rattle.plain_run.specs.declared.Session.{Session}
 use Rattle.plain_run.specs.Plain.{Run, entering, printed}
 
 -- the line's entry is entered
 unfoldable pub enterHeld : Log → Line → Entered
-enterHeld l line = cond (tooLong line) (answered l unreadable) (entering l (readEntry (bytesOf line)))
+enterHeld l line = cond (tooLong line) (answered l unreadable) (entering l (reading (bytesOf line)))
 
 abbrev pub freshSession : Session
 freshSession = record { log = emptyLog; answers = noAnswers }
 
 abbrev pub isOver : Session → Bool
-isOver s = ltb most (s .answers .count)
+isOver s = ltb maxLines (s .answers .count)
 
 abbrev pub noted : Session → Entered → Session
 noted s e = record { log = e .log; answers = Answers·noted (s .answers) (e .answer) }
 
 -- the session after a line
 unfoldable pub answerLine : Session → Line → Session
-answerLine s line = noted s (cond (leb most (s .answers .count)) (answered (s .log) noPlace) (enterHeld (s .log) line))
+answerLine s line = noted s (cond (leb maxLines (s .answers .count)) (answered (s .log) noPlace) (enterHeld (s .log) line))
 
 -- an input as a machine that is fed
 abbrev pub stateOf : Input → Fed Session

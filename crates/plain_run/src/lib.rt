@@ -1,19 +1,21 @@
 // The program `plain` from the bytes that it reads to the bytes that it prints.
 ghost use mathlib.Core.Path.{_≡_};
 ghost use Rattle.text_lines.specs.Feed.{fed, finished, fresh};
-ghost use Rattle.plain_run.specs.Session.{answerLine, enterHeld, freshSession, isOver, output, stateOf};
-ghost use Rattle.plain_run.specs.Printed.{room};
-ghost use Rattle.text_report.specs.Printed.{Printed};
+ghost use Rattle.plain_run.specs.Printed.{PrintsFed};
+ghost use Rattle.plain_run.specs.Session.{answerLine, enterHeld, freshSession, isOver, stateOf};
 use log_core::Entered;
 use log_core::Log;
 use log_entry::refusal::NO_PLACE;
 use log_entry::refusal::OUTSIDE_LIMITS;
 use log_entry::refusal::UNREADABLE;
 use text_entry::Reading;
+use text_lines::ANSWERED_LINES;
 use text_lines::Answers;
-use text_lines::LONGEST;
 use text_lines::Line;
-use text_lines::MOST;
+use text_lines::MAX_LINE_BYTES;
+use text_lines::MAX_LINES;
+use text_report::LINE_BYTES;
+use text_report::LOG_LINES;
 
 // The log, and the answers to the lines so far.
 pub struct Session {
@@ -31,7 +33,7 @@ pub struct Input {
 fn enter_line(log: Log, line: Line) -> Entered
     ensures { λ r. ⌜ r ≡ enterHeld log line ⌝ }
 {
-    if LONGEST < line.length {
+    if MAX_LINE_BYTES < line.length {
         return Entered {
             log: log,
             answer: UNREADABLE,
@@ -72,7 +74,7 @@ impl Session {
         ensures { λ r. ⌜ r ≡ isOver self ⌝ }
     {
         let answers = self.answers;
-        MOST < answers.count
+        MAX_LINES < answers.count
     }
 
     // The session after a line.
@@ -81,7 +83,7 @@ impl Session {
     {
         let log = self.log;
         let answers = self.answers;
-        if MOST <= answers.count {
+        if MAX_LINES <= answers.count {
             let noted = answers.noted(NO_PLACE);
             return Session {
                 log: log,
@@ -108,6 +110,14 @@ impl Input {
             session: session,
             line: line,
         }
+    }
+
+    // Whether line 1,001 has been answered, which ends the reading.
+    pub fn is_over(self) -> bool
+        ensures { λ r. ⌜ r ≡ isOver (self .session) ⌝ }
+    {
+        let session = self.session;
+        session.is_over()
     }
 
     // The input after a piece of any length.
@@ -158,12 +168,28 @@ impl Input {
     }
 }
 
-// What a session prints, put into a buffer.
-pub fn put_output(out: &mut [u8], session: Session) -> usize
-    ensures { λ r. ⌜ Printed room (now (out .entry)) (output session) (now (out .exit)) r ⌝ }
+// No output is longer: 1,001 answers, then a line for each transaction and each store, and for each
+// store a line for each transaction.
+pub const OUTPUT_BYTES: usize = LINE_BYTES * (ANSWERED_LINES as usize + LOG_LINES);
+
+// What the program prints: the first `count` bytes.
+pub struct Output {
+    pub bytes: [u8; OUTPUT_BYTES],
+    pub count: usize,
+}
+
+// What is printed for the bytes that were fed.
+pub fn output_of(input: Input) -> Output
+    ensures { λ r. ⌜ PrintsFed input r ⌝ }
 {
+    let session = input.finish();
     let answers = session.answers;
     let log = session.log;
-    let at = text_report::put_answers(out, 0, answers);
-    text_report::put_log(out, at, log)
+    let mut bytes = [0; OUTPUT_BYTES];
+    let at = text_report::put_answers(&mut bytes, 0, answers);
+    let count = text_report::put_log(&mut bytes, at, log);
+    Output {
+        bytes: bytes,
+        count: count,
+    }
 }

@@ -8,10 +8,18 @@ use lib.Dec.{leb, ltb}
 abbrev pub digit : ℕ → ℕ
 digit d = 48 + d
 
--- the decimal of n, which has at most so many digits
+-- the decimal of n, which has at most k digits
 unfoldable pub decimalWithin : ℕ → ℕ → List ℕ
 decimalWithin ℕ.zero n = []
 decimalWithin (suc k) n = cond (ltb n 10) (digit n ∷ []) (decimalWithin k (n / 10) ++ digit (n % 10) ∷ [])
+
+-- a byte holds the numbers below this one
+abbrev pub byteNumbers : ℕ
+byteNumbers = 256
+
+-- no byte has more digits
+abbrev pub byteDigits : ℕ
+byteDigits = 3
 
 unfoldable pub decimal : ℕ → List ℕ
 decimal n = decimalWithin (suc n) n

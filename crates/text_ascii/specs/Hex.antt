@@ -1,9 +1,17 @@
--- A number in lower-case hexadecimal digits, so many of them.
+-- A number in a given count of lower-case hexadecimal digits.
 use Prim.Native.Nat.{ℕ, suc, _+_, _-_, _*_, _/_, _%_}
 use mathlib.Core.Bool.{Bool, _&&_, _||_, cond}
 use mathlib.Core.List.{List, [], _∷_, _++_}
 use lib.Dec.{leb, ltb}
 use Rattle.text_ascii.specs.Decimal.{isDigit}
+
+-- "A list is two lower-case hexadecimal digits"
+abbrev pub listDigits : ℕ
+listDigits = 2
+
+-- "An update is 32 bits, eight such digits."
+abbrev pub updateDigits : ℕ
+updateDigits = 8
 
 -- the byte of a digit below 16: `0` to `9`, then `a` to `f`
 abbrev pub hexDigit : ℕ → ℕ

@@ -1,10 +1,19 @@
-// Numbers and words as ASCII bytes, put into a buffer from a place on. Each function answers the next place; what has no room is left out.
+// Numbers and words as ASCII bytes, put into a buffer from a place on. Each function answers the
+// next place; what has no room is left out.
 ghost use Prim.Native.Nat.{_<_, _≤_};
 ghost use mathlib.Core.Path.{_≡_};
 ghost use mathlib.Core.List.{[], _∷_};
 ghost use Rattle.text_ascii.specs.Decimal.{decimal as Decimal·decimal};
 ghost use Rattle.text_ascii.specs.Hex.{hexDigit, hex as Hex·hex};
 ghost use Rattle.text_ascii.specs.Wrote.{Wrote};
+
+// A byte holds the numbers below this one.
+pub const BYTE_NUMBERS: u32 = 256;
+
+// A list is two hexadecimal digits, an update eight.
+pub const LIST_DIGITS: u32 = 2;
+
+pub const UPDATE_DIGITS: u32 = 8;
 
 pub fn byte(out: &mut [u8], at: usize, b: u8) -> usize
     ensures { λ r. ⌜ Wrote (now (out .entry)) at (b ∷ []) (now (out .exit)) r ⌝ }
@@ -38,7 +47,7 @@ pub fn decimal(out: &mut [u8], at: usize, n: u32) -> usize
     byte(out, next, 48 + (n % 10) as u8)
 }
 
-// So many hexadecimal digits.
+// The last hexadecimal digits of a number, as many as asked.
 pub fn hex(out: &mut [u8], at: usize, digits: u32, n: u32) -> usize
     ensures { λ r. ⌜ Wrote (now (out .entry)) at (Hex·hex digits n) (now (out .exit)) r ⌝ }
 {

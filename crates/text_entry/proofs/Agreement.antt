@@ -10,6 +10,7 @@ use Rattle.text_ascii.proofs.Words.{clash}
 use Rattle.log_entry.specs.declared.Entry.{Entry}
 use Rattle.log_entry.specs.Entry.{outside}
 use Rattle.text_entry.specs.declared.Reading.the-variants.{Read, Outside, Unreadable}
+use Rattle.text_entry.specs.Claims.{IsText, OutsideLineIsText, ReadIsText, ReadLineIsText, TextReadsBack, TextWithinLimitsRead, UnreadableIsNoText}
 use Rattle.text_entry.specs.Fields.{lineText}
 use Rattle.text_entry.specs.Kinds.{takeKind, voteKind}
 use Rattle.text_entry.specs.Table.{reader}
@@ -19,8 +20,7 @@ use Rattle.text_entry.proofs.Beyond.{beyond-is-outside}
 use Rattle.text_entry.proofs.Table.{Distinct, by-fields, first-reads, first-written, namesApart, outside-some, read-some, unreadable-none, some-not}
 use Rattle.text_entry.proofs.Votes.{read-by, vote-back, vote-values, vote-writable}
 
--- The text of an entry reads back as that entry, whatever the size of its numbers.
-pub text-reads-back : (e : Entry) → HasText e → readEntry (text e) ≡ some e
+pub text-reads-back : TextReadsBack
 unfolding text readEntry namesApart clash
 text-reads-back e (inl h) =
     ap (λ (x : Entry). readEntry (text x)) h
@@ -32,25 +32,20 @@ text-reads-back e (inr h) =
     ∙ first-reads entryReaders 1 (reader voteKind voteOf) (voteValues e) refl refl (vote-writable e (h .1) (h .2))
     ∙ ap some (vote-back e (h .0))
 
--- an entry that a line is the text of
-abbrev TextOf : List ℕ → Entry → Type 0
-TextOf s e = (s ≡ text e) × HasText e
-
-take-is-text : (s vs : List ℕ) → LineAt takeKind s vs → TextOf s (takeOf vs)
+take-is-text : (s vs : List ℕ) → LineAt takeKind s vs → IsText s (takeOf vs)
 unfolding text
-take-is-text s vs r = (r .text ∙ ap (lineText takeKind) (by-fields (takeKind .fields) vs (r .indexed)), inl refl)
+take-is-text s vs r = record { line = r .text ∙ ap (lineText takeKind) (by-fields (takeKind .fields) vs (r .indexed)); hasText = inl refl }
 
-vote-is-text : (s vs : List ℕ) → LineAt voteKind s vs → TextOf s (voteOf vs)
+vote-is-text : (s vs : List ℕ) → LineAt voteKind s vs → IsText s (voteOf vs)
 unfolding text
 vote-is-text s vs r =
     let e = by-fields (voteKind .fields) vs (r .indexed) in
     let k = subst (IndexedAll (voteKind .fields)) e (r .indexed) in
-    (r .text ∙ ap (lineText voteKind) (e ∙ vote-values vs (k .1 .1 .1 .1 .1 .0)), inr (refl, k .1 .1 .1 .1 .0, k .1 .1 .1 .1 .1 .1 .0))
+    record { line = r .text ∙ ap (lineText voteKind) (e ∙ vote-values vs (k .1 .1 .1 .1 .1 .0)); hasText = inr (refl, k .1 .1 .1 .1 .0, k .1 .1 .1 .1 .1 .1 .0) }
 
--- A line that reads as an entry is that entry's text to the byte.
-pub read-is-text : (s : List ℕ) (e : Entry) → readEntry s ≡ some e → (s ≡ text e) × HasText e
+pub read-is-text : ReadIsText
 unfolding readEntry
-read-is-text s e h = first-written (TextOf s) entryReaders s (take-is-text s, (vote-is-text s, tt)) e h
+read-is-text s e h = first-written (IsText s) entryReaders s (take-is-text s, (vote-is-text s, tt)) e h
 
 -- ---- the reader's answers
 
@@ -69,28 +64,18 @@ within-bytes e t h = go (beyond e) refl
     go true k = absurd (true≢false (sym (beyond-is-outside e t k) ∙ h))
     go false k = refl
 
--- The text of an entry within the limits is read as that entry.
-pub text-within-limits-read : (e : Entry) → HasText e → outside e ≡ false → reading (text e) ≡ Read e
+pub text-within-limits-read : TextWithinLimitsRead
 text-within-limits-read e t h = ap readingOf (text-reads-back e t) ∙ read-by e (within-bytes e t h)
 
-pub record IsText (s : List ℕ) (e : Entry) : Type 0 where
-  pub line : s ≡ text e
-  pub hasText : HasText e
+pub read-line-is-text : ReadLineIsText
+read-line-is-text s e h = read-is-text s e (read-some Read Outside Unreadable beyond distinct (readEntry s) e h)
 
--- A line read as an entry is that entry's text, to the byte.
-pub read-line-is-text : (s : List ℕ) (e : Entry) → reading s ≡ Read e → IsText s e
-read-line-is-text s e h =
-    let r = read-is-text s e (read-some Read Outside Unreadable beyond distinct (readEntry s) e h) in
-    record { line = r .0; hasText = r .1 }
-
--- A line answered `Outside` is the text of an entry with natural numbers of any size, one of them outside its limits.
-pub outside-line-is-text : (s : List ℕ) → reading s ≡ Outside → (e : Entry) × IsText s e × (outside e ≡ true)
+pub outside-line-is-text : OutsideLineIsText
 outside-line-is-text s h =
     let t = outside-some Read Outside Unreadable beyond distinct (readEntry s) h in
     let r = read-is-text s (t .0) (t .1) in
-    (t .0, record { line = r .0; hasText = r .1 }, beyond-is-outside (t .0) (r .1) (t .2))
+    (t .0, r, beyond-is-outside (t .0) (r .hasText) (t .2))
 
--- A line is `Unreadable` only if it is the text of no entry.
-pub unreadable-is-no-text : (s : List ℕ) → reading s ≡ Unreadable → (e : Entry) → IsText s e → ⊥
+pub unreadable-is-no-text : UnreadableIsNoText
 unreadable-is-no-text s h e t =
     some-not e (sym (unreadable-none Read Outside Unreadable beyond distinct (readEntry s) h) ∙ ap readEntry (t .line) ∙ text-reads-back e (t .hasText))

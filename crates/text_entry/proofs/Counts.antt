@@ -9,24 +9,24 @@ use mathlib.Core.Path.{_≡_, refl, sym, _∙_, ap}
 use lib.ListN.{getD}
 use borrow.Author.Tests.{le-leb}
 use Rattle.text_entry.specs.Fields.{Form, inDecimal, inHex, inWords, Field, field, Kind, nameText}
-use Rattle.text_entry.specs.Follows.{counted, Follows}
+use Rattle.text_entry.specs.Parts.{counted}
 use Rattle.text_entry.specs.Read.{Part, part, after, readFields, readKind}
-use Rattle.text_entry.specs.Seen.{most}
+use Rattle.text_ascii.specs.Decimal.{byteNumbers}
 use Rattle.text_entry.specs.Table.{anyBeyond, at, made, noByte}
-use Rattle.text_entry.proofs.Follows.{counts, last, ends, values, Told, follows}
+use Rattle.text_entry.proofs.Follows.{Follows, counts, last, ends, values, Told, follows}
 
--- a number counts up to `most` only, where all beyond it have one result
-pub counted-same : {R : Type 0} (f : ℕ → R) (outside : R) → ((n : ℕ) → most ≤ n → f n ≡ outside) → (n : ℕ) → f n ≡ f (min n most)
-counted-same f outside h n = elim (decLt n most) [
+-- a number counts up to `byteNumbers` only, where all beyond it have one result
+pub counted-same : {R : Type 0} (f : ℕ → R) (outside : R) → ((n : ℕ) → byteNumbers ≤ n → f n ≡ outside) → (n : ℕ) → f n ≡ f (min n byteNumbers)
+counted-same f outside h n = elim (decLt n byteNumbers) [
   | yes k ↦ ap f (omega arith)
-  | no k ↦ h n (omega arith) ∙ sym (h (min n most) (omega arith))
+  | no k ↦ h n (omega arith) ∙ sym (h (min n byteNumbers) (omega arith))
 ]
 
-pub no-byte : (n : ℕ) → most ≤ n → noByte n ≡ true
-no-byte n h = le-leb most n h
+pub no-byte : (n : ℕ) → byteNumbers ≤ n → noByte n ≡ true
+no-byte n h = le-leb byteNumbers n h
 
 -- one of the numbers is beyond a byte
-pub beyond-here : (n : ℕ) (ns : List ℕ) → most ≤ n → anyBeyond (n ∷ ns) ≡ true
+pub beyond-here : (n : ℕ) (ns : List ℕ) → byteNumbers ≤ n → anyBeyond (n ∷ ns) ≡ true
 beyond-here n ns h = rw (no-byte n h)
 
 pub beyond-later : (n : ℕ) (ns : List ℕ) → anyBeyond ns ≡ true → anyBeyond (n ∷ ns) ≡ true

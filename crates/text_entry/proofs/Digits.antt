@@ -10,12 +10,12 @@ use lib.Dec.{eqb}
 use lib.ListN.{length, drop, getD, drop-of-length-le}
 use lib.Seq.{drop-cons}
 use native.Mathlib.Decide.{decLt}
-use Rattle.text_ascii.specs.Decimal.{isDigit, grown, beginsDigit}
+use Rattle.text_ascii.specs.Decimal.{beginsDigit, byteNumbers, grown, isDigit}
 use Rattle.text_ascii.specs.Hex.{isHexDigit, hexGrown}
 use Rattle.text_ascii.proofs.Decimals.{is-digit-low, is-digit-high}
 use Rattle.text_entry.specs.Fields.{inDecimal}
 use Rattle.text_entry.specs.Read.{part, unreadable, leadingZero, readDigits, readDecimal, readHex, readValue}
-use Rattle.text_entry.specs.Seen.{capped, most}
+use Rattle.text_entry.specs.Seen.{capped}
 
 module _ (s : List ℕ) (at : ℕ) where
   pub digit-far : length s ≤ at → beginsDigit (drop at s) ≡ false
@@ -51,8 +51,8 @@ unfolding readDigits
 digits-end n [] e = refl
 digits-end n (c ∷ s) e = rw e
 
--- the count up to `most` is told by the count so far up to `most`
-pub digits-capped : (m n : ℕ) (s : List ℕ) → min m most ≡ min n most → capped (readDigits m s) ≡ capped (readDigits n s)
+-- the count up to `byteNumbers` is told by the count so far up to `byteNumbers`
+pub digits-capped : (m n : ℕ) (s : List ℕ) → min m byteNumbers ≡ min n byteNumbers → capped (readDigits m s) ≡ capped (readDigits n s)
 unfolding readDigits
 digits-capped m n [] e = λ i. part (e i) []
 digits-capped m n (c ∷ s) e = go (isDigit c) (digits-capped (grown m c) (grown n c) s (omega arith))

@@ -1,12 +1,37 @@
--- Parts that were read one behind the other, as the fields of a kind ask, decimals counted up to `most`, tell what the line reads as.
+-- Parts that were read one after the other, as the fields of a kind ask, tell what the line reads
+-- as.
 use Prim.Native.Nat.{ℕ}
 use mathlib.Core.Bool.{Bool, true, false, _&&_, cond}
 use mathlib.Core.List.{List, [], _∷_}
 use mathlib.Core.Option.{none, some}
-use mathlib.Core.Path.{_≡_, refl, sym, _∙_, ap}
+use mathlib.Core.Path.{_≡_, refl, sym, _∙_, ap, subst}
 use Rattle.text_entry.specs.Fields.{Field}
 use Rattle.text_entry.specs.Read.{Part, after, readField, isEnd, with, readFields}
-use Rattle.text_entry.specs.Follows.{counted, Follows}
+use Rattle.text_entry.specs.Parts.{counted, countedPart, fieldParts}
+
+-- each part is what the next field reads as after the one before
+abbrev pub Follows : List Field → Part → List Part → Type 0
+Follows [] p [] = Unit {0}
+Follows [] p (q ∷ qs) = ⊥
+Follows (f ∷ fs) p [] = ⊥
+Follows (f ∷ fs) p (q ∷ qs) = (q ≡ countedPart (f .form) (readField f p)) × Follows fs q qs
+
+-- such parts are those of the definition
+pub are-parts : (fs : List Field) (p : Part) (qs : List Part) → Follows fs p qs → qs ≡ fieldParts fs p
+unfolding fieldParts
+are-parts [] p [] h = refl
+are-parts [] p (q ∷ qs) h = absurd h
+are-parts (f ∷ fs) p [] h = absurd h
+are-parts (f ∷ fs) p (q ∷ qs) h =
+    ap (λ (rs : List Part). q ∷ rs) (are-parts fs q qs (h .1)) ∙ ap (λ (r : Part). r ∷ fieldParts fs r) (h .0)
+
+parts-follow : (fs : List Field) (p : Part) → Follows fs p (fieldParts fs p)
+unfolding fieldParts
+parts-follow [] p = tt
+parts-follow (f ∷ fs) p = (refl, parts-follow fs (countedPart (f .form) (readField f p)))
+
+pub as-parts : (fs : List Field) (p : Part) (qs : List Part) → qs ≡ fieldParts fs p → Follows fs p qs
+as-parts fs p qs e = subst (Follows fs p) (sym e) (parts-follow fs p)
 
 abbrev pub last : Part → List Part → Part
 last p [] = p
@@ -24,7 +49,7 @@ counts [] vs = vs
 counts (f ∷ fs) [] = []
 counts (f ∷ fs) (v ∷ vs) = counted (f .form) v ∷ counts fs vs
 
--- what is read behind a part hangs on what is behind it, and not on its value
+-- what is read after a part depends on what stands after it, and not on its value
 field-behind : (f : Field) (p : Part) (v : ℕ) → readField f (record { readable = p .readable; value = v; rest = p .rest }) ≡ readField f p
 unfolding after
 field-behind f p v = refl

@@ -1,4 +1,5 @@
--- Lines of several kinds: what is written reads back, what reads was written, and what the answers say of that.
+-- Lines of several kinds: what is written reads back, what reads was written, and what the answers
+-- say of that.
 use Prim.Native.Nat.{ℕ, suc, _+_}
 use native.Mathlib.Omega.{arith}
 use native.Mathlib.Nat.{zero-add}

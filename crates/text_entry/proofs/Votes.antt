@@ -13,7 +13,7 @@ use Rattle.log_entry.specs.Limits.{lists, updates}
 use Rattle.text_entry.specs.declared.Reading.the-variants.{Read, Outside}
 use Rattle.text_entry.specs.Entry.{beyond, readingOf, sayOf, voteOf, voteValues}
 use Rattle.text_entry.specs.Kinds.{voteKind}
-use Rattle.text_entry.specs.Seen.{most}
+use Rattle.text_ascii.specs.Decimal.{byteNumbers}
 use Rattle.text_entry.specs.Table.{at}
 use Rattle.text_entry.proofs.Counts.{at-counts, beyond-here, beyond-later, counted-same}
 use Rattle.text_entry.proofs.Follows.{counts}
@@ -31,11 +31,11 @@ module _ (l : ℕ) (c : Bool) (u : ℕ) where
   abbrev vote : ℕ → ℕ → ℕ → ℕ → Entry
   vote p b s x = voteEntry p b s x l c u
 
-  vote-counted : (p b s x : ℕ) → readingOf (some (vote p b s x)) ≡ readingOf (some (vote (min p most) (min b most) (min s most) (min x most)))
+  vote-counted : (p b s x : ℕ) → readingOf (some (vote p b s x)) ≡ readingOf (some (vote (min p byteNumbers) (min b byteNumbers) (min s byteNumbers) (min x byteNumbers)))
   vote-counted p b s x =
-      let p′ = min p most in
-      let b′ = min b most in
-      let s′ = min s most in
+      let p′ = min p byteNumbers in
+      let b′ = min b byteNumbers in
+      let s′ = min s byteNumbers in
       counted-same (λ (n : ℕ). readingOf (some (vote n b s x))) Outside
       (λ n h. outside-by (vote n b s x) (beyond-here n (b ∷ s ∷ x ∷ l ∷ []) h)) p
       ∙ counted-same (λ (n : ℕ). readingOf (some (vote p′ n s x))) Outside

@@ -30,7 +30,8 @@ voteValues e = e .process ∷ e .by ∷ e .store ∷ e .tx ∷ e .participants �
 unfoldable pub text : Entry → List ℕ
 text e = cond (e .take) (lineText takeKind (takeValues e)) (lineText voteKind (voteValues e))
 
--- an entry has a text if it is a take, what a take does not use being 0, or a vote whose list and update have their digits
+-- an entry has a text if it is a take, what a take does not use being 0, or a vote whose list and
+-- update have their digits
 abbrev pub HasText : Entry → Type 0
 HasText e = (e ≡ takeEntry (e .process) (e .store)) ⊎ ((e .take ≡ false) × (e .participants < lists) × (e .update < updates))
 
@@ -59,6 +60,7 @@ beyond e = anyBeyond (numbers e)
 abbrev pub readingOf : Option Entry → Reading
 readingOf = answerOf beyond Read Outside Unreadable
 
--- what the reader answers: `Outside` if a number is beyond a byte; what else is outside its limits, the log refuses
+-- what the reader answers: `Outside` if a number is beyond a byte; what else is outside its limits,
+-- the log refuses
 abbrev pub reading : List ℕ → Reading
 reading s = readingOf (readEntry s)

@@ -1,5 +1,6 @@
--- "Each line begins with the bytes do= followed by the step; fields are key=value, one space between, in this order, no leading zeros in
--- decimals." How the kinds of steps are written, each by the list of its fields.
+-- "Each line begins with the bytes do= followed by the step; fields are key=value, one space
+-- between, in this order, no leading zeros in decimals." How the kinds of steps are written, each
+-- by the list of its fields.
 use Prim.Native.Nat.{ℕ}
 use mathlib.Core.List.{List, [], _∷_, _++_}
 use lib.ListN.{getD}
@@ -7,7 +8,8 @@ use Rattle.text_ascii.specs.Bytes.{ascii}
 use Rattle.text_ascii.specs.Decimal.{decimal}
 use Rattle.text_ascii.specs.Hex.{hex}
 
--- how a field's value is written: in decimal; in so many lower-case hexadecimal digits; as one of these words, the value being its index
+-- how a field's value is written: in decimal; in a count of lower-case hexadecimal digits; as one
+-- of these words, the value being its index
 pub data Form : Type 0 where
   inDecimal : Form
   inHex : ℕ → Form

@@ -1,6 +1,8 @@
--- The fields and kinds of steps, as document 01 lists them: `take proc store`, `vote proc by store tx list say upd` (say is commit or abort).
+-- The fields and kinds of steps, as document 01 lists them: `take proc store`, `vote proc by store
+-- tx list say upd` (say is commit or abort).
 use mathlib.Core.List.{[], _∷_}
 use Rattle.text_ascii.specs.Bytes.{ascii}
+use Rattle.text_ascii.specs.Hex.{listDigits, updateDigits}
 use Rattle.text_entry.specs.Fields.{inDecimal, inHex, inWords, Field, field, Kind, kind}
 
 abbrev pub proc : Field
@@ -17,7 +19,7 @@ tx = field (ascii "tx") inDecimal
 
 -- "A list is two lower-case hexadecimal digits"
 abbrev pub list : Field
-list = field (ascii "list") (inHex 2)
+list = field (ascii "list") (inHex listDigits)
 
 -- the value is 0 for abort and 1 for commit
 abbrev pub say : Field
@@ -25,7 +27,7 @@ say = field (ascii "say") (inWords (ascii "abort" ∷ ascii "commit" ∷ []))
 
 -- "An update is 32 bits, eight such digits."
 abbrev pub upd : Field
-upd = field (ascii "upd") (inHex 8)
+upd = field (ascii "upd") (inHex updateDigits)
 
 abbrev pub takeKind : Kind
 takeKind = kind (ascii "take") (proc ∷ store ∷ [])

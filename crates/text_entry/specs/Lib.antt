@@ -1,8 +1,9 @@
+pub mod Claims
 pub mod Decimals
 pub mod Entry
 pub mod Fields
-pub mod Follows
 pub mod Kinds
+pub mod Parts
 pub mod Read
 pub mod Seen
 pub mod Table

@@ -10,7 +10,7 @@ use Rattle.text_ascii.specs.Decimal.{isDigit, grown, beginsDigit}
 use Rattle.text_ascii.specs.Hex.{isHexDigit, hexGrown}
 use Rattle.text_entry.specs.Fields.{Form, inDecimal, inHex, inWords, Field, keyText, Kind, nameText}
 
--- what a line begins with: whether it reads, its value, and the bytes behind it
+-- what a line begins with: whether it reads, its value, and the bytes after it
 pub record Part : Type 0 where
   pub readable : Bool
   pub value : ℕ
@@ -27,7 +27,7 @@ unfoldable pub readDigits : ℕ → List ℕ → Part
 readDigits n [] = part n []
 readDigits n (c ∷ s) = cond (isDigit c) (readDigits (grown n c) s) (part n (c ∷ s))
 
--- a 0 with a digit behind it
+-- a 0 with a digit after it
 abbrev pub leadingZero : List ℕ → Bool
 leadingZero [] = false
 leadingZero (c ∷ s) = eqb c 48 && beginsDigit s
@@ -36,7 +36,7 @@ leadingZero (c ∷ s) = eqb c 48 && beginsDigit s
 unfoldable pub readDecimal : List ℕ → Part
 readDecimal s = cond (beginsDigit s && not (leadingZero s)) (readDigits 0 s) unreadable
 
--- so many hexadecimal digits, after the number n
+-- k hexadecimal digits, after the number n
 unfoldable pub readHex : ℕ → ℕ → List ℕ → Part
 readHex ℕ.zero n s = part n s
 readHex (suc k) n [] = unreadable
@@ -56,14 +56,14 @@ readValue inDecimal s = readDecimal s
 readValue (inHex digits) s = readHex digits 0 s
 readValue (inWords words) s = readWord 0 words s
 
--- behind what was read before: these bytes
+-- after what was read before: these bytes
 unfoldable pub after : List ℕ → Part → Part
 after w p = cond (p .readable && begins (p .rest) w) (part 0 (drop (length w) (p .rest))) unreadable
 
 abbrev pub valueAfter : Form → Part → Part
 valueAfter f p = cond (p .readable) (readValue f (p .rest)) unreadable
 
--- behind what was read before: the field
+-- after what was read before: the field
 abbrev pub readField : Field → Part → Part
 readField f p = valueAfter (f .form) (after (keyText f) p)
 

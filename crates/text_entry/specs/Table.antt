@@ -5,6 +5,7 @@ use mathlib.Core.List.{List, [], _∷_}
 use mathlib.Core.Option.{Option, none, some}
 use lib.Dec.{leb}
 use lib.ListN.{getD}
+use Rattle.text_ascii.specs.Decimal.{byteNumbers}
 use Rattle.text_entry.specs.Fields.{Kind}
 use Rattle.text_entry.specs.Read.{readKind}
 
@@ -34,7 +35,7 @@ readFirst (r ∷ rs) s = orElse (made (r .build) (readKind (r .kind) s)) (readFi
 
 -- a number that no byte holds; it is outside every limit of a decimal
 abbrev pub noByte : ℕ → Bool
-noByte n = leb 256 n
+noByte n = leb byteNumbers n
 
 abbrev pub anyBeyond : List ℕ → Bool
 anyBeyond [] = false

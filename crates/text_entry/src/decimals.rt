@@ -8,8 +8,10 @@ ghost use Rattle.text_entry.specs.Fields.{kind};
 ghost use Rattle.text_entry.specs.Read.{readKind};
 ghost use Rattle.text_entry.specs.Table.{anyBeyond, made};
 use crate::fields;
+use text_ascii::BYTE_NUMBERS;
 
-// Whether the line reads, whether each decimal fits a byte, and the decimals; what is not there is 0.
+// Whether the line reads, whether each decimal fits a byte, and the decimals; what is not there is
+// 0.
 pub struct Decimals {
     pub readable: bool,
     pub fit: bool,
@@ -22,19 +24,19 @@ pub struct Decimals {
 pub fn bytes(a: u32, b: u32, c: u32, d: u32, e: u32) -> bool
     ensures { λ r. ⌜ r ≡ not (anyBeyond (a ∷ b ∷ c ∷ d ∷ e ∷ [])) ⌝ }
 {
-    if 256 <= a {
+    if BYTE_NUMBERS <= a {
         return false;
     }
-    if 256 <= b {
+    if BYTE_NUMBERS <= b {
         return false;
     }
-    if 256 <= c {
+    if BYTE_NUMBERS <= c {
         return false;
     }
-    if 256 <= d {
+    if BYTE_NUMBERS <= d {
         return false;
     }
-    e < 256
+    e < BYTE_NUMBERS
 }
 
 fn unreadable() -> Decimals

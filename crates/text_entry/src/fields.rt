@@ -1,4 +1,4 @@
-// Names and fields of a line, read one behind the other.
+// Names and fields of a line, read one after the other.
 ghost use mathlib.Core.Bool.{_&&_};
 ghost use mathlib.Core.Path.{_≡_};
 ghost use lib.ListN.{drop};
@@ -22,7 +22,7 @@ pub fn named(line: &[u8], name: &[u8]) -> Value
     value::after(line, step, name)
 }
 
-// Behind a value: a key.
+// After a value: a key.
 pub fn keyed(line: &[u8], before: Value, key: &[u8]) -> Value
     ensures { λ r. ⌜ seen (now (line .entry)) r ≡ after (keyed (now (key .entry))) (seen (now (line .entry)) before) ⌝ }
 {
@@ -31,14 +31,14 @@ pub fn keyed(line: &[u8], before: Value, key: &[u8]) -> Value
     value::after(line, name, b"=")
 }
 
-// Behind a value: a field with a decimal.
+// After a value: a field with a decimal.
 pub fn decimal(line: &[u8], before: Value, key: &[u8]) -> Value
     ensures { λ r. ⌜ seen (now (line .entry)) r ≡ capped (readField (decimalField (now (key .entry))) (seen (now (line .entry)) before)) ⌝ }
 {
     value::decimal(line, keyed(line, before, key))
 }
 
-// Whether the line ends behind the value.
+// Whether the line ends after the value.
 pub fn ends(line: &[u8], last: Value) -> bool
     ensures { λ r. ⌜ r ≡ (last .readable && isEnd (drop (last .end) (now (line .entry)))) ⌝ }
 {

@@ -9,10 +9,9 @@ ghost use lib.Dec.{eqb};
 ghost use Rattle.log_entry.specs.Entry.{voteEntry};
 ghost use Rattle.text_entry.specs.Decimals.{answerBy};
 ghost use Rattle.text_entry.specs.declared.Reading.the-variants.{Read, Outside, Unreadable};
-ghost use Rattle.text_entry.specs.Fields.{nameText};
-ghost use Rattle.text_entry.specs.Follows.{Follows, voteParts};
 ghost use Rattle.text_entry.specs.Kinds.{say, takeKind, voteKind};
-ghost use Rattle.text_entry.specs.Read.{part, after, readKind, valueAfter};
+ghost use Rattle.text_entry.specs.Parts.{kindParts, voteParts};
+ghost use Rattle.text_entry.specs.Read.{readKind, valueAfter};
 ghost use Rattle.text_entry.specs.Seen.{seen};
 ghost use Rattle.text_entry.specs.Table.{made};
 ghost use Rattle.text_entry.specs.Entry.{readingOf, reading, takeOf, voteOf};
@@ -20,7 +19,8 @@ use decimals::Decimals;
 use log_entry::Entry;
 use value::Value;
 
-// What a line is: an entry; the text of an entry with a number beyond a byte; or no text of an entry.
+// What a line is: an entry; the text of an entry with a number beyond a byte; or no text of an
+// entry.
 pub enum Reading {
     Read(Entry),
     Outside,
@@ -88,16 +88,16 @@ pub fn made_vote(
 
 // The values of a line that begins with a vote's name and fields.
 pub fn vote_parts(line: &[u8]) -> VoteParts
-    ensures { λ r. ⌜ Follows (voteKind .fields) (after (nameText voteKind) (part 0 (now (line .entry)))) (voteParts (now (line .entry)) r) ⌝ }
+    ensures { λ r. ⌜ voteParts (now (line .entry)) r ≡ kindParts voteKind (now (line .entry)) ⌝ }
 {
     let name = fields::named(line, b"vote");
     let process = fields::decimal(line, name, b"proc");
     let by = fields::decimal(line, process, b"by");
     let store = fields::decimal(line, by, b"store");
     let tx = fields::decimal(line, store, b"tx");
-    let list = value::two_digits(line, fields::keyed(line, tx, b"list"));
+    let list = value::list_digits(line, fields::keyed(line, tx, b"list"));
     let say = said(line, fields::keyed(line, list, b"say"));
-    let update = value::eight_digits(line, fields::keyed(line, say, b"upd"));
+    let update = value::update_digits(line, fields::keyed(line, say, b"upd"));
     VoteParts {
         process,
         by,
@@ -127,7 +127,7 @@ fn read_vote(line: &[u8]) -> Reading
     )
 }
 
-// Behind a value: abort, which is 0, or commit, which is 1.
+// After a value: abort, which is 0, or commit, which is 1.
 fn said(line: &[u8], before: Value) -> Value
     ensures { λ r. ⌜ seen (now (line .entry)) r ≡ valueAfter (say .form) (seen (now (line .entry)) before) ⌝ }
 {

@@ -1,18 +1,18 @@
-// Values of a line, read one behind the other. What does not read makes all behind it unreadable.
+// Values of a line, read one after the other. What does not read makes all after it unreadable.
 ghost use Prim.Native.Nat.{_≤_, min};
 ghost use mathlib.Core.Path.{_≡_};
 ghost use mathlib.Core.Bool.{true};
 ghost use lib.ListN.{drop};
 ghost use Rattle.text_ascii.specs.Bytes.{begins};
 ghost use Rattle.text_ascii.specs.Decimal.{beginsDigit};
-ghost use Rattle.text_ascii.specs.Hex.{isHexDigit as Hex·isHexDigit, hexDigitOf};
+ghost use Rattle.text_ascii.specs.Hex.{isHexDigit as Hex·isHexDigit, hexDigitOf, listDigits, updateDigits};
 ghost use Rattle.text_entry.specs.Fields.{inDecimal, inHex};
 ghost use Rattle.text_entry.specs.Read.{after as Read·after, leadingZero, readDigits, valueAfter};
 ghost use Rattle.text_entry.specs.Read.{unreadable as Read·unreadable};
 ghost use Rattle.text_entry.specs.Seen.{seen, capped, wordAfter};
-
-// The number up to which decimals are counted: the first that no byte holds.
-const MOST: u32 = 256;
+use text_ascii::BYTE_NUMBERS;
+use text_ascii::LIST_DIGITS;
+use text_ascii::UPDATE_DIGITS;
 
 // A value read from a line: whether it reads, its number, and where it ends in the line.
 pub struct Value {
@@ -51,7 +51,7 @@ fn starts(line: &[u8], at: usize, word: &[u8]) -> bool
     true
 }
 
-// Behind a value: these bytes.
+// After a value: these bytes.
 pub fn after(line: &[u8], before: Value, word: &[u8]) -> Value
     ensures { λ r. ⌜ seen (now (line .entry)) r ≡ Read·after (now (word .entry)) (seen (now (line .entry)) before) ⌝ }
 {
@@ -82,7 +82,7 @@ fn is_digit(line: &[u8], at: usize) -> bool
     line[at] <= 57
 }
 
-// Whether a 0 with a digit behind it stands there.
+// Whether a 0 with a digit after it stands there.
 fn leading_zero(line: &[u8], at: usize) -> bool
     ensures { λ r. ⌜ r ≡ leadingZero (drop at (now (line .entry))) ⌝ }
 {
@@ -108,7 +108,7 @@ fn digits(line: &[u8], at: usize) -> Value
     let mut number: u32 = 0;
     let mut i = at;
     while is_digit(line, i) {
-        number = least(number * 10 + (line[i] - 48) as u32, MOST);
+        number = least(number * 10 + (line[i] - 48) as u32, BYTE_NUMBERS);
         i += 1;
     }
     Value {
@@ -118,7 +118,7 @@ fn digits(line: &[u8], at: usize) -> Value
     }
 }
 
-// Behind a value: a decimal.
+// After a value: a decimal.
 pub fn decimal(line: &[u8], before: Value) -> Value
     ensures { λ r. ⌜ seen (now (line .entry)) r ≡ capped (valueAfter inDecimal (seen (now (line .entry)) before)) ⌝ }
 {
@@ -161,9 +161,9 @@ fn hex_number(c: u8) -> u32
     (c - 87) as u32
 }
 
-// Behind a value: so many hexadecimal digits.
+// After a value: a given count of hexadecimal digits.
 fn hex(line: &[u8], before: Value, count: usize) -> Value
-    requires { ⌜ count ≤ 8 ⌝ }
+    requires { ⌜ count ≤ updateDigits ⌝ }
     ensures { λ r. ⌜ seen (now (line .entry)) r ≡ valueAfter (inHex count) (seen (now (line .entry)) before) ⌝ }
 {
     if !before.readable {
@@ -191,21 +191,21 @@ fn hex(line: &[u8], before: Value, count: usize) -> Value
     }
 }
 
-// Behind a value: two hexadecimal digits.
-pub fn two_digits(line: &[u8], before: Value) -> Value
-    ensures { λ r. ⌜ seen (now (line .entry)) r ≡ valueAfter (inHex 2) (seen (now (line .entry)) before) ⌝ }
+// After a value: the digits of a list.
+pub fn list_digits(line: &[u8], before: Value) -> Value
+    ensures { λ r. ⌜ seen (now (line .entry)) r ≡ valueAfter (inHex listDigits) (seen (now (line .entry)) before) ⌝ }
 {
-    hex(line, before, 2)
+    hex(line, before, LIST_DIGITS as usize)
 }
 
-// Behind a value: eight hexadecimal digits.
-pub fn eight_digits(line: &[u8], before: Value) -> Value
-    ensures { λ r. ⌜ seen (now (line .entry)) r ≡ valueAfter (inHex 8) (seen (now (line .entry)) before) ⌝ }
+// After a value: the digits of an update.
+pub fn update_digits(line: &[u8], before: Value) -> Value
+    ensures { λ r. ⌜ seen (now (line .entry)) r ≡ valueAfter (inHex updateDigits) (seen (now (line .entry)) before) ⌝ }
 {
-    hex(line, before, 8)
+    hex(line, before, UPDATE_DIGITS as usize)
 }
 
-// Behind a value: the word, which has this number, or else another value.
+// After a value: the word, which has this number, or else another value.
 pub fn word(line: &[u8], before: Value, word: &[u8], number: u32, other: Value) -> Value
     ensures { λ r. ⌜ seen (now (line .entry)) r ≡ wordAfter (now (word .entry)) number (seen (now (line .entry)) before) (seen (now (line .entry)) other) ⌝ }
 {

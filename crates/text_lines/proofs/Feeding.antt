@@ -9,20 +9,20 @@ use lib.Dec.{eqb, ltb}
 use lib.ListN.{length, drop, drop-of-length-le, take}
 use borrow.Author.Tests.{eq-eqb, le-ltb, lt-ltb, ne-eqb}
 use Rattle.text_lines.specs.declared.Line.{Line}
-use Rattle.text_lines.specs.Feed.{Fed, fed, finished, fresh}
+use Rattle.text_lines.specs.Feed.{Fed, fed, fedAll, finished, fresh, joined}
 use Rattle.text_lines.specs.Line.{Part, bytesOf, gathered, tooLong, with}
-use Rattle.text_lines.specs.Lines.{lf, longest}
+use Rattle.text_lines.specs.Lines.{lf, maxLineBytes}
 use Rattle.text_lines.proofs.Stream.{Holds, fed-gathered, fed-in-pieces}
 
 -- what is made of a gathered line, unless it is too long, is made of its bytes
 pub held-is-line : {A : Type 0} (long : A) (short : List ℕ → A) (line : Line) (b : List ℕ) → Holds line b
-    → cond (tooLong line) long (short (bytesOf line)) ≡ cond (ltb longest (length b)) long (short b)
-held-is-line long short line b h = elim (decLt longest (length b)) [
-  | yes k ↦ rw (lt-ltb longest (length b) k, lt-ltb longest (line .length) (omega (arith, h .long k)))
+    → cond (tooLong line) long (short (bytesOf line)) ≡ cond (ltb maxLineBytes (length b)) long (short b)
+held-is-line long short line b h = elim (decLt maxLineBytes (length b)) [
+  | yes k ↦ rw (lt-ltb maxLineBytes (length b) k, lt-ltb maxLineBytes (line .length) (omega (arith, h .long k)))
   | no k ↦
       let n : line .length ≡ length b = h .count (omega arith) in
       let e : bytesOf line ≡ b = ap (λ (m : ℕ). take m (line .bytes)) n ∙ h .bytes (omega arith) in
-      rw (le-ltb longest (length b) (omega arith), le-ltb longest (line .length) (omega arith)) (ap short e)
+      rw (le-ltb maxLineBytes (length b) (omega arith), le-ltb maxLineBytes (line .length) (omega arith)) (ap short e)
 ]
 
 -- a line that an LF ended leaves fewer bytes
@@ -67,15 +67,6 @@ module _ {S : Type 0} (over : S → Bool) (step : S → Line → S) where
       pub fed-begun : p .ended ≡ false → fed over step f s ≡ record { state = f .state; line = p .line }
       unfolding behind
       fed-begun h = fed-gathered over step f s going ∙ ap {B = Fed S} behind (sym told) ∙ rw h
-
-  -- fed piece by piece
-  abbrev pub fedAll : Fed S → List (List ℕ) → Fed S
-  fedAll f [] = f
-  fedAll f (p ∷ ps) = fedAll (fed over step f p) ps
-
-abbrev pub joined : List (List ℕ) → List ℕ
-joined [] = []
-joined (p ∷ ps) = p ++ joined ps
 
 -- However the input was cut into pieces, the machine ends the same.
 pub all-is-joined : {S : Type 0} (over : S → Bool) (step : S → Line → S) (f : Fed S) (ps : List (List ℕ)) → fedAll over step f ps ≡ fed over step f (joined ps)

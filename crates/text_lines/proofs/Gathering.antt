@@ -9,7 +9,7 @@ use lib.Seq.{drop-cons}
 use borrow.Author.Tests.{eq-eqb, ne-eqb, lt-ltb, le-ltb}
 use Rattle.text_lines.specs.declared.Line.{Line}
 use Rattle.text_lines.specs.Line.{with, gathered}
-use Rattle.text_lines.specs.Lines.{longest, lf}
+use Rattle.text_lines.specs.Lines.{maxLineBytes, lf}
 
 module _ (l : Line) (s : List ℕ) (i : ℕ) where
   pub gathered-lf : i < length s → getD s i 0 ≡ lf → gathered l (drop i s) ≡ record { line = l; ended = true; rest = drop (i + 1) s }
@@ -24,10 +24,10 @@ module _ (l : Line) (s : List ℕ) (i : ℕ) where
   unfolding gathered
   gathered-end h = rw (drop-of-length-le s {i = i} h)
 
-pub with-room : (l : Line) (c : ℕ) → l .length < longest → with l c ≡ record { length = l .length + 1; bytes = set (l .bytes) (l .length) c }
+pub with-room : (l : Line) (c : ℕ) → l .length < maxLineBytes → with l c ≡ record { length = l .length + 1; bytes = set (l .bytes) (l .length) c }
 unfolding with
-with-room l c h = rw (lt-ltb (l .length) longest h)
+with-room l c h = rw (lt-ltb (l .length) maxLineBytes h)
 
-pub without-room : (l : Line) (c : ℕ) → longest ≤ l .length → with l c ≡ record { length = longest + 1; bytes = l .bytes }
+pub without-room : (l : Line) (c : ℕ) → maxLineBytes ≤ l .length → with l c ≡ record { length = maxLineBytes + 1; bytes = l .bytes }
 unfolding with
-without-room l c h = rw (le-ltb (l .length) longest h)
+without-room l c h = rw (le-ltb (l .length) maxLineBytes h)

@@ -1,4 +1,5 @@
--- However the input is cut into pieces, a machine fed its bytes does what the same machine does with its lines.
+-- However the input is cut into pieces, a machine fed its bytes does what the same machine does
+-- with its lines.
 use Prim.Native.Nat.{ℕ, _≤_, _<_, _+_}
 use native.Mathlib.Omega.{arith}
 use native.Mathlib.Decide.{decLt}
@@ -13,15 +14,15 @@ use borrow.Author.Tests.{ne-eqb, eq-eqb}
 use Rattle.text_lines.specs.declared.Line.{Line}
 use Rattle.text_lines.specs.Feed.{Fed, fresh, fedByte, fed, finished, fedLines}
 use Rattle.text_lines.specs.Line.{noLine, with, Part, gathered}
-use Rattle.text_lines.specs.Lines.{longest, lf, linesFrom, lines}
+use Rattle.text_lines.specs.Lines.{maxLineBytes, lf, linesFrom, lines}
 use Rattle.text_lines.proofs.Gathering.{with-room, without-room}
 
 -- the line holds these bytes, or is known to be too long
 pub record Holds (l : Line) (s : List ℕ) : Type 0 where
-  pub room : length (l .bytes) ≡ longest
-  pub count : length s ≤ longest → l .length ≡ length s
-  pub bytes : length s ≤ longest → take (length s) (l .bytes) ≡ s
-  pub long : longest < length s → l .length ≡ longest + 1
+  pub room : length (l .bytes) ≡ maxLineBytes
+  pub count : length s ≤ maxLineBytes → l .length ≡ length s
+  pub bytes : length s ≤ maxLineBytes → take (length s) (l .bytes) ≡ s
+  pub long : maxLineBytes < length s → l .length ≡ maxLineBytes + 1
 
 pub holds-none : Holds noLine []
 holds-none = record { room = refl; count = λ h. refl; bytes = λ h. refl; long = λ h. absurd (omega arith) }
@@ -30,7 +31,7 @@ one-more : (s : List ℕ) (c : ℕ) → length (s ++ c ∷ []) ≡ length s + 1
 one-more s c = length-append s (c ∷ [])
 
 pub holds-with : (l : Line) (s : List ℕ) (c : ℕ) → Holds l s → Holds (with l c) (s ++ c ∷ [])
-holds-with l s c h = elim (decLt (length s) longest) [
+holds-with l s c h = elim (decLt (length s) maxLineBytes) [
   | yes k ↦
       let n : l .length ≡ length s = h .count (omega arith) in
       let e = with-room l c (omega arith) in
@@ -41,7 +42,7 @@ holds-with l s c h = elim (decLt (length s) longest) [
         long = λ j. absurd (omega (arith, one-more s c));
       })
   | no k ↦
-      let full : longest ≤ l .length = counted k (decLt longest (length s)) in
+      let full : maxLineBytes ≤ l .length = counted k (decLt maxLineBytes (length s)) in
       let e = without-room l c full in
       subst (λ (m : Line). Holds m (s ++ c ∷ [])) (sym e) (record {
         room = h .room;
@@ -57,7 +58,7 @@ holds-with l s c h = elim (decLt (length s) longest) [
         ∙ take-suc-set (l .bytes) (length s) c k
         ∙ ap (λ (t : List ℕ). t ++ c ∷ []) b
 
-    counted : (length s < longest → ⊥) → Dec (longest < length s) → longest ≤ l .length
+    counted : (length s < maxLineBytes → ⊥) → Dec (maxLineBytes < length s) → maxLineBytes ≤ l .length
     counted k (yes j) = omega (arith, h .long j)
     counted k (no j) = omega (arith, h .count (omega arith))
 
@@ -109,9 +110,9 @@ module _ {S : Type 0} (over : S → Bool) (step : S → Line → S) where
     finished-over f h = rw h
 
     begun : (l : Line) (c : ℕ) (t : List ℕ) → Holds l (c ∷ t) → eqb (l .length) 0 ≡ false
-    begun l c t h = ne-eqb (l .length) 0 (not-zero (decLt longest (length (c ∷ t))))
+    begun l c t h = ne-eqb (l .length) 0 (not-zero (decLt maxLineBytes (length (c ∷ t))))
       where
-        not-zero : Dec (longest < length (c ∷ t)) → l .length ≡ 0 → ⊥
+        not-zero : Dec (maxLineBytes < length (c ∷ t)) → l .length ≡ 0 → ⊥
         not-zero (yes k) z = omega (arith, h .long k)
         not-zero (no k) z = omega (arith, h .count (omega arith))
 

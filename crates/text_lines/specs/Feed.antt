@@ -1,7 +1,7 @@
 -- A machine that is fed lines, and the same machine fed bytes in pieces of any length.
 use Prim.Native.Nat.{ℕ}
 use mathlib.Core.Bool.{Bool, _||_, cond}
-use mathlib.Core.List.{List, [], _∷_}
+use mathlib.Core.List.{List, [], _∷_, _++_}
 use lib.Dec.{eqb}
 use Rattle.text_lines.specs.declared.Line.{Line}
 use Rattle.text_lines.specs.Line.{noLine, with}
@@ -28,6 +28,16 @@ module _ {S : Type 0} (over : S → Bool) (step : S → Line → S) where
   -- at the end of the input, a line that has begun is a line
   unfoldable pub finished : Fed S → S
   finished f = cond (over (f .state) || eqb (f .line .length) 0) (f .state) (step (f .state) (f .line))
+
+  -- fed piece by piece
+  abbrev pub fedAll : Fed S → List (List ℕ) → Fed S
+  fedAll f [] = f
+  fedAll f (p ∷ ps) = fedAll (fed f p) ps
+
+-- the bytes of pieces, in order
+abbrev pub joined : List (List ℕ) → List ℕ
+joined [] = []
+joined (p ∷ ps) = p ++ joined ps
 
 -- fed whole lines, until the reading has ended
 module _ {S : Type 0} (over : S → Bool) (step : S → List ℕ → S) where

@@ -6,25 +6,25 @@ use lib.Dec.{eqb, ltb}
 use lib.ListN.{take, drop, replicate, set}
 use Rattle.text_lines.specs.declared.Line.{Line}
 use Rattle.text_lines.specs.declared.Gathered.{Gathered}
-use Rattle.text_lines.specs.Lines.{longest, lf}
+use Rattle.text_lines.specs.Lines.{maxLineBytes, lf}
 
 abbrev pub noLine : Line
-noLine = record { length = 0; bytes = replicate longest 0 }
+noLine = record { length = 0; bytes = replicate maxLineBytes 0 }
 
 -- the line with one byte more; a line that is too long is only counted as such
 unfoldable pub with : Line → ℕ → Line
 with l c =
-    cond (ltb (l .length) longest)
+    cond (ltb (l .length) maxLineBytes)
     (record { length = l .length + 1; bytes = set (l .bytes) (l .length) c })
-    (record { length = longest + 1; bytes = l .bytes })
+    (record { length = maxLineBytes + 1; bytes = l .bytes })
 
 abbrev pub tooLong : Line → Bool
-tooLong l = ltb longest (l .length)
+tooLong l = ltb maxLineBytes (l .length)
 
 abbrev pub bytesOf : Line → List ℕ
 bytesOf l = take (l .length) (l .bytes)
 
--- what is gathered from bytes: the line, whether an LF ended it, and what comes behind
+-- what is gathered from bytes: the line, whether an LF ended it, and what comes after it
 pub record Part : Type 0 where
   pub line : Line
   pub ended : Bool

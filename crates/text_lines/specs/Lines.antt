@@ -1,17 +1,21 @@
--- "An LF ends a line; the last may lack it, and no bytes after the last LF are no line." "A program reads at most 1,000 lines of at most 100
--- bytes."
-use Prim.Native.Nat.{ℕ}
+-- "An LF ends a line; the last may lack it, and no bytes after the last LF are no line."
+-- "A program reads at most 1,000 lines of at most 100 bytes."
+use Prim.Native.Nat.{ℕ, _+_}
 use mathlib.Core.Bool.{cond}
 use mathlib.Core.List.{List, [], _∷_, _++_}
 use lib.Dec.{eqb}
 
--- a line holds at most so many bytes without its LF
-abbrev pub longest : ℕ
-longest = 100
+-- a line holds at most this many bytes without its LF
+abbrev pub maxLineBytes : ℕ
+maxLineBytes = 100
 
--- a program reads at most so many lines
-abbrev pub most : ℕ
-most = 1000
+-- a program reads at most this many lines
+abbrev pub maxLines : ℕ
+maxLines = 1000
+
+-- "line 1,001, good or bad, is answered 6 and ends the reading": it is answered too
+abbrev pub answeredLines : ℕ
+answeredLines = maxLines + 1
 
 abbrev pub lf : ℕ
 lf = 10

@@ -4,18 +4,22 @@ ghost use lib.ListN.{drop};
 ghost use Rattle.text_lines.specs.Line.{noLine, gathered, seen};
 ghost use Rattle.text_lines.specs.Answers.{noAnswers, noted};
 
-// A line holds at most so many bytes without its LF.
-pub const LONGEST: u8 = 100;
+// A line holds at most this many bytes without its LF.
+pub const MAX_LINE_BYTES: u8 = 100;
 
-// A program reads at most so many lines.
-pub const MOST: u16 = 1000;
+// A program reads at most this many lines.
+pub const MAX_LINES: u16 = 1000;
+
+// Line 1,001 is answered too.
+pub const ANSWERED_LINES: u16 = MAX_LINES + 1;
 
 const LF: u8 = 10;
 
-// The bytes of a line, as far as it is gathered: their number, up to one more than a line may hold, and the first of them.
+// The bytes of a line, as far as it is gathered: their number, up to one more than a line may hold,
+// and the first of them.
 pub struct Line {
     pub length: u8,
-    pub bytes: [u8; 100],
+    pub bytes: [u8; MAX_LINE_BYTES as usize],
 }
 
 // What was gathered from a piece: the line, whether an LF ended it, and where the piece goes on.
@@ -31,7 +35,7 @@ impl Line {
     {
         Line {
             length: 0,
-            bytes: [0; 100],
+            bytes: [0; MAX_LINE_BYTES as usize],
         }
     }
 
@@ -51,11 +55,11 @@ impl Line {
                 };
             }
             let n = self.length;
-            if n < LONGEST {
+            if n < MAX_LINE_BYTES {
                 self.bytes[n as usize] = c;
                 self.length = n + 1;
             } else {
-                self.length = LONGEST + 1;
+                self.length = MAX_LINE_BYTES + 1;
             }
         }
         Gathered {
@@ -69,7 +73,7 @@ impl Line {
 // The answers to the lines so far.
 pub struct Answers {
     pub count: u16,
-    pub answers: [u8; 1001],
+    pub answers: [u8; ANSWERED_LINES as usize],
 }
 
 impl Answers {
@@ -78,7 +82,7 @@ impl Answers {
     {
         Answers {
             count: 0,
-            answers: [0; 1001],
+            answers: [0; ANSWERED_LINES as usize],
         }
     }
 
@@ -87,7 +91,7 @@ impl Answers {
         ensures { λ r. ⌜ r ≡ noted self answer ⌝ }
     {
         let n = self.count;
-        if MOST < n {
+        if MAX_LINES < n {
             return self;
         }
         self.answers[n as usize] = answer;

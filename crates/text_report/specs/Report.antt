@@ -1,5 +1,6 @@
--- "The program `plain` reads standard input and prints for each line its number and answer, then for every tx with a kept vote its outcome
--- and group (0 if none), each held store with its holder, and each replay."
+-- "The program `plain` reads standard input and prints for each line its number and answer, then
+-- for every tx with a kept vote its outcome and group (0 if none), each held store with its holder,
+-- and each replay."
 use Prim.Native.Nat.{ℕ, suc}
 use mathlib.Core.Bool.{cond}
 use mathlib.Core.List.{List, [], _++_}
@@ -7,7 +8,7 @@ use lib.Dec.{eqb}
 use lib.ListN.{getD, length, take}
 use Rattle.text_ascii.specs.Bytes.{ascii}
 use Rattle.text_ascii.specs.Decimal.{decimal}
-use Rattle.text_ascii.specs.Hex.{hex}
+use Rattle.text_ascii.specs.Hex.{hex, updateDigits}
 use Rattle.log_entry.specs.Limits.{stores, transactions}
 use Rattle.log_core.specs.declared.Log.{Log}
 use Rattle.log_votes.specs.declared.Outcome.{Outcome}
@@ -19,7 +20,7 @@ use Rattle.log_votes.specs.Outcome.{isKept}
 use Rattle.log_core.specs.Replay.{noReplayed, replayRows}
 use Rattle.log_votes.specs.Scan.{anyFrom}
 
--- the texts of 0 to n - 1, one behind the other
+-- the texts of 0 to n - 1, one after the other
 unfoldable pub each : (ℕ → List ℕ) → ℕ → List ℕ
 each text ℕ.zero = []
 each text (suc n) = each text n ++ text n
@@ -59,7 +60,7 @@ holderText l store = cond (eqb (holderOf l store) 0) [] (holderLine store (holde
 
 abbrev pub replayLine : ℕ → Replayed → List ℕ
 replayLine store r =
-    field (ascii "store=") store ++ field (ascii " group=") (r .group) ++ field (ascii " tx=") (r .tx) ++ ascii " upd=" ++ hex 8 (r .update) ++ end
+    field (ascii "store=") store ++ field (ascii " group=") (r .group) ++ field (ascii " tx=") (r .tx) ++ ascii " upd=" ++ hex updateDigits (r .update) ++ end
 
 abbrev pub replayText : ℕ → List Replayed → List ℕ
 replayText store rows = each (λ i. replayLine store (getD rows i noReplayed)) (length rows)

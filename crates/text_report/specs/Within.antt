@@ -2,17 +2,26 @@
 use Prim.Native.Nat.{ℕ, _≤_, _+_, _*_}
 use mathlib.Core.List.{List}
 use lib.ListN.{length}
+use Rattle.text_ascii.specs.Bytes.{ascii}
+use Rattle.text_ascii.specs.Decimal.{byteDigits}
+use Rattle.text_ascii.specs.Hex.{updateDigits}
 use Rattle.text_ascii.specs.Wrote.{Wrote}
 use Rattle.log_entry.specs.Limits.{stores, transactions}
-use Rattle.text_lines.specs.Lines.{most}
+use Rattle.text_lines.specs.Lines.{answeredLines}
+use Rattle.text_report.specs.Report.{end}
 
+-- The text was written, and is no longer than this room.
 pub record Within (room : ℕ) (before : List ℕ) (at : ℕ) (text after : List ℕ) (next : ℕ) : Type 0 where
   pub wrote : Wrote before at text after next
   pub within : length text ≤ room
 
--- no printed line is longer
+-- a field whose number fits a byte takes at most this much
+abbrev pub longestField : List ℕ → ℕ
+longestField key = length key + byteDigits
+
+-- no printed line is longer than a replay's
 abbrev pub longestLine : ℕ
-longestLine = 40
+longestLine = longestField (ascii "store=") + longestField (ascii " group=") + longestField (ascii " tx=") + length (ascii " upd=") + updateDigits + length end
 
 -- no replay prints as more: a line for each row
 abbrev pub longestReplay : ℕ
@@ -24,4 +33,4 @@ longestLog = (transactions + stores) * longestLine + stores * longestReplay
 
 -- no answers print as more
 abbrev pub longestAnswers : ℕ
-longestAnswers = (most + 1) * longestLine
+longestAnswers = answeredLines * longestLine

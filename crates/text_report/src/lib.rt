@@ -1,4 +1,5 @@
-// What is printed of a log and of answers, line by line into a buffer. Each function answers the next place in the buffer.
+// What is printed of a log and of answers, line by line into a buffer. Each function answers the
+// next place in the buffer.
 ghost use Prim.Native.Nat.{_*_, _<_};
 ghost use Rattle.log_entry.specs.Limits.{stores, transactions};
 ghost use Rattle.text_ascii.specs.Wrote.{Wrote};
@@ -8,11 +9,20 @@ ghost use Rattle.text_report.specs.Report.{answersText, each, field, hol
 ghost use Rattle.text_report.specs.Within.{Within, longestAnswers, longestLine, longestLog, longestReplay};
 use log_core::Log;
 use log_core::Replay;
+use log_entry::limits::STORE_PLACES;
 use log_entry::limits::STORES;
+use log_entry::limits::TRANSACTION_PLACES;
 use log_entry::limits::TRANSACTIONS;
 use log_votes::Outcome;
+use text_ascii::UPDATE_DIGITS;
 use text_lines::Answers;
-use text_lines::MOST;
+use text_lines::MAX_LINES;
+
+// No printed line is longer than a replay's: three fields of a byte, an update and the LF.
+pub const LINE_BYTES: usize = 32 + UPDATE_DIGITS as usize;
+
+// No log has more lines.
+pub const LOG_LINES: usize = TRANSACTION_PLACES + STORE_PLACES + STORE_PLACES * TRANSACTION_PLACES;
 
 // A key and its decimal.
 pub fn field(out: &mut [u8], at: usize, key: &[u8], n: u32) -> usize
@@ -65,7 +75,7 @@ pub fn replay_line(out: &mut [u8], at: usize, store: u8, group: u8, tx: u8, upda
     let at = field(out, at, b" group=", group as u32);
     let at = field(out, at, b" tx=", tx as u32);
     let at = text_ascii::word(out, at, b" upd=");
-    let at = text_ascii::hex(out, at, 8, update);
+    let at = text_ascii::hex(out, at, UPDATE_DIGITS, update);
     text_ascii::word(out, at, b"\n")
 }
 
@@ -171,7 +181,7 @@ pub fn put_answers(out: &mut [u8], at: usize, answers: Answers) -> usize
     let mut to = at;
     let mut i: u16 = 0;
     while i < count {
-        if MOST < i {
+        if MAX_LINES < i {
             return to;
         }
         let answer = answers.answers[i as usize];

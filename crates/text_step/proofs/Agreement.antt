@@ -6,6 +6,7 @@ use mathlib.Core.List.{List, [], _∷_, _++_}
 use mathlib.Core.Logic.{inl, inr}
 use mathlib.Core.Option.{some}
 use mathlib.Core.Path.{_≡_, refl, sym, _∙_, ap, subst}
+use Rattle.text_ascii.specs.Decimal.{byteNumbers}
 use Rattle.text_ascii.proofs.Words.{clash}
 use Rattle.log_entry.specs.declared.Entry.{Entry}
 use Rattle.model_steps.specs.declared.Role.{Role}
@@ -16,13 +17,13 @@ use Rattle.model_steps.specs.Limits.{outsideStep}
 use Rattle.text_entry.specs.Entry as entry
 use Rattle.text_entry.specs.Fields.{Field, Kind, lineText}
 use Rattle.text_entry.specs.Kinds.{voteKind}
-use Rattle.text_entry.specs.Seen.{most}
 use Rattle.text_entry.specs.Table.{at, reader}
 use Rattle.text_entry.proofs.ReadsText.{IndexedAll, LineAt}
 use Rattle.text_entry.proofs.Table.{Distinct, by-fields, first-reads, first-written, namesApart, outside-some, read-some, some-not, unreadable-none}
 use Rattle.text_entry.proofs.TextReads.{WritableAll, apart, clashAll}
 use Rattle.text_entry.proofs.Votes.{vote-back, vote-values, vote-writable}
 use Rattle.text_step.specs.declared.Reading.the-variants.{Read, Outside, Unreadable}
+use Rattle.text_step.specs.Claims.{IsText, OutsideLineIsText, ReadIsText, ReadLineIsText, TextReadsBack, TextWithinLimitsRead, UnreadableIsNoText}
 use Rattle.text_step.specs.Kinds.{sentTake, sentVote, setupKind, openKind, proposeKind, deliverKind, tellKind, restoreKind, crashKind, to}
 use Rattle.text_step.specs.Step.{HasText, beyond, crashOf, deliverOf, openOf, proposeOf, readStep, reading, readingOf, restoreOf, roleNumber, roleOf, setupOf, stepReaders, takeOf, tellOf, text, voteOf}
 use Rattle.text_step.proofs.Beyond.{beyond-is-outside}
@@ -59,8 +60,7 @@ request-reads e to (inr h) =
     (writable-then (voteKind .fields) (entry.voteValues e) to (vote-writable e (h .1) (h .2)))
     ∙ ap (λ (x : Entry). some (Request x to)) (vote-back e (h .0))
 
--- The text of a step reads back as that step, whatever the size of its numbers.
-pub text-reads-back : (s : Step) → HasText s → readStep (text s) ≡ some s
+pub text-reads-back : TextReadsBack
 unfolding text readStep namesApart clash apart clashAll
 text-reads-back (Setup n) h = first-reads stepReaders 2 (reader setupKind setupOf) (n ∷ []) refl refl (tt, tt)
 text-reads-back (Request e to) h = request-reads e to h
@@ -75,10 +75,6 @@ text-reads-back (Crash r id) h =
 
 -- ---- what reads was written
 
-pub record IsText (line : List ℕ) (s : Step) : Type 0 where
-  pub bytes : line ≡ text s
-  pub hasText : HasText s
-
 -- the line of a kind, by its values
 by-values : (k : Kind) (l vs us : List ℕ) → LineAt k l vs → vs ≡ us → l ≡ lineText k us
 by-values k l vs us r e = r .text ∙ ap (lineText k) e
@@ -86,7 +82,7 @@ by-values k l vs us r e = r .text ∙ ap (lineText k) e
 module _ (l vs : List ℕ) where
   take-is-text : LineAt sentTake l vs → IsText l (takeOf vs)
   unfolding text
-  take-is-text r = record { bytes = by-values sentTake l vs _ r (by-fields (sentTake .fields) vs (r .indexed)); hasText = inl refl }
+  take-is-text r = record { line = by-values sentTake l vs _ r (by-fields (sentTake .fields) vs (r .indexed)); hasText = inl refl }
 
   vote-is-text : LineAt sentVote l vs → IsText l (voteOf vs)
   unfolding text
@@ -94,33 +90,33 @@ module _ (l vs : List ℕ) where
       let e = by-fields (sentVote .fields) vs (r .indexed) in
       let k = subst (IndexedAll (sentVote .fields)) e (r .indexed) in
       record {
-        bytes = by-values sentVote l vs _ r (e ∙ ap (λ (us : List ℕ). us ++ at vs 7 ∷ []) (vote-values vs (k .1 .1 .1 .1 .1 .0)));
+        line = by-values sentVote l vs _ r (e ∙ ap (λ (us : List ℕ). us ++ at vs 7 ∷ []) (vote-values vs (k .1 .1 .1 .1 .1 .0)));
         hasText = inr (refl, k .1 .1 .1 .1 .0, k .1 .1 .1 .1 .1 .1 .0);
       }
 
   setup-is-text : LineAt setupKind l vs → IsText l (setupOf vs)
   unfolding text
-  setup-is-text r = record { bytes = by-values setupKind l vs _ r (by-fields (setupKind .fields) vs (r .indexed)); hasText = tt }
+  setup-is-text r = record { line = by-values setupKind l vs _ r (by-fields (setupKind .fields) vs (r .indexed)); hasText = tt }
 
   open-is-text : LineAt openKind l vs → IsText l (openOf vs)
   unfolding text
-  open-is-text r = record { bytes = by-values openKind l vs _ r (by-fields (openKind .fields) vs (r .indexed)); hasText = tt }
+  open-is-text r = record { line = by-values openKind l vs _ r (by-fields (openKind .fields) vs (r .indexed)); hasText = tt }
 
   propose-is-text : LineAt proposeKind l vs → IsText l (proposeOf vs)
   unfolding text
-  propose-is-text r = record { bytes = by-values proposeKind l vs _ r (by-fields (proposeKind .fields) vs (r .indexed)); hasText = tt }
+  propose-is-text r = record { line = by-values proposeKind l vs _ r (by-fields (proposeKind .fields) vs (r .indexed)); hasText = tt }
 
   deliver-is-text : LineAt deliverKind l vs → IsText l (deliverOf vs)
   unfolding text
-  deliver-is-text r = record { bytes = by-values deliverKind l vs _ r (by-fields (deliverKind .fields) vs (r .indexed)); hasText = tt }
+  deliver-is-text r = record { line = by-values deliverKind l vs _ r (by-fields (deliverKind .fields) vs (r .indexed)); hasText = tt }
 
   tell-is-text : LineAt tellKind l vs → IsText l (tellOf vs)
   unfolding text
-  tell-is-text r = record { bytes = by-values tellKind l vs _ r (by-fields (tellKind .fields) vs (r .indexed)); hasText = tt }
+  tell-is-text r = record { line = by-values tellKind l vs _ r (by-fields (tellKind .fields) vs (r .indexed)); hasText = tt }
 
   restore-is-text : LineAt restoreKind l vs → IsText l (restoreOf vs)
   unfolding text
-  restore-is-text r = record { bytes = by-values restoreKind l vs _ r (by-fields (restoreKind .fields) vs (r .indexed)); hasText = tt }
+  restore-is-text r = record { line = by-values restoreKind l vs _ r (by-fields (restoreKind .fields) vs (r .indexed)); hasText = tt }
 
   role-number : (v : ℕ) → v < 3 → v ≡ roleNumber (roleOf v)
   role-number ℕ.zero h = refl
@@ -133,10 +129,9 @@ module _ (l vs : List ℕ) where
   crash-is-text r =
       let e = by-fields (crashKind .fields) vs (r .indexed) in
       let k = subst (IndexedAll (crashKind .fields)) e (r .indexed) in
-      record { bytes = by-values crashKind l vs _ r (e ∙ ap (λ (v : ℕ). v ∷ at vs 1 ∷ []) (role-number (at vs 0) (k .0))); hasText = tt }
+      record { line = by-values crashKind l vs _ r (e ∙ ap (λ (v : ℕ). v ∷ at vs 1 ∷ []) (role-number (at vs 0) (k .0))); hasText = tt }
 
--- A line that reads as a step is that step's text to the byte.
-pub read-is-text : (l : List ℕ) (s : Step) → readStep l ≡ some s → IsText l s
+pub read-is-text : ReadIsText
 unfolding readStep
 read-is-text l s h =
     first-written (IsText l) stepReaders l (
@@ -154,31 +149,25 @@ distinct = record {
   outside-unreadable = λ h. let z : _≡_ {A = ℕ} 0 1 = cc in omega arith;
 }
 
--- where so many acceptors count, which is no more than a byte holds
-module _ (n : ℕ) (k : n ≤ most) where
-  within-bytes : (s : Step) → HasText s → outsideStep n s ≡ false → beyond s ≡ false
-  within-bytes s t h = go (beyond s) refl
-    where
-      go : (b : Bool) → beyond s ≡ b → b ≡ false
-      go true m = absurd (true≢false (sym (beyond-is-outside n k s t m) ∙ h))
-      go false m = refl
+within-bytes : (n : ℕ) → n ≤ byteNumbers → (s : Step) → HasText s → outsideStep n s ≡ false → beyond s ≡ false
+within-bytes n k s t h = go (beyond s) refl
+  where
+    go : (b : Bool) → beyond s ≡ b → b ≡ false
+    go true m = absurd (true≢false (sym (beyond-is-outside n k s t m) ∙ h))
+    go false m = refl
 
-  -- The text of a step within the limits is read as that step.
-  pub text-within-limits-read : (s : Step) → HasText s → outsideStep n s ≡ false → reading (text s) ≡ Read s
-  text-within-limits-read s t h = ap readingOf (text-reads-back s t) ∙ rw (within-bytes s t h)
+pub text-within-limits-read : TextWithinLimitsRead
+text-within-limits-read n k s t h = ap readingOf (text-reads-back s t) ∙ rw (within-bytes n k s t h)
 
--- A line read as a step is that step's text, to the byte.
-pub read-line-is-text : (l : List ℕ) (s : Step) → reading l ≡ Read s → IsText l s
+pub read-line-is-text : ReadLineIsText
 read-line-is-text l s h = read-is-text l s (read-some Read Outside Unreadable beyond distinct (readStep l) s h)
 
--- A line answered `Outside` is the text of a step with natural numbers of any size, one of them outside its limits.
-pub outside-line-is-text : (l : List ℕ) → reading l ≡ Outside → (s : Step) × IsText l s × ((n : ℕ) → n ≤ most → outsideStep n s ≡ true)
+pub outside-line-is-text : OutsideLineIsText
 outside-line-is-text l h =
     let t = outside-some Read Outside Unreadable beyond distinct (readStep l) h in
     let r = read-is-text l (t .0) (t .1) in
     (t .0, r, λ n k. beyond-is-outside n k (t .0) (r .hasText) (t .2))
 
--- A line is `Unreadable` only if it is the text of no step.
-pub unreadable-is-no-text : (l : List ℕ) → reading l ≡ Unreadable → (s : Step) → IsText l s → ⊥
+pub unreadable-is-no-text : UnreadableIsNoText
 unreadable-is-no-text l h s t =
-    some-not s (sym (unreadable-none Read Outside Unreadable beyond distinct (readStep l) h) ∙ ap readStep (t .bytes) ∙ text-reads-back s (t .hasText))
+    some-not s (sym (unreadable-none Read Outside Unreadable beyond distinct (readStep l) h) ∙ ap readStep (t .line) ∙ text-reads-back s (t .hasText))

@@ -15,20 +15,20 @@ use Rattle.model_steps.specs.declared.Step.{Step}
 use Rattle.model_steps.specs.declared.Step.the-variants.{Setup, Request, Open, Propose, Deliver, Tell, Restore, Crash}
 use Rattle.model_steps.specs.Limits.{ballots, coordinators, instances, messages, mostAcceptors, noBallot, noCoordinator, noParty, outsideStep}
 use Rattle.text_entry.specs.Entry as entry
-use Rattle.text_entry.specs.Seen.{most}
+use Rattle.text_ascii.specs.Decimal.{byteNumbers}
 use Rattle.text_entry.specs.Table.{anyBeyond, noByte}
 use Rattle.text_entry.proofs.Beyond as texts
 use Rattle.text_entry.proofs.Beyond.{beyond-cases, first-of, no-such-process, second-of, third-of}
 use Rattle.text_step.proofs.Readings.{beyond-last}
 use Rattle.text_step.specs.Step.{HasText, beyond, numbers}
 
-coordinator-beyond : (c : ℕ) → most ≤ c → noCoordinator c ≡ true
+coordinator-beyond : (c : ℕ) → byteNumbers ≤ c → noCoordinator c ≡ true
 coordinator-beyond c h = le-leb coordinators c (omega arith)
 
-ballot-beyond : (b : ℕ) → most ≤ b → noBallot b ≡ true
+ballot-beyond : (b : ℕ) → byteNumbers ≤ b → noBallot b ≡ true
 ballot-beyond b h = elim (eqb b 0) as (λ x. (x || ltb ballots b) ≡ true) [ true ↦ refl | false ↦ lt-ltb ballots b (omega arith) ]
 
-setup-beyond : (n : ℕ) → most ≤ n → not (eqb n 3 || eqb n mostAcceptors) ≡ true
+setup-beyond : (n : ℕ) → byteNumbers ≤ n → not (eqb n 3 || eqb n mostAcceptors) ≡ true
 setup-beyond n h = rw (ne-eqb n 3 (λ (e : n ≡ 3). omega arith), ne-eqb n mostAcceptors (λ (e : n ≡ mostAcceptors). omega arith))
 
 or-left : (a b : Bool) → a ≡ true → (a || b) ≡ true
@@ -48,7 +48,7 @@ round-beyond c i b =
       ((λ h. second-of x y z (le-leb instances i (omega arith))), ((λ h. third-of x y z (ballot-beyond b h)), tt)),
     )
 
-party-beyond : (n : ℕ) → n ≤ most → (r : Role) (id : ℕ) → most ≤ id → noParty n r id ≡ true
+party-beyond : (n : ℕ) → n ≤ byteNumbers → (r : Role) (id : ℕ) → byteNumbers ≤ id → noParty n r id ≡ true
 party-beyond n k Acceptor id h = le-leb n id (omega arith)
 party-beyond n k Coord id h = coordinator-beyond id h
 party-beyond n k Proc id h = no-such-process id h
@@ -59,10 +59,10 @@ request-beyond e to t h = go (entry.beyond e) (noByte to) refl refl (sym (beyond
   where
     go : (b c : Bool) → entry.beyond e ≡ b → noByte to ≡ c → (b || c) ≡ true → (outside e || noCoordinator to) ≡ true
     go true c k m z = or-left (outside e) (noCoordinator to) (texts.beyond-is-outside e t k)
-    go false c k m z = or-right (outside e) (noCoordinator to) (coordinator-beyond to (leb-true most to (m ∙ z)))
+    go false c k m z = or-right (outside e) (noCoordinator to) (coordinator-beyond to (leb-true byteNumbers to (m ∙ z)))
 
 -- the step has a number outside its limits, whichever of the numbers of acceptors counts
-pub beyond-is-outside : (n : ℕ) → n ≤ most → (s : Step) → HasText s → beyond s ≡ true → outsideStep n s ≡ true
+pub beyond-is-outside : (n : ℕ) → n ≤ byteNumbers → (s : Step) → HasText s → beyond s ≡ true → outsideStep n s ≡ true
 unfolding outsideStep
 beyond-is-outside n k (Setup a) t = beyond-cases (not (eqb a 3 || eqb a mostAcceptors) ≡ true) (a ∷ []) ((λ h. setup-beyond a h), tt)
 beyond-is-outside n k (Request e to) t = request-beyond e to t

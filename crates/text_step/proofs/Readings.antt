@@ -16,7 +16,7 @@ use Rattle.text_entry.specs.declared.Reading.the-variants as variants
 use Rattle.text_entry.specs.Entry as entry
 use Rattle.text_entry.specs.Kinds.{voteKind}
 use Rattle.text_entry.specs.Read.{readKind}
-use Rattle.text_entry.specs.Seen.{most}
+use Rattle.text_ascii.specs.Decimal.{byteNumbers}
 use Rattle.text_entry.specs.Table.{Reader, anyBeyond, at, made, noByte, orElse, readFirst}
 use Rattle.text_entry.proofs.Counts.{at-counts, counted-same, no-byte}
 use Rattle.text_entry.proofs.Follows.{counts}
@@ -44,13 +44,13 @@ request-is e to = go (entry.beyond e) ∙ ap (λ (b : Bool). cond b Outside (Rea
     go true = refl
     go false = refl
 
-pub request-beyond : (to : ℕ) (e : Entry) → most ≤ to → Outside ≡ requestOf (variants.Read e) to
+pub request-beyond : (to : ℕ) (e : Entry) → byteNumbers ≤ to → Outside ≡ requestOf (variants.Read e) to
 request-beyond to e h = rw (no-byte to h)
 
-pub request-within : (to : ℕ) (e : Entry) → to < most → Read (Request e to) ≡ requestOf (variants.Read e) to
-request-within to e h = rw (lt-leb most to h)
+pub request-within : (to : ℕ) (e : Entry) → to < byteNumbers → Read (Request e to) ≡ requestOf (variants.Read e) to
+request-within to e h = rw (lt-leb byteNumbers to h)
 
-request-counted : (r : EntryReading) (n : ℕ) → requestOf r n ≡ requestOf r (min n most)
+request-counted : (r : EntryReading) (n : ℕ) → requestOf r n ≡ requestOf r (min n byteNumbers)
 request-counted (variants.Read e) n = counted-same (λ (m : ℕ). requestOf (variants.Read e) m) Outside (λ m h. sym (request-beyond m e h)) n
 request-counted variants.Outside n = refl
 request-counted variants.Unreadable n = refl
@@ -63,13 +63,13 @@ vote-counts vs =
     sym (request-is (entry.voteOf vs) (at vs 7))
     ∙ ap (λ (r : EntryReading). requestOf r (at vs 7)) (votes.vote-counts vs)
     ∙ request-counted (entry.readingOf (some (entry.voteOf us))) (at vs 7)
-    ∙ request-is (entry.voteOf us) (min (at vs 7) most)
-    ∙ (λ i. readingOf (some (Request (voteEntry (j 0 i) (j 1 i) (j 2 i) (j 3 i) (j 4 i) (eqb (j 5 i) 1) (j 6 i)) (min (at vs 7) most))))
+    ∙ request-is (entry.voteOf us) (min (at vs 7) byteNumbers)
+    ∙ (λ i. readingOf (some (Request (voteEntry (j 0 i) (j 1 i) (j 2 i) (j 3 i) (j 4 i) (eqb (j 5 i) 1) (j 6 i)) (min (at vs 7) byteNumbers))))
     ∙ (λ i. readingOf (some (Request (voteEntry (sym (k 0) i) (sym (k 1) i) (sym (k 2) i) (sym (k 3) i) (sym (k 4) i) (eqb (sym (k 5) i) 1) (sym (k 6) i)) (sym (k 7) i))))
 
 -- ---- crashes
 
-pub crash-outside : (r : Role) (id : ℕ) → most ≤ id → readingOf (some (Crash r id)) ≡ Outside
+pub crash-outside : (r : Role) (id : ℕ) → byteNumbers ≤ id → readingOf (some (Crash r id)) ≡ Outside
 crash-outside r id h = rw (no-byte id h)
 
 pub crash-counts : (vs : List ℕ) → readingOf (some (crashOf vs)) ≡ readingOf (some (crashOf (counts (crashKind .fields) vs)))

@@ -109,6 +109,7 @@ beyond s = anyBeyond (numbers s)
 abbrev pub readingOf : Option Step → Reading
 readingOf = answerOf beyond Read Outside Unreadable
 
--- what the reader answers: `Outside` if a number is beyond a byte; what else is outside its limits, the world refuses
+-- what the reader answers: `Outside` if a number is beyond a byte; what else is outside its limits,
+-- the world refuses
 abbrev pub reading : List ℕ → Reading
 reading s = readingOf (readStep s)

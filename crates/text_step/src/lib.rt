@@ -13,6 +13,7 @@ ghost use Rattle.text_step.specs.Step.{reading, readingOf, roleOf, takeO
 use log_entry::Entry;
 use model_steps::Role;
 use model_steps::Step;
+use text_ascii::BYTE_NUMBERS;
 use text_entry::decimals;
 use text_entry::decimals::Decimals;
 use text_entry::fields;
@@ -53,7 +54,7 @@ fn request(entry: text_entry::Reading, to: u32) -> Reading
 {
     match entry {
         text_entry::Reading::Read(e) => {
-            if 256 <= to {
+            if BYTE_NUMBERS <= to {
                 return Reading::Outside;
             }
             Reading::Read(Step::Request {
@@ -182,7 +183,7 @@ fn role_of(n: u32) -> Role
 fn made_crash(role: Role, id: u32) -> Reading
     ensures { λ r. ⌜ r ≡ readingOf (some (Crash role id)) ⌝ }
 {
-    if 256 <= id {
+    if BYTE_NUMBERS <= id {
         return Reading::Outside;
     }
     Reading::Read(Step::Crash { role, id: id as u8 })

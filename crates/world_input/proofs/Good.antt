@@ -5,13 +5,14 @@ use denote.Laws.{Is}
 use denote.Struct.Declared.{row}
 use lib.ListN.{length, length-map}
 use mir.Val.{Val}
+use Rattle.text_lines.specs.Lines.{answeredLines}
 use Rattle.world_input.specs.declared.Input.{Input}
 use Rattle.world_input.specs.declared.Orders.{Orders}
 use Rattle.world_input.proofs.Input.{the-type as input-type}
 use Rattle.world_input.proofs.Orders.{the-type as orders-type}
 
-pub orders-length : (o : Orders) (vs : List Val) → Is (row orders-type) o vs → length (o .orders) ≡ 1001
+pub orders-length : (o : Orders) (vs : List Val) → Is (row orders-type) o vs → length (o .orders) ≡ answeredLines
 orders-length o vs g = simp length-map at (g .1 .1 .1 .0 .1 .0 .1)
 
-pub input-length : (i : Input) (vs : List Val) → Is (row input-type) i vs → length (i .orders .orders) ≡ 1001
+pub input-length : (i : Input) (vs : List Val) → Is (row input-type) i vs → length (i .orders .orders) ≡ answeredLines
 input-length i vs g = simp length-map at (g .1 .1 .0 .1 .1 .1 .0 .1 .0 .1)

@@ -10,7 +10,7 @@ use types.Run.{OneOf}
 use Rattle.log_entry.specs.Refusal.{unreadable}
 use Rattle.text_lines.specs.declared.Line.{Line}
 use Rattle.text_lines.specs.Line.{bytesOf}
-use Rattle.text_lines.specs.Lines.{longest}
+use Rattle.text_lines.specs.Lines.{maxLineBytes}
 use Rattle.text_step.specs.declared.Reading.{Reading}
 use Rattle.text_step.specs.declared.Reading.the-variants.{Read, Outside, Unreadable}
 use Rattle.text_step.specs.Step.{reading}
@@ -19,13 +19,13 @@ use Rattle.world_input.specs.Orders.{orderTo, refusing}
 use Rattle.world_input.specs.State.{heldOrder}
 
 module _ (line : Line) where
-  pub held-long : longest < line .length → refusing unreadable ≡ heldOrder line
+  pub held-long : maxLineBytes < line .length → refusing unreadable ≡ heldOrder line
   unfolding heldOrder
-  held-long h = rw (lt-ltb longest (line .length) h)
+  held-long h = rw (lt-ltb maxLineBytes (line .length) h)
 
-  pub held-short : line .length ≤ longest → (r : Reading) → reading (bytesOf line) ≡ r → orderTo r ≡ heldOrder line
+  pub held-short : line .length ≤ maxLineBytes → (r : Reading) → reading (bytesOf line) ≡ r → orderTo r ≡ heldOrder line
   unfolding heldOrder
-  held-short h r e = rw (le-ltb longest (line .length) h) (ap orderTo (sym e))
+  held-short h r e = rw (le-ltb maxLineBytes (line .length) h) (ap orderTo (sym e))
 
 -- a reading that is neither `Outside` nor `Read`
 pub neither : (r : Reading) → OneOf (0 ∷ 2 ∷ []) (tagOf reading-type r) → OneOf (1 ∷ 2 ∷ []) (tagOf reading-type r) → r ≡ Unreadable

@@ -9,9 +9,9 @@ use lib.ListN.{length, length-append}
 use borrow.Author.Tests.{le-ltb, lt-ltb, leb-true, leb-false}
 use Rattle.log_entry.specs.Refusal.{noPlace, unreadable}
 use Rattle.text_lines.specs.declared.Line.{Line}
-use Rattle.text_lines.specs.Feed.{fed, fedLines, finished, fresh}
-use Rattle.text_lines.specs.Lines.{lines, most}
-use Rattle.text_lines.proofs.Feeding.{all-is-joined, fedAll, held-is-line, joined}
+use Rattle.text_lines.specs.Feed.{fed, fedAll, fedLines, finished, fresh, joined}
+use Rattle.text_lines.specs.Lines.{lines, maxLines}
+use Rattle.text_lines.proofs.Feeding.{all-is-joined, held-is-line}
 use Rattle.text_lines.proofs.Stream.{Holds, stream-is-lines}
 use Rattle.text_step.specs.Step.{reading}
 use Rattle.world_engine.specs.declared.Order.{Order}
@@ -24,32 +24,32 @@ unfolding heldOrder orderOf
 held-order line b h = held-is-line (refusing unreadable) (λ (s : List ℕ). orderTo (reading s)) line b h
 
 abbrev withBytes : List Order → List ℕ → List Order
-withBytes os b = os ++ cond (leb most (length os)) (refusing noPlace) (orderOf b) ∷ []
+withBytes os b = os ++ cond (leb maxLines (length os)) (refusing noPlace) (orderOf b) ∷ []
 
 meets : (os : List Order) (line : Line) (b : List ℕ) → Holds line b → withLine os line ≡ withBytes os b
-meets os line b h = ap (λ (o : Order). os ++ cond (leb most (length os)) (refusing noPlace) o ∷ []) (held-order line b h)
+meets os line b h = ap (λ (o : Order). os ++ cond (leb maxLines (length os)) (refusing noPlace) o ∷ []) (held-order line b h)
 
 lines-over : (os : List Order) (ls : List (List ℕ)) → over os ≡ true → fedLines over withBytes os ls ≡ os
 unfolding fedLines
 lines-over os [] h = refl
 lines-over os (l ∷ ls) h = rw h
 
-lines-ask : (os : List Order) (ls : List (List ℕ)) → length os ≤ most → fedLines over withBytes os ls ≡ os ++ ordersFrom (length os) ls
+lines-ask : (os : List Order) (ls : List (List ℕ)) → length os ≤ maxLines → fedLines over withBytes os ls ≡ os ++ ordersFrom (length os) ls
 unfolding fedLines ordersFrom
 lines-ask os [] h = sym (append-nil os)
-lines-ask os (l ∷ ls) h = rw (le-ltb most (length os) h) (go (leb most (length os)) refl (lines-ask (os ++ orderOf l ∷ []) ls))
+lines-ask os (l ∷ ls) h = rw (le-ltb maxLines (length os) h) (go (leb maxLines (length os)) refl (lines-ask (os ++ orderOf l ∷ []) ls))
   where
     longer : (o : Order) → length (os ++ o ∷ []) ≡ suc (length os)
     longer o = length-append os (o ∷ []) ∙ omega arith
 
-    go : (b : Bool) → leb most (length os) ≡ b
-        → (length (os ++ orderOf l ∷ []) ≤ most → fedLines over withBytes (os ++ orderOf l ∷ []) ls ≡ (os ++ orderOf l ∷ []) ++ ordersFrom (length (os ++ orderOf l ∷ [])) ls)
+    go : (b : Bool) → leb maxLines (length os) ≡ b
+        → (length (os ++ orderOf l ∷ []) ≤ maxLines → fedLines over withBytes (os ++ orderOf l ∷ []) ls ≡ (os ++ orderOf l ∷ []) ++ ordersFrom (length (os ++ orderOf l ∷ [])) ls)
         → fedLines over withBytes (os ++ cond b (refusing noPlace) (orderOf l) ∷ []) ls ≡ os ++ cond b (refusing noPlace ∷ []) (orderOf l ∷ ordersFrom (suc (length os)) ls)
     go true k ih =
-        let m : most ≤ length os = leb-true most (length os) k in
-        lines-over (os ++ refusing noPlace ∷ []) ls (lt-ltb most (length (os ++ refusing noPlace ∷ [])) (omega (arith, longer (refusing noPlace))))
+        let m : maxLines ≤ length os = leb-true maxLines (length os) k in
+        lines-over (os ++ refusing noPlace ∷ []) ls (lt-ltb maxLines (length (os ++ refusing noPlace ∷ [])) (omega (arith, longer (refusing noPlace))))
     go false k ih =
-        let m : length os < most = leb-false most (length os) k in
+        let m : length os < maxLines = leb-false maxLines (length os) k in
         ih (omega (arith, longer (orderOf l)))
         ∙ append-assoc os (orderOf l ∷ []) (ordersFrom (length (os ++ orderOf l ∷ [])) ls)
         ∙ ap (λ (n : ℕ). os ++ (orderOf l ∷ ordersFrom n ls)) (longer (orderOf l))

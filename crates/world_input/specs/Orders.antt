@@ -6,7 +6,7 @@ use lib.Dec.{leb, ltb}
 use lib.ListN.{length}
 use Rattle.log_entry.specs.Refusal.{accepted, noPlace, outsideLimits, unreadable}
 use Rattle.model_steps.specs.declared.Step.the-variants.{Setup}
-use Rattle.text_lines.specs.Lines.{lines, longest, most}
+use Rattle.text_lines.specs.Lines.{lines, maxLineBytes, maxLines}
 use Rattle.text_step.specs.declared.Reading.{Reading}
 use Rattle.text_step.specs.declared.Reading.the-variants.{Read, Outside, Unreadable}
 use Rattle.text_step.specs.Step.{reading}
@@ -21,15 +21,16 @@ orderTo (Read s) = record { refused = accepted; step = s }
 orderTo Outside = refusing outsideLimits
 orderTo Unreadable = refusing unreadable
 
--- "a line that does not read as a step of this program, or is over 100 bytes without its LF" is answered 1, one with a number that no byte
--- holds 2; every other asks for its step
+-- "a line that does not read as a step of this program, or is over 100 bytes without its LF" is
+-- answered 1, one with a number that no byte holds 2; every other asks for its step
 unfoldable pub orderOf : List ℕ → Order
-orderOf line = cond (ltb longest (length line)) (refusing unreadable) (orderTo (reading line))
+orderOf line = cond (ltb maxLineBytes (length line)) (refusing unreadable) (orderTo (reading line))
 
--- "line 1,001, good or bad, is answered 6 and ends the reading": what lines ask for, behind n others
+-- "line 1,001, good or bad, is answered 6 and ends the reading": what lines ask for after n
+-- others
 unfoldable pub ordersFrom : ℕ → List (List ℕ) → List Order
 ordersFrom n [] = []
-ordersFrom n (l ∷ ls) = cond (leb most n) (refusing noPlace ∷ []) (orderOf l ∷ ordersFrom (suc n) ls)
+ordersFrom n (l ∷ ls) = cond (leb maxLines n) (refusing noPlace ∷ []) (orderOf l ∷ ordersFrom (suc n) ls)
 
 -- what an input asks for
 abbrev pub ordersOf : List ℕ → List Order

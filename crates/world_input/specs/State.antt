@@ -8,7 +8,7 @@ use Rattle.log_entry.specs.Refusal.{noPlace, unreadable}
 use Rattle.text_lines.specs.declared.Line.{Line}
 use Rattle.text_lines.specs.Feed.{Fed}
 use Rattle.text_lines.specs.Line.{bytesOf, tooLong}
-use Rattle.text_lines.specs.Lines.{most}
+use Rattle.text_lines.specs.Lines.{maxLines}
 use Rattle.text_step.specs.Step.{reading}
 use Rattle.world_engine.specs.declared.Order.{Order}
 use Rattle.world_input.specs.declared.Input.{Input}
@@ -19,13 +19,13 @@ use Rattle.world_input.specs.Orders.{orderTo, refusing}
 unfoldable pub heldOrder : Line → Order
 heldOrder line = cond (tooLong line) (refusing unreadable) (orderTo (reading (bytesOf line)))
 
--- and what it asks for behind n others
+-- and what it asks for after n others
 abbrev pub orderAt : ℕ → Line → Order
-orderAt n line = cond (leb most n) (refusing noPlace) (heldOrder line)
+orderAt n line = cond (leb maxLines n) (refusing noPlace) (heldOrder line)
 
 -- line 1,001 has been read
 abbrev pub over : List Order → Bool
-over os = ltb most (length os)
+over os = ltb maxLines (length os)
 
 abbrev pub withLine : List Order → Line → List Order
 withLine os line = os ++ orderAt (length os) line ∷ []

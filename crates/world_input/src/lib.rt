@@ -9,16 +9,17 @@ use log_entry::refusal::NO_PLACE;
 use log_entry::refusal::OUTSIDE_LIMITS;
 use log_entry::refusal::UNREADABLE;
 use model_steps::Step;
-use text_lines::LONGEST;
+use text_lines::ANSWERED_LINES;
 use text_lines::Line;
-use text_lines::MOST;
+use text_lines::MAX_LINE_BYTES;
+use text_lines::MAX_LINES;
 use text_step::Reading;
 use world_engine::Order;
 
 // What the lines so far ask for.
 pub struct Orders {
     pub count: u16,
-    pub orders: [Order; 1001],
+    pub orders: [Order; ANSWERED_LINES as usize],
 }
 
 // The orders, and the line that is gathered.
@@ -39,7 +40,7 @@ fn refuse(answer: u8) -> Order
 fn order_of(line: Line) -> Order
     ensures { λ r. ⌜ r ≡ heldOrder line ⌝ }
 {
-    if LONGEST < line.length {
+    if MAX_LINE_BYTES < line.length {
         return refuse(UNREADABLE);
     }
     let n = line.length as usize;
@@ -57,11 +58,11 @@ fn order_of(line: Line) -> Order
     }
 }
 
-// What the line asks for, behind so many others.
+// What the line asks for, after `count` others.
 fn order_at(count: u16, line: Line) -> Order
     ensures { λ r. ⌜ r ≡ orderAt count line ⌝ }
 {
-    if MOST <= count {
+    if MAX_LINES <= count {
         return refuse(NO_PLACE);
     }
     order_of(line)
@@ -74,13 +75,21 @@ impl Input {
         let none = refuse(ACCEPTED);
         let orders = Orders {
             count: 0,
-            orders: [none; 1001],
+            orders: [none; ANSWERED_LINES as usize],
         };
         let line = Line::none();
         Input {
             orders: orders,
             line: line,
         }
+    }
+
+    // Whether line 1,001 has been read, which ends the reading.
+    pub fn is_over(self) -> bool
+        ensures { λ r. ⌜ r ≡ over (ordersIn (self .orders)) ⌝ }
+    {
+        let orders = self.orders;
+        MAX_LINES < orders.count
     }
 
     // The input after a piece of any length.
@@ -92,7 +101,7 @@ impl Input {
         let mut at: usize = 0;
         while at < piece.len() {
             let n = orders.count;
-            if MOST < n {
+            if MAX_LINES < n {
                 return Input {
                     orders: orders,
                     line: line,
@@ -124,7 +133,7 @@ impl Input {
         let mut orders = self.orders;
         let line = self.line;
         let n = orders.count;
-        if MOST < n {
+        if MAX_LINES < n {
             return orders;
         }
         if line.length == 0 {

@@ -28,7 +28,8 @@ outcomeText proc tx outcome = cond (isOpen outcome) [] (heardLine proc tx outcom
 abbrev pub heardText : ℕ → Process → List ℕ
 heardText proc p = each (λ tx. outcomeText proc tx (getD (p .heard) tx (record { outcome = Open }) .outcome)) transactions
 
--- "for each process that took a restore `proc=1 store=0 position=2` and that restore's replay lines"
+-- "for each process that took a restore `proc=1 store=0 position=2` and that restore's replay
+-- lines"
 abbrev pub restoreLine : ℕ → ℕ → ℕ → List ℕ
 restoreLine proc store position = field (ascii "proc=") proc ++ field (ascii " store=") store ++ field (ascii " position=") position ++ end
 

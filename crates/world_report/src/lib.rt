@@ -1,11 +1,22 @@
-// What is printed of a world, line by line into a buffer. Each function answers the next place in the buffer.
+// What is printed of a world, line by line into a buffer. Each function answers the next place in
+// the buffer.
 ghost use Rattle.text_report.specs.Within.{Within};
 ghost use Rattle.world_report.specs.Longest.{longestWorld};
 ghost use Rattle.world_report.specs.Report.{worldText};
+use log_entry::limits::PROCESSES;
+use log_entry::limits::TRANSACTION_PLACES;
 use model_protocol::World;
+use model_steps::limits::COORDINATORS;
+use text_report::LOG_LINES;
 
 pub mod coordinators;
 pub mod processes;
+
+// No world has more lines: a coordinator's line and its log; for each process a line for each
+// transaction; and a restore's line with its replay.
+pub const WORLD_LINES: usize = COORDINATORS as usize * (1 + LOG_LINES)
+    + PROCESSES as usize * TRANSACTION_PLACES
+    + PROCESSES as usize * (1 + TRANSACTION_PLACES);
 
 // A world as it is printed.
 pub fn put_world(out: &mut [u8], at: usize, w: World) -> usize

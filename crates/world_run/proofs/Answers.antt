@@ -1,4 +1,5 @@
--- What each answer says of a line: which lines are answered 1, which 2, and that all others are texts of steps within the limits.
+-- What each answer says of a line: which lines are answered 1, which 2, and that all others are
+-- texts of steps within the limits.
 use Prim.Native.Nat.{ℕ, _≤_, _<_}
 use native.Mathlib.Omega.{arith}
 use mathlib.Core.Bool.{Bool, true, false, cond}
@@ -11,69 +12,60 @@ use borrow.Author.Tests.{eqb-true, le-ltb, lt-ltb}
 use Rattle.log_entry.specs.Refusal.{accepted, firstRefusal, outsideLimits, unreadable}
 use Rattle.model_agreement.proofs.Limits.{in-bounds}
 use Rattle.world_engine.specs.Orders.{ordered}
-use Rattle.text_lines.specs.Lines.{longest}
+use Rattle.text_lines.specs.Lines.{maxLineBytes}
 use Rattle.log_laws.proofs.Answers.{fresh, not-given}
 use Rattle.model_protocol.specs.declared.Parts.{Parts}
-use Rattle.model_protocol.specs.declared.Stepped.{Stepped}
 use Rattle.model_protocol.specs.declared.World.{World}
 use Rattle.model_protocol.specs.Step.{acceptorsCounted, answered, changed, changeOf, partsOf, placesIn, run, stepChecks, stepOf, stepRefusal}
 use Rattle.model_protocol.specs.World.{freshWorld}
 use Rattle.model_steps.specs.declared.Step.{Step}
 use Rattle.model_steps.specs.declared.Step.the-variants.{Setup, Request, Open, Propose, Deliver, Tell, Restore, Crash}
 use Rattle.model_steps.specs.Limits.{mostAcceptors, outsideStep}
-use Rattle.text_entry.specs.Seen.{most}
+use Rattle.text_ascii.specs.Decimal.{byteNumbers}
 use Rattle.text_step.specs.declared.Reading.{Reading}
 use Rattle.text_step.specs.declared.Reading.the-variants.{Read, Outside, Unreadable}
+use Rattle.text_step.specs.Claims.{IsText}
 use Rattle.text_step.specs.Step.{HasText, beyond, reading, readingOf, text}
-use Rattle.text_step.proofs.Agreement.{IsText, outside-line-is-text, read-line-is-text, text-reads-back}
+use Rattle.text_step.proofs.Agreement.{outside-line-is-text, read-line-is-text, text-reads-back}
 use Rattle.text_step.proofs.Beyond.{beyond-is-outside}
 use Rattle.world_input.specs.Orders.{orderOf, orderTo, refusing}
+use Rattle.world_run.specs.Claims.{Answered2IsOutside, FewCount, FewCounted, LongLineIsUnreadable, OtherLineIsUnreadable, TextIsTaken, TextOutsideLimits, lineTaken}
 
--- what a line is answered, and the world after it
-abbrev pub lineTaken : World → List ℕ → Stepped
-lineTaken w line = ordered w (orderOf line)
-
-short-line : (w : World) (line : List ℕ) → length line ≤ longest → lineTaken w line ≡ ordered w (orderTo (reading line))
+short-line : (w : World) (line : List ℕ) → length line ≤ maxLineBytes → lineTaken w line ≡ ordered w (orderTo (reading line))
 unfolding orderOf
-short-line w line h = rw (le-ltb longest (length line) h)
+short-line w line h = rw (le-ltb maxLineBytes (length line) h)
 
 outside-refused : (w : World) (s : Step) → outsideStep (acceptorsCounted (w .acceptors)) s ≡ true → stepOf w s ≡ answered w outsideLimits
 unfolding stepOf stepRefusal firstRefusal
 outside-refused w s h = rw h
 
--- In every world that steps lead to, no more acceptors count than a byte holds.
-pub few-counted : (steps : List Step) → acceptorsCounted (run freshWorld steps .acceptors) ≤ most
+pub few-counted : FewCounted
 few-counted steps = go (eqb (run freshWorld steps .acceptors) 0)
   where
-    go : (b : Bool) → cond b mostAcceptors (run freshWorld steps .acceptors) ≤ most
+    go : (b : Bool) → cond b mostAcceptors (run freshWorld steps .acceptors) ≤ byteNumbers
     go true = omega arith
     go false = omega (arith, in-bounds steps .acceptors)
 
-module _ (w : World) (few : acceptorsCounted (w .acceptors) ≤ most) where
-  taken : (s : Step) → HasText s → (b : Bool) → beyond s ≡ b → ordered w (orderTo (cond b Outside (Read s))) ≡ stepOf w s
-  taken s t true h = sym (outside-refused w s (beyond-is-outside (acceptorsCounted (w .acceptors)) few s t h))
-  taken s t false h = refl
+taken : (w : World) → FewCount w → (s : Step) → HasText s → (b : Bool) → beyond s ≡ b → ordered w (orderTo (cond b Outside (Read s))) ≡ stepOf w s
+taken w few s t true h = sym (outside-refused w s (beyond-is-outside (acceptorsCounted (w .acceptors)) few s t h))
+taken w few s t false h = refl
 
-  -- The text of a step, if it is not over 100 bytes, is taken: its answer is the world's.
-  pub text-is-taken : (s : Step) → HasText s → length (text s) ≤ longest → lineTaken w (text s) ≡ stepOf w s
-  text-is-taken s t h =
-      short-line w (text s) h
-      ∙ ap (λ (o : Option Step). ordered w (orderTo (readingOf o))) (text-reads-back s t)
-      ∙ taken s t (beyond s) refl
+pub text-is-taken : TextIsTaken
+text-is-taken w few s t h =
+    short-line w (text s) h
+    ∙ ap (λ (o : Option Step). ordered w (orderTo (readingOf o))) (text-reads-back s t)
+    ∙ taken w few s t (beyond s) refl
 
-  -- The text of a step with a number outside its limits is answered 2, and the world stays as it was.
-  pub text-outside-limits : (s : Step) → HasText s → length (text s) ≤ longest → outsideStep (acceptorsCounted (w .acceptors)) s ≡ true → lineTaken w (text s) ≡ answered w outsideLimits
-  text-outside-limits s t h o = text-is-taken s t h ∙ outside-refused w s o
+pub text-outside-limits : TextOutsideLimits
+text-outside-limits w few s t h o = text-is-taken w few s t h ∙ outside-refused w s o
 
--- A line over 100 bytes is answered 1, however long it is, and the world stays as it was.
-pub long-line-is-unreadable : (w : World) (line : List ℕ) → longest < length line → lineTaken w line ≡ answered w unreadable
+pub long-line-is-unreadable : LongLineIsUnreadable
 unfolding orderOf
-long-line-is-unreadable w line h = rw (lt-ltb longest (length line) h)
+long-line-is-unreadable w line h = rw (lt-ltb maxLineBytes (length line) h)
 
--- Every line that is the text of no step is answered 1, and the world stays as it was.
-pub other-line-is-unreadable : (w : World) (line : List ℕ) → ((s : Step) → IsText line s → ⊥) → lineTaken w line ≡ answered w unreadable
+pub other-line-is-unreadable : OtherLineIsUnreadable
 unfolding orderOf
-other-line-is-unreadable w line h = go (ltb longest (length line)) (reading line) refl
+other-line-is-unreadable w line h = go (ltb maxLineBytes (length line)) (reading line) refl
   where
     go : (b : Bool) (r : Reading) → reading line ≡ r → ordered w (cond b (refusing unreadable) (orderTo r)) ≡ answered w unreadable
     go true r k = refl
@@ -114,11 +106,9 @@ answer-is-refusal w s = go (eqb (stepRefusal p s) accepted) refl
     go true k = sym (eqb-true (stepRefusal p s) accepted k)
     go false k = refl
 
--- A line answered 2 is the text of a step with natural numbers of any size, one of them outside its limits.
-pub answered-2-is-outside : (w : World) → acceptorsCounted (w .acceptors) ≤ most → (line : List ℕ) → lineTaken w line .answer ≡ outsideLimits
-    → (s : Step) × IsText line s × (outsideStep (acceptorsCounted (w .acceptors)) s ≡ true)
+pub answered-2-is-outside : Answered2IsOutside
 unfolding orderOf
-answered-2-is-outside w few line h = go (ltb longest (length line)) (reading line) refl h
+answered-2-is-outside w few line h = go (ltb maxLineBytes (length line)) (reading line) refl h
   where
     go : (b : Bool) (r : Reading) → reading line ≡ r → ordered w (cond b (refusing unreadable) (orderTo r)) .answer ≡ outsideLimits
         → (s : Step) × IsText line s × (outsideStep (acceptorsCounted (w .acceptors)) s ≡ true)

@@ -12,7 +12,7 @@ use Rattle.world_engine.specs.declared.Order.{Order}
 use Rattle.world_engine.specs.Orders.{advanced, answersTo, blockOrders, ordered, ordersOf as Block·ordersOf, worldAfter}
 use Rattle.text_lines.specs.declared.Answers.{Answers}
 use Rattle.text_lines.specs.Answers.{answersOf, noAnswers, noted}
-use Rattle.text_lines.specs.Lines.{most}
+use Rattle.text_lines.specs.Lines.{answeredLines, maxLines}
 use Rattle.text_lines.proofs.Noting.{Sound, noted-answers, noted-count, noted-sound}
 use Rattle.model_protocol.specs.declared.World.{World}
 use Rattle.model_protocol.specs.World.{freshWorld}
@@ -64,7 +64,7 @@ module _ (os : List Order) (at : ℕ) (b : Block) (i : ℕ) (f : Filling os at b
       }
 
 -- how many orders there are
-pub orders-count : (o : Orders) → length (o .orders) ≡ 1001 → length (ordersIn o) ≡ min (o .count) 1001
+pub orders-count : (o : Orders) → length (o .orders) ≡ answeredLines → length (ordersIn o) ≡ min (o .count) answeredLines
 orders-count o h = length-take (o .count) (o .orders) ∙ ap (λ (n : ℕ). min (o .count) n) h
 
 -- ---- noting answers
@@ -76,22 +76,22 @@ pub noted-next : (a : Answers) (ns : List ℕ) (i : ℕ) → i < length ns → n
 noted-next a ns i h = ap (notedAll a) (drop-cons ns i 0 h) ∙ ap (λ (n : ℕ). notedAll (noted a (getD ns i 0)) (drop n ns)) (sym (add-one i))
 
 -- as long as there is room, they are the answers with these behind
-pub all-noted : (a : Answers) (ns : List ℕ) → Sound a → a .count + length ns ≤ most + 1 → answersOf (notedAll a ns) ≡ answersOf a ++ ns
+pub all-noted : (a : Answers) (ns : List ℕ) → Sound a → a .count + length ns ≤ answeredLines → answersOf (notedAll a ns) ≡ answersOf a ++ ns
 all-noted a [] h k = sym (append-nil (answersOf a))
 all-noted a (n ∷ ns) h k =
-    let c : a .count ≤ most = omega arith in
+    let c : a .count ≤ maxLines = omega arith in
     all-noted (noted a n) ns (noted-sound a n h c) (omega (arith, noted-count a n c))
     ∙ ap (λ (xs : List ℕ). xs ++ ns) (noted-answers a n h c)
     ∙ append-assoc (answersOf a) (n ∷ []) ns
 
-pub all-sound : (a : Answers) (ns : List ℕ) → Sound a → a .count + length ns ≤ most + 1 → Sound (notedAll a ns)
+pub all-sound : (a : Answers) (ns : List ℕ) → Sound a → a .count + length ns ≤ answeredLines → Sound (notedAll a ns)
 all-sound a [] h k = h
-all-sound a (n ∷ ns) h k = let c : a .count ≤ most = omega arith in all-sound (noted a n) ns (noted-sound a n h c) (omega (arith, noted-count a n c))
+all-sound a (n ∷ ns) h k = let c : a .count ≤ maxLines = omega arith in all-sound (noted a n) ns (noted-sound a n h c) (omega (arith, noted-count a n c))
 
-pub all-count : (a : Answers) (ns : List ℕ) → a .count + length ns ≤ most + 1 → notedAll a ns .count ≡ a .count + length ns
+pub all-count : (a : Answers) (ns : List ℕ) → a .count + length ns ≤ answeredLines → notedAll a ns .count ≡ a .count + length ns
 all-count a [] k = omega arith
 all-count a (n ∷ ns) k =
-    let c : a .count ≤ most = omega arith in
+    let c : a .count ≤ maxLines = omega arith in
     let e : noted a n .count ≡ a .count + 1 = noted-count a n c in
     all-count (noted a n) ns (omega arith) ∙ omega arith
 
@@ -129,7 +129,7 @@ told : (vs : List ℕ) (n : ℕ) → n ≡ length vs → length vs ≤ blockOrde
 told vs n e h =
     (λ i. take (e i) (sets-eq vs (replicate blockOrders 0) 0 (omega arith) i)) ∙ take-append-seam vs (drop (0 + length vs) (replicate blockOrders 0))
 
-going-more : (os : List Order) (at : ℕ) (w : World) (a : Answers) (b : Block) → length os ≤ most + 1 → BlockAt os at b → Going os at w a
+going-more : (os : List Order) (at : ℕ) (w : World) (a : Answers) (b : Block) → length os ≤ answeredLines → BlockAt os at b → Going os at w a
     → Going os (at + blockOrders) (worldAfter w (Block·ordersOf b)) (notedAll a (take (b .count) (sets (replicate blockOrders 0) 0 (answersTo w (Block·ordersOf b)))))
 going-more os at w a b short block g =
     let xs = Block·ordersOf b in
@@ -140,7 +140,7 @@ going-more os at w a b short block g =
     let few : length vs ≤ blockOrders = omega (arith, block .count, counted, length-take blockOrders (drop at os)) in
     let noting : vs ≡ take (b .count) (sets (replicate blockOrders 0) 0 vs) = sym (told vs (b .count) counted few) in
     let lengths : length (drop at os) ≡ length vs + length ys = ap length split ∙ length-append xs ys ∙ ap (λ (n : ℕ). n + length ys) (sym (answers-count w xs)) in
-    let room : a .count + length vs ≤ most + 1 = omega (arith, g .count, lengths) in
+    let room : a .count + length vs ≤ answeredLines = omega (arith, g .count, lengths) in
     subst (λ (ns : List ℕ). Going os (at + blockOrders) (worldAfter w xs) (notedAll a ns)) noting (record {
       sound = all-sound a vs (g .sound) room;
       count = omega (arith, all-count a vs room, g .count, lengths);
@@ -152,7 +152,7 @@ going-more os at w a b short block g =
           ∙ g .answers;
     })
 
-pub going-next : (os : List Order) (at : ℕ) (w : World) (a : Answers) (b : Block) (after : Advanced) (all : Answers) → length os ≤ most + 1 → BlockAt os at b
+pub going-next : (os : List Order) (at : ℕ) (w : World) (a : Answers) (b : Block) (after : Advanced) (all : Answers) → length os ≤ answeredLines → BlockAt os at b
     → after ≡ advanced w b → all ≡ notedAll a (take (b .count) (after .answers)) → Going os at w a → Going os (at + blockOrders) (after .world) all
 unfolding advanced
 going-next os at w a b after all short block e n g =

@@ -13,7 +13,7 @@ use Rattle.model_agreement.proofs.Theorem.{demand-3}
 use Rattle.world_engine.specs.declared.Order.{Order}
 use Rattle.world_engine.specs.Orders.{answersTo, worldAfter}
 use Rattle.log_entry.specs.Refusal.{noPlace, unreadable}
-use Rattle.text_lines.specs.Lines.{lines, longest, most}
+use Rattle.text_lines.specs.Lines.{lines, maxLineBytes, maxLines}
 use Rattle.model_protocol.specs.declared.World.{World}
 use Rattle.model_protocol.specs.Step.{run, stepOf}
 use Rattle.model_protocol.specs.World.{freshWorld}
@@ -23,14 +23,15 @@ use Rattle.text_step.specs.declared.Reading.the-variants.{Read, Outside, Unread
 use Rattle.text_step.specs.Step.{reading}
 use Rattle.world_input.specs.Orders.{orderOf, orderTo, ordersFrom, ordersOf, refusing}
 use Rattle.world_run.specs.declared.Session.{Session}
+use Rattle.world_run.specs.Claims.{AgreedPrints, InputAgrees, InputRuns}
 use Rattle.world_run.specs.Program.{printed, world, worldFor}
-use Rattle.world_run.specs.Ran.{Agreed, Ran, output}
+use Rattle.world_run.specs.Ran.{Agreed, Ran}
 use Rattle.world_run.specs.Steps.{stepIn, stepOfLine, stepsIn, stepsOf}
 
 -- the world after a line's order is that after its step, if it has one
 line-runs : (w : World) (l : List ℕ) (os : List Order) (ss : List Step) → ((v : World) → worldAfter v os ≡ run v ss) → worldAfter w (orderOf l ∷ os) ≡ run w (stepOfLine l ++ ss)
 unfolding orderOf worldAfter run
-line-runs w l os ss later = go (ltb longest (length l)) (reading l)
+line-runs w l os ss later = go (ltb maxLineBytes (length l)) (reading l)
   where
     go : (b : Bool) (r : Reading) → worldAfter w (cond b (refusing unreadable) (orderTo r) ∷ os) ≡ run w (cond b [] (stepIn r) ++ ss)
     go true r = later w
@@ -51,25 +52,23 @@ first-steps : (k j : ℕ) (l : List ℕ) (ls : List (List ℕ)) → k ≡ suc j 
 unfolding stepsIn
 first-steps k j l ls e = rw e
 
-lines-run : (ls : List (List ℕ)) (n : ℕ) (w : World) → worldAfter w (ordersFrom n ls) ≡ run w (stepsIn (take (most - n) ls))
+lines-run : (ls : List (List ℕ)) (n : ℕ) (w : World) → worldAfter w (ordersFrom n ls) ≡ run w (stepsIn (take (maxLines - n) ls))
 unfolding ordersFrom
-lines-run [] n w = no-lines (most - n) w
-lines-run (l ∷ ls) n w = go (leb most n) refl (lines-run ls (suc n))
+lines-run [] n w = no-lines (maxLines - n) w
+lines-run (l ∷ ls) n w = go (leb maxLines n) refl (lines-run ls (suc n))
   where
-    go : (b : Bool) → leb most n ≡ b → ((v : World) → worldAfter v (ordersFrom (suc n) ls) ≡ run v (stepsIn (take (most - suc n) ls)))
-        → worldAfter w (cond b (refusing noPlace ∷ []) (orderOf l ∷ ordersFrom (suc n) ls)) ≡ run w (stepsIn (take (most - n) (l ∷ ls)))
-    go true k later = let m : most ≤ n = leb-true most n k in line-1001 w (most - n) (l ∷ ls) (omega arith)
+    go : (b : Bool) → leb maxLines n ≡ b → ((v : World) → worldAfter v (ordersFrom (suc n) ls) ≡ run v (stepsIn (take (maxLines - suc n) ls)))
+        → worldAfter w (cond b (refusing noPlace ∷ []) (orderOf l ∷ ordersFrom (suc n) ls)) ≡ run w (stepsIn (take (maxLines - n) (l ∷ ls)))
+    go true k later = let m : maxLines ≤ n = leb-true maxLines n k in line-1001 w (maxLines - n) (l ∷ ls) (omega arith)
     go false k later =
-        let m : n < most = leb-false most n k in
-        line-runs w l (ordersFrom (suc n) ls) (stepsIn (take (most - suc n) ls)) later
-        ∙ ap (run w) (first-steps (most - n) (most - suc n) l ls (omega arith))
+        let m : n < maxLines = leb-false maxLines n k in
+        line-runs w l (ordersFrom (suc n) ls) (stepsIn (take (maxLines - suc n) ls)) later
+        ∙ ap (run w) (first-steps (maxLines - n) (maxLines - suc n) l ls (omega arith))
 
--- The world of an input is the fresh world after the input's steps.
-pub input-runs : (input : List ℕ) → worldFor input ≡ run freshWorld (stepsOf input)
+pub input-runs : InputRuns
 input-runs input = lines-run (lines input) 0 freshWorld
 
--- Demand 3 holds of the world of an input, for the input's steps.
-pub input-agrees : (input : List ℕ) → Claim (stepsOf input) (history (stepsOf input)) (worldFor input)
+pub input-agrees : InputAgrees
 input-agrees input = subst (Claim (stepsOf input) (history (stepsOf input))) (sym (input-runs input)) (demand-3 (stepsOf input))
 
 -- A session after what an input asks for is the input's.
@@ -82,7 +81,6 @@ ran-agrees input os s e r =
       demand-3 = subst (Claim (stepsOf input) (history (stepsOf input))) (sym w) (input-agrees input);
     }
 
--- What is printed of it is what `world` writes.
-pub agreed-prints : (input : List ℕ) (s : Session) → Agreed input s → output s ≡ world input
+pub agreed-prints : AgreedPrints
 unfolding world
 agreed-prints input s a = λ i. printed (a .answers i) (a .world i)

@@ -1,3 +1,4 @@
+pub mod Claims
 pub mod Program
 pub mod Ran
 pub mod Steps

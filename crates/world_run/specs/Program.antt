@@ -8,7 +8,8 @@ use Rattle.world_report.specs.Report.{worldText}
 use Rattle.world_engine.specs.Orders.{answersTo, worldAfter}
 use Rattle.world_input.specs.Orders.{ordersOf}
 
--- "The first step gets the fresh world [..]. Each later one gets the world that the last one handed back"
+-- "The first step gets the fresh world [..]. Each later one gets the world that the last one handed
+-- back"
 abbrev pub answersFor : List ℕ → List ℕ
 answersFor input = answersTo freshWorld (ordersOf input)
 

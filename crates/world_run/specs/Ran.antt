@@ -12,12 +12,14 @@ use Rattle.text_lines.specs.declared.Answers.{Answers}
 use Rattle.text_lines.specs.Answers.{answersOf, noted}
 use Rattle.text_lines.specs.Feed.{fed, fresh}
 use Rattle.model_protocol.specs.World.{freshWorld}
+use Rattle.text_report.specs.Printed.{Printed}
 use Rattle.text_report.specs.Within.{longestAnswers}
 use Rattle.world_report.specs.Longest.{longestWorld}
 use Rattle.world_input.specs.declared.Input.{Input}
 use Rattle.world_input.specs.State.{over, stateOf, withLine}
+use Rattle.world_run.specs.declared.Output.{Output}
 use Rattle.world_run.specs.declared.Session.{Session}
-use Rattle.world_run.specs.Program.{answersFor, printed, worldFor}
+use Rattle.world_run.specs.Program.{answersFor, printed, world, worldFor}
 use Rattle.world_run.specs.Steps.{stepsOf}
 
 -- the session after these orders
@@ -49,6 +51,19 @@ notedAll a (n ∷ ns) = notedAll (noted a n) ns
 abbrev pub output : Session → List ℕ
 output s = printed (answersOf (s .answers)) (s .world)
 
--- all that any session prints has room in so many bytes
-abbrev pub room : ℕ
-room = longestAnswers + longestWorld
+-- no output is longer
+abbrev pub longestOutput : ℕ
+longestOutput = longestAnswers + longestWorld
+
+-- the output is this text, all of it
+abbrev pub Prints : List ℕ → Output → Type 0
+Prints text o = Printed longestOutput text (o .bytes) (o .count)
+
+-- The output is what `world` writes for these bytes. Demand 3 holds for the world that it shows.
+pub record PrintsAgreed (input : List ℕ) (o : Output) : Type 0 where
+  pub prints : Prints (world input) o
+  pub demand-3 : Claim (stepsOf input) (history (stepsOf input)) (worldFor input)
+
+-- the output for the bytes that the input was fed, whatever they are
+abbrev pub PrintsFed : Input → Output → Type 0
+PrintsFed i o = (bytes : List ℕ) → stateOf i ≡ fed over withLine (fresh []) bytes → PrintsAgreed bytes o

@@ -5,7 +5,7 @@ use mathlib.Core.List.{List, [], _∷_, _++_}
 use lib.Dec.{ltb}
 use lib.ListN.{length, take}
 use Rattle.model_steps.specs.declared.Step.{Step}
-use Rattle.text_lines.specs.Lines.{lines, longest, most}
+use Rattle.text_lines.specs.Lines.{lines, maxLineBytes, maxLines}
 use Rattle.text_step.specs.declared.Reading.{Reading}
 use Rattle.text_step.specs.declared.Reading.the-variants.{Read, Outside, Unreadable}
 use Rattle.text_step.specs.Step.{reading}
@@ -17,7 +17,7 @@ stepIn Outside = []
 stepIn Unreadable = []
 
 abbrev pub stepOfLine : List ℕ → List Step
-stepOfLine line = cond (ltb longest (length line)) [] (stepIn (reading line))
+stepOfLine line = cond (ltb maxLineBytes (length line)) [] (stepIn (reading line))
 
 unfoldable pub stepsIn : List (List ℕ) → List Step
 stepsIn [] = []
@@ -25,4 +25,4 @@ stepsIn (l ∷ ls) = stepOfLine l ++ stepsIn ls
 
 -- the steps among the first 1,000 lines, in their order
 abbrev pub stepsOf : List ℕ → List Step
-stepsOf input = stepsIn (take most (lines input))
+stepsOf input = stepsIn (take maxLines (lines input))

@@ -2,16 +2,19 @@
 ghost use Prim.Native.Nat.{min};
 ghost use mathlib.Core.Path.{_≡_};
 ghost use lib.ListN.{take};
-ghost use Rattle.text_report.specs.Printed.{Printed};
+ghost use Rattle.text_lines.specs.Lines.{answeredLines};
 ghost use Rattle.world_input.specs.State.{ordersIn};
-ghost use Rattle.world_run.specs.Ran.{Agreed, AgreedOnFed, BlockAt, Ran, notedAll, output, room};
+ghost use Rattle.world_run.specs.Ran.{AgreedOnFed, BlockAt, PrintsFed, Ran, notedAll};
 use model_protocol::World;
+use text_lines::ANSWERED_LINES;
 use text_lines::Answers;
+use text_report::LINE_BYTES;
 use world_engine::Block;
 use world_engine::advance::advance;
 use world_engine::fresh::fresh_world;
 use world_input::Input;
 use world_input::Orders;
+use world_report::WORLD_LINES;
 
 // The world, and the answers to the lines.
 pub struct Session {
@@ -30,7 +33,7 @@ fn block_at(orders: Orders, at: u16) -> Block
     };
     let mut i = at;
     while block.count < 32 {
-        if 1001 <= i {
+        if ANSWERED_LINES <= i {
             return block;
         }
         if orders.count <= i {
@@ -45,7 +48,7 @@ fn block_at(orders: Orders, at: u16) -> Block
     block
 }
 
-// The first of these answers noted, so many of them.
+// The first `count` of these answers noted.
 fn note_all(mut answers: Answers, more: [u8; 32], count: u8) -> Answers
     ensures { λ r. ⌜ r ≡ notedAll answers (take count more) ⌝ }
 {
@@ -61,12 +64,12 @@ fn note_all(mut answers: Answers, more: [u8; 32], count: u8) -> Answers
 }
 
 fn at_most(count: u16) -> u16
-    ensures { λ r. ⌜ r ≡ min count 1001 ⌝ }
+    ensures { λ r. ⌜ r ≡ min count answeredLines ⌝ }
 {
-    if count < 1001 {
+    if count < ANSWERED_LINES {
         return count;
     }
-    1001
+    ANSWERED_LINES
 }
 
 // The fresh world after these orders.
@@ -99,20 +102,27 @@ pub fn run_fed(input: Input) -> Session
     run(orders)
 }
 
-// The session of a whole input.
-pub fn run_input(input: &[u8]) -> Session
-    ensures { λ r. ⌜ Agreed (now (input .entry)) r ⌝ }
-{
-    let fresh = Input::fresh();
-    run_fed(fresh.feed(input))
+// No output is longer: 1,001 answers, and the lines of a world.
+pub const OUTPUT_BYTES: usize = LINE_BYTES * (ANSWERED_LINES as usize + WORLD_LINES);
+
+// What the program prints: the first `count` bytes.
+pub struct Output {
+    pub bytes: [u8; OUTPUT_BYTES],
+    pub count: usize,
 }
 
-// What a session prints, put into a buffer.
-pub fn put_output(out: &mut [u8], session: Session) -> usize
-    ensures { λ r. ⌜ Printed room (now (out .entry)) (output session) (now (out .exit)) r ⌝ }
+// What is printed for the bytes that were fed.
+pub fn output_of(input: Input) -> Output
+    ensures { λ r. ⌜ PrintsFed input r ⌝ }
 {
+    let session = run_fed(input);
     let answers = session.answers;
     let world = session.world;
-    let at = text_report::put_answers(out, 0, answers);
-    world_report::put_world(out, at, world)
+    let mut bytes = [0; OUTPUT_BYTES];
+    let at = text_report::put_answers(&mut bytes, 0, answers);
+    let count = world_report::put_world(&mut bytes, at, world);
+    Output {
+        bytes: bytes,
+        count: count,
+    }
 }

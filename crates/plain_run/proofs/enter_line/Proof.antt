@@ -3,7 +3,8 @@ use mathlib.Core.Path.{sym, _∙_}
 use lib.ListN.{length}
 use lib.Seq.{length-take-le}
 use Rattle.text_lines.proofs.Good.{bytes-length}
-use Rattle.plain_run.proofs.Entering.{held-long, held-unread, held-outside, held-read, neither}
+use Rattle.text_entry.specs.declared.Reading.the-variants.{Outside, Unreadable}
+use Rattle.plain_run.proofs.Entering.{held-long, held-short, neither}
 use borrow.Author.Needs.{needs}
 use Rattle.plain_run.proofs.enter_line.Statement.{statement}
 use Rattle.plain_run.proofs.enter_line.Tie as tie
@@ -29,7 +30,7 @@ enum-told c = search needs
 returns-2 : tie.Need-returns-2
 returns-2 c =
     let a = c .before .before .before .before .before .before .before .before .args in
-    held-outside (a .log) (a .line) (c .before .before .before .before .before .before .if1 .left) (sym (c .before .before .read-entry .ensures) ∙ c .enum-told .given .1)
+    held-short (a .log) (a .line) (c .before .before .before .before .before .before .if1 .left) Outside (sym (c .before .before .read-entry .ensures) ∙ c .enum-told .given .1)
 
 enum-known-reading : tie.Need-enum-known-reading
 enum-known-reading c = search needs
@@ -37,7 +38,7 @@ enum-known-reading c = search needs
 returns-3 : tie.Need-returns-3
 returns-3 c =
     let a = c .before .before .before .before .before .before .before .before .args in
-    held-unread (a .log) (a .line) (c .before .before .before .before .before .before .if1 .left) (sym (c .before .before .read-entry .ensures) ∙ neither (c .before .before .read-entry .result) (c .before .match .keys2) (c .match2 .keys2))
+    held-short (a .log) (a .line) (c .before .before .before .before .before .before .if1 .left) Unreadable (sym (c .before .before .read-entry .ensures) ∙ neither (c .before .before .read-entry .result) (c .before .match .keys2) (c .match2 .keys2))
 
 enter-requires : tie.Need-enter-requires
 enter-requires c κs = search needs
@@ -45,7 +46,7 @@ enter-requires c κs = search needs
 returns-4 : tie.Need-returns-4
 returns-4 c =
     let a = c .before .before .before .before .before .before .before .before .before .before .before .args in
-    c .enter .ensures ∙ held-read (a .log) (a .line) (c .before .before .before .before .before .before .before .before .before .if1 .left) _ (sym (c .before .before .before .before .before .read-entry .ensures) ∙ c .before .before .reading .given .1)
+    c .enter .ensures ∙ held-short (a .log) (a .line) (c .before .before .before .before .before .before .before .before .before .if1 .left) _ (sym (c .before .before .before .before .before .read-entry .ensures) ∙ c .before .before .reading .given .1)
 
 pub enter-line-spec : {M : Type 1} → statement M
 enter-line-spec =

@@ -1,7 +1,8 @@
 use mathlib.Core.Path.{_∙_, ap}
-use Rattle.text_entry.specs.Kinds.{list, proc, say, upd}
+use Rattle.text_entry.specs.Kinds.{list, proc, say, upd, voteKind}
 use Rattle.text_entry.specs.Read.{Part, readField, valueAfter}
 use Rattle.text_entry.specs.Seen.{capped}
+use Rattle.text_entry.proofs.Follows.{are-parts}
 use borrow.Author.Needs.{needs}
 use Rattle.text_entry.proofs.vote_parts.Statement.{statement}
 use Rattle.text_entry.proofs.vote_parts.Tie as tie
@@ -42,8 +43,8 @@ slice-aggregate-keyed c = search needs
 keyed-requires : tie.Need-keyed-requires
 keyed-requires c κs = search needs
 
-two-digits-requires : tie.Need-two-digits-requires
-two-digits-requires c κs = search needs
+list-digits-requires : tie.Need-list-digits-requires
+list-digits-requires c κs = search needs
 
 slice-aggregate-keyed-2 : tie.Need-slice-aggregate-keyed-2
 slice-aggregate-keyed-2 c = search needs
@@ -60,29 +61,30 @@ slice-aggregate-keyed-3 c = search needs
 keyed-requires-3 : tie.Need-keyed-requires-3
 keyed-requires-3 c κs = search needs
 
-eight-digits-requires : tie.Need-eight-digits-requires
-eight-digits-requires c κs = search needs
+update-digits-requires : tie.Need-update-digits-requires
+update-digits-requires c κs = search needs
 
 returns : tie.Need-returns
-returns c = (
-  c .before .before .before .before .before .before .before .before .before .before .before .before .before .before .before .decimal .ensures ∙ ap (λ (p : Part). capped (readField proc p)) (c .before .before .before .before .before .before .before .before .before .before .before .before .before .before .before .before .before .named .ensures),
-  (
-    c .before .before .before .before .before .before .before .before .before .before .before .before .before .decimal2 .ensures,
-    (
-      c .before .before .before .before .before .before .before .before .before .before .before .decimal3 .ensures,
+returns c =
+    are-parts (voteKind .fields) _ _ (
+      c .before .before .before .before .before .before .before .before .before .before .before .before .before .before .before .decimal .ensures ∙ ap (λ (p : Part). capped (readField proc p)) (c .before .before .before .before .before .before .before .before .before .before .before .before .before .before .before .before .before .named .ensures),
       (
-        c .before .before .before .before .before .before .before .before .before .decimal4 .ensures,
+        c .before .before .before .before .before .before .before .before .before .before .before .before .before .decimal2 .ensures,
         (
-          c .before .before .before .before .before .before .two-digits .ensures ∙ ap (valueAfter (list .form)) (c .before .before .before .before .before .before .before .keyed .ensures),
+          c .before .before .before .before .before .before .before .before .before .before .before .decimal3 .ensures,
           (
-            c .before .before .before .said .ensures ∙ ap (valueAfter (say .form)) (c .before .before .before .before .keyed2 .ensures),
-            (c .eight-digits .ensures ∙ ap (valueAfter (upd .form)) (c .before .keyed3 .ensures), tt),
+            c .before .before .before .before .before .before .before .before .before .decimal4 .ensures,
+            (
+              c .before .before .before .before .before .before .list-digits .ensures ∙ ap (valueAfter (list .form)) (c .before .before .before .before .before .before .before .keyed .ensures),
+              (
+                c .before .before .before .said .ensures ∙ ap (valueAfter (say .form)) (c .before .before .before .before .keyed2 .ensures),
+                (c .update-digits .ensures ∙ ap (valueAfter (upd .form)) (c .before .keyed3 .ensures), tt),
+              ),
+            ),
           ),
         ),
       ),
-    ),
-  ),
-)
+    )
 
 pub vote-parts-spec : {M : Type 1} → statement M
 vote-parts-spec =
@@ -100,11 +102,11 @@ vote-parts-spec =
     decimal-requires-4
     slice-aggregate-keyed
     keyed-requires
-    two-digits-requires
+    list-digits-requires
     slice-aggregate-keyed-2
     keyed-requires-2
     said-requires
     slice-aggregate-keyed-3
     keyed-requires-3
-    eight-digits-requires
+    update-digits-requires
     returns)

@@ -7,7 +7,7 @@ use native.Mathlib.Numerals.{add-one}
 use lib.ListN.{getD}
 use Rattle.text_ascii.proofs.Writing.{wrote-length}
 use Rattle.text_lines.proofs.Good.{answers-length}
-use Rattle.text_lines.specs.Lines.{most}
+use Rattle.text_lines.specs.Lines.{answeredLines}
 use Rattle.text_report.specs.Report.{each, stepLine}
 use Rattle.text_report.specs.Within.{Within, longestLine}
 use Rattle.text_report.proofs.Lengths.{each-more, each-none, each-taken, within-as, within-more, within-nothing, within-room}
@@ -15,7 +15,7 @@ use Rattle.text_report.proofs.put_answers.Statement.{statement}
 use Rattle.text_report.proofs.put_answers.Tie as tie
 
 abbrev Inv-loop : tie.InvT-loop
-Inv-loop out₀ at answers count to₀ i₀ out to i = (i ≤ count) × (i ≤ most + 1) × Within (i * longestLine) out₀ at (each (λ j. stepLine (suc j) (getD (answers .answers) j 0)) i) out to
+Inv-loop out₀ at answers count to₀ i₀ out to i = (i ≤ count) × (i ≤ answeredLines) × Within (i * longestLine) out₀ at (each (λ j. stepLine (suc j) (getD (answers .answers) j 0)) i) out to
 
 abbrev μ-loop : tie.MeasureT-loop
 μ-loop out₀ at answers count to₀ i₀ out to i = count - i

@@ -3,10 +3,10 @@ use mathlib.Core.Path.{sym, _∙_, ap}
 use borrow.Author.Tests.{not-true, not-false}
 use Rattle.model_steps.specs.declared.Role.{Role}
 use Rattle.model_steps.specs.declared.Step.the-variants.{Crash}
-use Rattle.text_entry.specs.Follows.{Follows}
 use Rattle.text_entry.specs.Read.{Part, valueAfter}
 use Rattle.text_entry.specs.Seen.{seen}
 use Rattle.text_entry.proofs.Counts.{line-read, line-unread}
+use Rattle.text_entry.proofs.Follows.{Follows}
 use mathlib.Core.Option.{some}
 use Rattle.text_step.specs.Kinds.{crashKind, role}
 use Rattle.text_step.specs.Step.{crashOf, readingOf}

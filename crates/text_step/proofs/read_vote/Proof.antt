@@ -1,10 +1,11 @@
 use Rattle.text_entry.specs.Entry as entry
-use Rattle.text_entry.proofs.Follows.{values}
+use Rattle.text_entry.proofs.Follows.{Follows, as-parts, values}
 use mathlib.Core.List.{List, [], _∷_, _++_}
 use mathlib.Core.Path.{refl, sym, _∙_, ap}
 use borrow.Author.Tests.{not-true, not-false}
 use Rattle.text_entry.specs.Fields.{nameText}
-use Rattle.text_entry.specs.Follows.{Follows, voteParts}
+use Rattle.text_entry.specs.Kinds.{voteKind}
+use Rattle.text_entry.specs.Parts.{voteParts}
 use Rattle.text_entry.specs.Read.{Part, after, part}
 use Rattle.text_entry.specs.Seen.{seen}
 use Rattle.text_entry.specs.declared.Reading.{Reading as EntryReading}
@@ -35,7 +36,8 @@ parts c = let s = c .before .before .before .before .before .args .line .now in 
 
 chain : (c : tie.After-ends) → Follows (sentVote .fields) (after (nameText sentVote) (part 0 (c .before .before .before .before .before .args .line .now))) (parts c)
 chain c =
-    let v = c .before .before .before .vote-parts .ensures in
+    let s = c .before .before .before .before .before .args .line .now in
+    let v = as-parts (voteKind .fields) (after (nameText voteKind) (part 0 s)) _ (c .before .before .before .vote-parts .ensures) in
     (v .0, (v .1 .0, (v .1 .1 .0, (v .1 .1 .1 .0, (v .1 .1 .1 .1 .0, (v .1 .1 .1 .1 .1 .0, (v .1 .1 .1 .1 .1 .1 .0, (c .before .decimal .ensures, tt))))))))
 
 returns : tie.Need-returns

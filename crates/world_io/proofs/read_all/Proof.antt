@@ -1,36 +1,71 @@
+use native.Mathlib.Omega.{arith}
 use borrow.Author.Needs.{needs}
+use Prim.Native.Nat.{_≤_, _-_}
+use mathlib.Core.List.{[]}
+use mathlib.Core.Logic.{inl, inr}
+use mathlib.Core.Path.{_≡_, sym, _∙_}
+use Rattle.text_io.specs.Reading.{Given, maxPieces}
+use Rattle.text_io.proofs.Pieces.{given-more, given-none}
+use Rattle.world_input.specs.State.{over, stateOf, withLine}
+use Rattle.world_io.specs.declared.Reading.{Reading}
+use Rattle.world_io.specs.Exchange.{More}
 use Rattle.world_io.proofs.read_all.Statement.{statement}
 use Rattle.world_io.proofs.read_all.Tie as tie
 
+abbrev Going : Reading → Type 0
+Going r = Given over withLine [] (stateOf (r .input)) (r .pieces) (r .last)
+
+then : (b a : Reading) → Going b → More b a → Going a
+then b a g m = given-more over withLine [] (stateOf (b .input)) (stateOf (a .input)) (b .pieces) (b .last) (a .pieces) (a .last) g m
+
 abbrev Inv-loop : tie.InvT-loop
-Inv-loop fd input₀ left₀ input left = Unit {0}
+Inv-loop fd reading₀ reading = (reading .pieces ≤ maxPieces) × Going reading
 
 abbrev μ-loop : tie.MeasureT-loop
-μ-loop fd input₀ left₀ input left = left
+μ-loop fd reading₀ reading = maxPieces - reading .pieces
 
 fresh-requires : tie.Need-fresh-requires Inv-loop μ-loop
 fresh-requires c κs = search needs
 
 loop-holds : tie.Need-loop-holds Inv-loop μ-loop
-loop-holds c = tt
+loop-holds c = (omega arith, given-none over withLine [] (stateOf (c .fresh .result)) (c .fresh .ensures))
 
-read-piece-requires : tie.Need-read-piece-requires Inv-loop μ-loop
-read-piece-requires c κs = search needs
+read-more-requires : tie.Need-read-more-requires Inv-loop μ-loop
+read-more-requires c κs = search needs
 
 returns : tie.Need-returns Inv-loop μ-loop
-returns c = tt
+returns c =
+    let l = c .before .before .before .before .before .loop in
+    let m = c .before .before .read-more in
+    record { reading = then (l .reading) (m .result) (l .inv .1) (m .ensures); ended = inl (c .if2 .taken) }
 
-sub-left : tie.Need-sub-left Inv-loop μ-loop
-sub-left c = search needs
-
-loop-less : tie.Need-loop-less Inv-loop μ-loop
-loop-less c = search needs
-
-loop-again : tie.Need-loop-again Inv-loop μ-loop
-loop-again c = tt
+is-over-requires : tie.Need-is-over-requires Inv-loop μ-loop
+is-over-requires c κs = search needs
 
 returns-2 : tie.Need-returns-2 Inv-loop μ-loop
-returns-2 c = tt
+returns-2 c =
+    let l = c .before .before .before .before .before .before .before .before .loop in
+    let m = c .before .before .before .before .before .read-more in
+    record {
+      reading = then (l .reading) (m .result) (l .inv .1) (m .ensures);
+      ended = inr (inl (sym (c .before .is-over .ensures) ∙ c .if3 .taken));
+    }
+
+loop-less : tie.Need-loop-less Inv-loop μ-loop
+loop-less c =
+    let m = c .before .before .before .before .before .read-more in
+    omega (arith, m .ensures .count, c .before .before .before .before .before .before .if1 .taken)
+
+loop-again : tie.Need-loop-again Inv-loop μ-loop
+loop-again c =
+    let l = c .before .before .before .before .before .before .before .before .loop in
+    let m = c .before .before .before .before .before .read-more in
+    (omega (arith, m .ensures .count, c .before .before .before .before .before .before .if1 .taken), then (l .reading) (m .result) (l .inv .1) (m .ensures))
+
+returns-3 : tie.Need-returns-3 Inv-loop μ-loop
+returns-3 c =
+    let l = c .before .before .loop in
+    record { reading = l .inv .1; ended = inr (inr (omega (arith, l .inv .0, c .if1 .left))) }
 
 pub read-all-spec : {M : Type 1} → statement M
 read-all-spec =
@@ -40,9 +75,10 @@ read-all-spec =
     μ-loop
     fresh-requires
     loop-holds
-    read-piece-requires
+    read-more-requires
     returns
-    sub-left
+    is-over-requires
+    returns-2
     loop-less
     loop-again
-    returns-2)
+    returns-3)

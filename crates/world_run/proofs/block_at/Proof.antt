@@ -6,6 +6,7 @@ use lib.ListN.{length, set}
 use lib.Seq.{getD-take}
 use Rattle.world_engine.specs.declared.Order.{Order}
 use Rattle.world_engine.specs.Orders.{blockOrders}
+use Rattle.text_lines.specs.Lines.{answeredLines}
 use Rattle.world_input.specs.State.{ordersIn}
 use Rattle.world_input.proofs.Good.{orders-length}
 use Rattle.world_run.proofs.Blocks.{Filling, filled-end, filled-more, filled-whole, orders-count}
@@ -18,7 +19,7 @@ Inv-loop at orders block₀ i₀ block i = Filling (ordersIn orders) at block i
 abbrev μ-loop : tie.MeasureT-loop
 μ-loop at orders block₀ i₀ block i = blockOrders - block .count
 
-room : (c : tie.Start Inv-loop μ-loop) → length (c .args .t1 .orders) ≡ 1001
+room : (c : tie.Start Inv-loop μ-loop) → length (c .args .t1 .orders) ≡ answeredLines
 room c = orders-length (c .args .t1) _ (c .good .0)
 
 element-copy-out-first : tie.Need-element-copy-out-first Inv-loop μ-loop

@@ -5,6 +5,7 @@ use mathlib.Core.Path.{_≡_, sym, subst}
 use lib.ListN.{length}
 use Rattle.text_lines.specs.declared.Answers.{Answers}
 use Rattle.model_protocol.specs.declared.World.{World}
+use Rattle.text_lines.specs.Lines.{answeredLines}
 use Rattle.world_input.specs.State.{ordersIn}
 use Rattle.world_input.proofs.Good.{orders-length}
 use Rattle.world_run.proofs.Blocks.{Going, going-end, going-next, going-start, orders-count}
@@ -26,7 +27,7 @@ fresh-world-requires c κs = search needs
 none-requires : tie.Need-none-requires Inv-loop μ-loop
 none-requires c κs = search needs
 
-many : (c : tie.Start Inv-loop μ-loop) → length (ordersIn (c .args .orders)) ≡ min (c .args .orders .count) 1001
+many : (c : tie.Start Inv-loop μ-loop) → length (ordersIn (c .args .orders)) ≡ min (c .args .orders .count) answeredLines
 many c = orders-count (c .args .orders) (orders-length (c .args .orders) _ (c .good .0))
 
 loop-holds : tie.Need-loop-holds Inv-loop μ-loop

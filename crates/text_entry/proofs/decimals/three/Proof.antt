@@ -3,7 +3,7 @@ use mathlib.Core.Path.{sym, _∙_}
 use borrow.Author.Tests.{not-true, not-false}
 use Rattle.text_entry.specs.Decimals.{decimalField, decimalsOf, three}
 use Rattle.text_entry.specs.Fields.{kind}
-use Rattle.text_entry.specs.Follows.{Follows}
+use Rattle.text_entry.proofs.Follows.{Follows}
 use Rattle.text_entry.specs.Read.{Part}
 use Rattle.text_entry.specs.Seen.{seen}
 use Rattle.text_entry.proofs.Counts.{line-read, line-unread}

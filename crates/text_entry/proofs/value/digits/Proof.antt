@@ -4,15 +4,15 @@ use Prim.Native.Nat.{_≤_, _<_, _-_, _+_, min}
 use mathlib.Core.Path.{_≡_, refl, sym, _∙_, ap}
 use mathlib.Core.Bool.{true}
 use lib.ListN.{length, drop, getD}
-use Rattle.text_ascii.specs.Decimal.{beginsDigit, grown}
+use Rattle.text_ascii.specs.Decimal.{beginsDigit, byteNumbers, grown}
 use Rattle.text_entry.specs.Read.{readDigits, part}
-use Rattle.text_entry.specs.Seen.{capped, most}
+use Rattle.text_entry.specs.Seen.{capped}
 use Rattle.text_entry.proofs.Digits.{digit-inside, digit-low, digit-high, digits-more, digits-end, digits-capped}
 use Rattle.text_entry.proofs.value.digits.Statement.{statement}
 use Rattle.text_entry.proofs.value.digits.Tie as tie
 
 abbrev Inv-loop : tie.InvT-loop
-Inv-loop line at number₀ i₀ number i = (number ≤ most) × (capped (readDigits 0 (drop at line)) ≡ capped (readDigits number (drop i line)))
+Inv-loop line at number₀ i₀ number i = (number ≤ byteNumbers) × (capped (readDigits 0 (drop at line)) ≡ capped (readDigits number (drop i line)))
 
 abbrev μ-loop : tie.MeasureT-loop
 μ-loop line at number₀ i₀ number i = length line - i
@@ -73,7 +73,7 @@ loop-again : tie.Need-loop-again Inv-loop μ-loop
 loop-again c =
     let s = c .before .before .before .before .before .before .args .line .now in
     let l = c .before .before .before .before .loop in
-    let e : c .least .result ≡ min (grown (l .number) (getD s (l .i) 0)) most = c .least .ensures in (
+    let e : c .least .result ≡ min (grown (l .number) (getD s (l .i) 0)) byteNumbers = c .least .ensures in (
       omega arith,
       l .inv .1
           ∙ ap capped (digits-more s (l .i) (l .number) (digit (c .before .before)))
@@ -84,7 +84,7 @@ returns : tie.Need-returns Inv-loop μ-loop
 returns c =
     let s = c .before .before .before .before .args .line .now in
     let l = c .before .before .loop in
-    let e : min (l .number) most ≡ l .number = omega arith in
+    let e : min (l .number) byteNumbers ≡ l .number = omega arith in
     sym (l .inv .1 ∙ ap capped (digits-end (l .number) (drop (l .i) s) (sym (c .before .is-digit .ensures) ∙ c .if1 .left)) ∙ (λ j. part (e j) (drop (l .i) s)))
 
 pub digits-spec : {M : Type 1} → statement M

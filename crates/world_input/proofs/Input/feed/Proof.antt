@@ -8,6 +8,7 @@ use borrow.Author.Tests.{not-true, not-false}
 use Rattle.world_engine.specs.declared.Order.{Order}
 use Rattle.text_lines.specs.Feed.{fed}
 use Rattle.text_lines.specs.Line.{Part, gathered, seen}
+use Rattle.text_lines.specs.Lines.{answeredLines}
 use Rattle.text_lines.proofs.Feeding.{fed-at-end, fed-begun, fed-line, gathered-shorter}
 use Rattle.text_lines.proofs.Stream.{fed-over}
 use Rattle.world_input.specs.State.{ordersIn, over, withLine}
@@ -17,7 +18,7 @@ use Rattle.world_input.proofs.Input.feed.Statement.{statement}
 use Rattle.world_input.proofs.Input.feed.Tie as tie
 
 abbrev Inv-loop : tie.InvT-loop
-Inv-loop piece orders₀ line₀ at₀ orders line at = (length (orders .orders) ≡ 1001) × (fed over withLine (record { state = ordersIn orders₀; line = line₀ }) piece ≡ fed over withLine (record { state = ordersIn orders; line = line }) (drop at piece))
+Inv-loop piece orders₀ line₀ at₀ orders line at = (length (orders .orders) ≡ answeredLines) × (fed over withLine (record { state = ordersIn orders₀; line = line₀ }) piece ≡ fed over withLine (record { state = ordersIn orders; line = line }) (drop at piece))
 
 abbrev μ-loop : tie.MeasureT-loop
 μ-loop piece orders₀ line₀ at₀ orders line at = length piece - at

@@ -2,6 +2,7 @@ use Prim.Native.Nat.{_+_}
 use mathlib.Core.Path.{_≡_, sym, _∙_, ap}
 use lib.ListN.{length, set, take}
 use Rattle.world_engine.specs.declared.Order.{Order}
+use Rattle.text_lines.specs.Lines.{answeredLines}
 use Rattle.text_lines.proofs.Feeding.{finished-empty, finished-line, finished-over}
 use Rattle.world_input.specs.State.{over, stateOf, withLine}
 use Rattle.world_input.proofs.Good.{input-length}
@@ -10,7 +11,7 @@ use borrow.Author.Needs.{needs}
 use Rattle.world_input.proofs.Input.finish.Statement.{statement}
 use Rattle.world_input.proofs.Input.finish.Tie as tie
 
-room : (c : tie.After-line) → length (c .before .before .args .self .orders .orders) ≡ 1001
+room : (c : tie.After-line) → length (c .before .before .args .self .orders .orders) ≡ answeredLines
 room c = input-length (c .before .before .args .self) _ (c .before .before .good .0)
 
 returns : tie.Need-returns
