@@ -1,6 +1,7 @@
 pub mod Absent
 pub mod CommitSetLaws
 pub mod InList
+pub mod InvolvementCases
 pub mod Lengths
 pub mod RefusalLaws
 pub mod ScanLaws

@@ -3,3 +3,4 @@ pub mod Core
 pub mod Grow
 pub mod Local
 pub mod Sequence
+pub mod Counted
