@@ -90,7 +90,8 @@ case(20)
 commit(0, 0, 0x03, 1); commit(0, 0, 0x03, 1); commit(0, 0, 0x03, 2); abort(0, 0, 0x01); vote(2, 1, 0, 0, 0x03, "a")
 vote(1, 0, 1, 0, 0x03, "a"); commit(1, 0, 0x03)
 
-# 11: holds it, holds another, held it before; a process that lost a store may take one it never held
+# 11: holds it, holds another, held it before; a process that lost a store may take one it never
+# held
 case(21, holders=False)
 take(1, 0); take(1, 0); take(1, 1); take(2, 0); take(1, 0); take(1, 1); take(2, 1); take(3, 0); take(3, 1); take(2, 1); take(2, 0); take(1, 2)
 

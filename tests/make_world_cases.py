@@ -149,7 +149,8 @@ def sweep(script):
 
 
 def busy(acceptors=3):
-    """A world with stores 0 and 1 held, one committed, one aborted and one open transaction, and messages of every kind."""
+    """A world with stores 0 and 1 held, one committed, one aborted and one open transaction, and
+    messages of every kind."""
     script = Script(acceptors)
     among = range(acceptors // 2 + 1)
     script.queue(script.take(1, 0), script.take(2, 1))

@@ -1,7 +1,8 @@
-"""Step files for `world` with every answer and the report reasoned by hand from document 01: a check on world_reference.py.
+"""Step files for `world` with every answer and the report reasoned by hand from document 01: a
+check on world_reference.py.
 
-A row is a step, its answer behind an arrow, and behind a # the numbers of the messages that it sends, or why it is answered so. The
-report stands after a row of dashes."""
+A row is a step, its answer after an arrow, and after a # the numbers of the messages that it sends,
+or why it is answered so. The report stands after a row of dashes."""
 
 NOTHING = "coord=0 applied=0\ncoord=1 applied=0\ncoord=2 applied=0\n"
 
@@ -17,7 +18,8 @@ def learn(coord, inst, ballot, first):
     return "".join(row + " -> 0\n" for row in rows)
 
 
-# One store from its take to its restored update. The vote needs the restore, the restore the learned take.
+# One store from its take to its restored update. The vote needs the restore, the restore the
+# learned take.
 LIFE = """
 setup acceptors=3 -> 0
 take proc=1 store=0 to=0 -> 0 # 0
@@ -68,8 +70,9 @@ proc=1 store=0 position=2
 store=0 group=1 tx=4 upd=0000000a
 """
 
-# Two of five accepted coordinator 1's take under 1, one accepted coordinator 2's under 2: coordinator 0 hears all three
-# and proposes the one of ballot 2, though more promises carry the other. Its own take stays queued.
+# Two of five accepted coordinator 1's take under 1, one accepted coordinator 2's under 2:
+# coordinator 0 hears all three and proposes the one of ballot 2, though more promises carry the
+# other. Its own take stays queued.
 HIGHEST = """
 setup acceptors=5 -> 0
 take proc=1 store=0 to=1 -> 0 # 0
@@ -122,8 +125,9 @@ coord=1 applied=0
 coord=2 applied=0
 """
 
-# Eight entries fill the queue; a ninth is 6 until a batch is learned, an equal one is 0. The batches are the entries in
-# their order, by four. A learned entry that is delivered again is queued again, and then refused by the log (11).
+# Eight entries fill the queue; a ninth is 6 until a batch is learned, an equal one is 0. The
+# batches are the entries in their order, by four. A learned entry that is delivered again is queued
+# again, and then refused by the log (11).
 QUEUE = ("setup acceptors=3 -> 0\n"
          + "".join("take proc=%d store=%d to=0 -> 0\n" % (s + 1, s) for s in range(8))  # 0 to 7
          + "".join("deliver msg=%d -> 0\n" % s for s in range(8)) + """
@@ -144,7 +148,7 @@ deliver msg=16 -> 0 # 19
 deliver msg=18 -> 0
 deliver msg=19 -> 0 # learned: processes 1 to 4
 deliver msg=8 -> 0
-deliver msg=0 -> 0 # queued again, behind process 9
+deliver msg=0 -> 0 # queued again, after process 9
 """ + learn(0, 1, 3, 20)  # processes 5 to 8
          + learn(0, 2, 3, 30)  # process 9 takes over store 0; process 1 held it before
          + """
@@ -168,8 +172,9 @@ coord=1 applied=0
 coord=2 applied=0
 """)
 
-# 42 opens use 126 numbers, a take and a promise the last two. Then a prepare that would promise is 6 and changes nothing
-# (acceptor 0 never promised 126, so ballot 3 still would promise: 6 again), one that does nothing is 0.
+# 42 opens use 126 numbers, a take and a promise the last two. Then a prepare that would promise is
+# 6 and changes nothing (acceptor 0 never promised 126, so ballot 3 still would promise: 6 again),
+# one that does nothing is 0.
 NUMBERS = ("setup acceptors=3 -> 0\n"
            + "".join("open coord=0 inst=0 ballot=%d -> 0\n" % (3 * k) for k in range(1, 43)) + """
 open coord=0 inst=0 ballot=127 -> 5 # not its own; 6 would be higher
@@ -195,8 +200,9 @@ deliver msg=128 -> 2
 ---
 """ + NOTHING)
 
-# A majority accepted ballot 3, but the coordinator opened 6 before the second acceptance came: passed over. One acceptor's
-# acceptance sent twice counts once. Ballot 6 finds the batch with acceptor 0.
+# A majority accepted ballot 3, but the coordinator opened 6 before the second acceptance came:
+# passed over. One acceptor's acceptance sent twice counts once. Ballot 6 finds the batch with
+# acceptor 0.
 LATE = """
 setup acceptors=3 -> 0
 take proc=1 store=0 to=0 -> 0 # 0
@@ -275,9 +281,9 @@ crash role=acceptor id=2 -> 3
 ---
 """ + NOTHING
 
-# Process 2 takes over store 0 while votes of process 1 are on the wire. The one before the take is kept, the ones behind it
-# are refused 8 when applied, though process 1 still believes. Transaction 1 ran when nothing had committed: group 1;
-# transaction 2 commits by its first vote: group 2.
+# Process 2 takes over store 0 while votes of process 1 are on the wire. The one before the take is
+# kept, the ones after it are refused 8 when applied, though process 1 still believes. Transaction
+# 1 ran when nothing had committed: group 1; transaction 2 commits by its first vote: group 2.
 TAKEOVER = """
 setup acceptors=3 -> 0
 take proc=1 store=0 to=0 -> 0 # 0
@@ -331,8 +337,8 @@ store=0 group=2 tx=2 upd=0000000d
 proc=3 store=1 position=2
 """
 
-# Process 1 held store 0, lost it and took store 1. The restore of position 3 comes before that of position 1, which is then
-# not taken: it believes in store 1 only. The update 0 is replayed.
+# Process 1 held store 0, lost it and took store 1. The restore of position 3 comes before that of
+# position 1, which is then not taken: it believes in store 1 only. The update 0 is replayed.
 RESTORES = """
 setup acceptors=3 -> 0
 take proc=1 store=0 to=0 -> 0 # 0
@@ -369,7 +375,8 @@ coord=2 applied=0
 proc=1 store=1 position=3
 """
 
-# Five acceptors: with two down three are a majority, with three down nothing is learned any more. Numbers go to those down too.
+# Five acceptors: with two down three are a majority, with three down nothing is learned any more.
+# Numbers go to those down too.
 TWO_DOWN = """
 setup acceptors=5 -> 0
 crash role=acceptor id=0 -> 0
@@ -418,14 +425,16 @@ store=7 holder=15
 proc=15 store=7 position=1
 """
 
-# The acceptance that makes the majority stands on line 1,001: 6, nothing learned, and what follows is not read.
+# The acceptance that makes the majority stands on line 1,001: 6, nothing learned, and what follows
+# is not read.
 LINE_1001 = ("setup acceptors=3 -> 0\ntake proc=1 store=0 to=0 -> 0\ndeliver msg=0 -> 0\n"
              + learn(0, 0, 3, 1).replace("deliver msg=10 -> 0\n", "") + "? -> 1\n" * 988
              + "deliver msg=10 -> 6\n---\n" + NOTHING)
 
-# Three coordinators in instance 0. Coordinator 1's take is accepted by acceptors 1 and 2 under 4: chosen. Coordinator 2 hears
-# it from acceptor 2, coordinator 0 from both; each learns it by its own ballot and keeps its own take queued.
-# In instance 1 coordinator 1 learns coordinator 0's take with an empty queue.
+# Three coordinators in instance 0. Coordinator 1's take is accepted by acceptors 1 and 2 under 4:
+# chosen. Coordinator 2 hears it from acceptor 2, coordinator 0 from both; each learns it by its own
+# ballot and keeps its own take queued. In instance 1 coordinator 1 learns coordinator 0's take with
+# an empty queue.
 THREE = """
 setup acceptors=3 -> 0
 take proc=1 store=0 to=0 -> 0 # 0
@@ -501,7 +510,8 @@ coord=2 applied=1
 store=1 holder=2
 """
 
-# All parties crash: nothing is lost from the report, every step is 3 but a second setup, a number not sent and one outside its limits.
+# All parties crash: nothing is lost from the report, every step is 3 but a second setup, a number
+# not sent and one outside its limits.
 ALL_DOWN = ("""
 setup acceptors=3 -> 0
 take proc=1 store=0 to=0 -> 0 # 0
@@ -545,8 +555,9 @@ proc=15 tx=0 heard=abort
 proc=1 store=0 position=1
 """)
 
-# A sent vote: the lowest of 1, 2, 3, 5, 6 and 7. Process 1 believes in store 0; coordinator 2 is down; 35 opens use up the numbers:
-# 12 before, 1 + 1 votes, 35 * 3 = 105 opens, 9 takes, 128 in all.
+# A sent vote: the lowest of 1, 2, 3, 5, 6 and 7. Process 1 believes in store 0; coordinator 2 is
+# down; 35 opens use up the numbers: 12 before, 1 + 1 votes, 35 * 3 = 105 opens, 9 takes, 128 in
+# all.
 VOTES = ("""
 setup acceptors=3 -> 0
 take proc=1 store=0 to=0 -> 0 # 0
@@ -585,8 +596,8 @@ coord=2 applied=0
 proc=1 store=0 position=1
 """)
 
-# Instance 0 was learned under ballot 3, instance 1 is opened under 3 too: promises and acceptances of instance 0 come again and are
-# passed over, and only instance 1 is opened and proposed.
+# Instance 0 was learned under ballot 3, instance 1 is opened under 3 too: promises and acceptances
+# of instance 0 come again and are passed over, and only instance 1 is opened and proposed.
 OTHER_INSTANCE = """
 setup acceptors=3 -> 0
 take proc=1 store=0 to=0 -> 0 # 0
@@ -665,7 +676,8 @@ coord=1 applied=0
 coord=2 applied=0
 """
 
-# Acceptors answer a coordinator that is down, and the answers have numbers. Another one finishes what it proposed.
+# Acceptors answer a coordinator that is down, and the answers have numbers. Another one finishes
+# what it proposed.
 REPLIES = """
 setup acceptors=3 -> 0
 take proc=1 store=0 to=0 -> 0 # 0
@@ -706,8 +718,9 @@ coord=2 applied=0
 proc=1 store=0 position=1
 """
 
-# Lists. Transaction 4: a commit of list 03 is kept, so a commit of 07 and an abort of 04 are refused 9, a second vote of store 0 is 10;
-# it commits at last. 5: a kept abort of 04 hinders no commit of 03, and counts. 6: an abort within 03 is kept.
+# Lists. Transaction 4: a commit of list 03 is kept, so a commit of 07 and an abort of 04 are
+# refused 9, a second vote of store 0 is 10; it commits at last. 5: a kept abort of 04 hinders no
+# commit of 03, and counts. 6: an abort within 03 is kept.
 LISTS = """
 setup acceptors=3 -> 0
 take proc=1 store=0 to=0 -> 0 # 0
@@ -767,8 +780,9 @@ proc=2 store=1 position=1
 proc=3 store=2 position=1
 """
 
-# No number left: an accept below the promise is 0, one that would be accepted 6 and changes nothing, so that acceptor 2, which promised
-# nothing, would still promise 3. 13 numbers, 38 opens and a take are 128.
+# No number left: an accept below the promise is 0, one that would be accepted 6 and changes
+# nothing, so that acceptor 2, which promised nothing, would still promise 3. 13 numbers, 38 opens
+# and a take are 128.
 ACCEPTS = """
 setup acceptors=3 -> 0
 take proc=1 store=0 to=0 -> 0 # 0

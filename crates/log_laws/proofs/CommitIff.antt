@@ -1,4 +1,5 @@
--- The outcome is commit if and only if a vote is kept, every store listed in a kept vote has a kept commit vote, and no abort is kept.
+-- The outcome is commit if and only if a vote is kept, every store listed in a kept vote has a kept
+-- commit vote, and no abort is kept.
 use Prim.Native.Nat.{ℕ}
 use mathlib.Core.Path.{_≡_, ap}
 use mathlib.Core.Bool.{true, not}

@@ -1,4 +1,5 @@
--- A store's replay lists the committed transactions with its kept commit vote, each once, by group and then transaction.
+-- A store's replay lists the committed transactions with its kept commit vote, each once, by group
+-- and then transaction.
 use Prim.Native.Nat.{ℕ, _+_, _≤_, _<_}
 use mathlib.Core.Path.{_≡_, refl, sym, ap, subst, subst₂, _∙_}
 use mathlib.Core.Bool.{true}

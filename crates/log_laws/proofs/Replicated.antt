@@ -1,4 +1,5 @@
--- What a proof about logs fed the same entries needs: parts of the entries, lengths, and that a decided outcome stays.
+-- What a proof about logs fed the same entries needs: parts of the entries, lengths, and that a
+-- decided outcome stays.
 use Prim.Native.Nat.{ℕ, _<_}
 use mathlib.Core.Path.{_≡_}
 use mathlib.Core.List.{List, _++_}

@@ -1,4 +1,5 @@
--- A transaction's row: what holds of each row of a log that entries lead to, and that an accepted vote keeps it so.
+-- A transaction's row: what holds of each row of a log that entries lead to, and that an accepted
+-- vote keeps it so.
 use Prim.Native.Nat.{ℕ, _<_}
 use mathlib.Core.Path.{_≡_, refl, sym, subst, _∙_}
 use mathlib.Core.Bool.{Bool, true, false, _&&_}

@@ -1,4 +1,5 @@
--- Sets as bits: what is in a set with one more, in a set within another, and how large a member can be.
+-- Sets as bits: what is in a set with one more, in a set within another, and how large a member can
+-- be.
 use Prim.Native.Nat.{ℕ, zero, suc, _/_, _%_, _^_, min, max, _≤_, _<_}
 use mathlib.Core.Path.{_≡_, refl, sym, ap, _∙_}
 use mathlib.Core.Bool.{true, false}

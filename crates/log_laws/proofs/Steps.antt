@@ -1,4 +1,5 @@
--- An entry leaves the log as it was, or it is an accepted take or an accepted vote: what stands where after each.
+-- An entry leaves the log as it was, or it is an accepted take or an accepted vote: what stands
+-- where after each.
 use Prim.Native.Nat.{ℕ, _-_}
 use mathlib.Core.Path.{_≡_, refl, sym, subst, _∙_}
 use mathlib.Core.Bool.{Bool, true, false, cond}

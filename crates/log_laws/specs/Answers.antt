@@ -1,4 +1,5 @@
--- The claims on answers: "The lowest number that applies is given. State and buffers stay unchanged." They hold of every log.
+-- The claims on answers: "The lowest number that applies is given. State and buffers stay
+-- unchanged." They hold of every log.
 use mathlib.Core.Path.{_≡_}
 use mathlib.Core.Bool.{Bool, true, false, _||_, not}
 use mathlib.Core.List.{List, [], _∷_}
@@ -27,7 +28,8 @@ First (b ∷ bs) this = (b ≡ false) × First bs this
 abbrev pub holdsNot : Log → Entry → Bool
 holdsNot l e = not (eqb (holderOf l (e .by)) (e .process))
 
--- 9: a commit vote with list L is kept, and this is a commit with another list or an abort whose list is not within L
+-- 9: a commit vote with list L is kept, and this is a commit with another list or an abort whose
+-- list is not within L
 abbrev pub clash : Log → Entry → Bool
 clash l e = anyClash e (rowOf l (e .tx) .votes)
 
@@ -39,7 +41,8 @@ kept l e = voteAt l (e .tx) (e .store) .kept
 abbrev pub held : Log → Entry → Bool
 held l e = holdsAny (l .holders) (e .process) || heldBefore l (e .process) (e .store)
 
--- a vote's answer is n if and only if condition n holds and none before it does; 0 if and only if none holds
+-- a vote's answer is n if and only if condition n holds and none before it does; 0 if and only if
+-- none holds
 pub record VoteAnswers (l : Log) (e : Entry) : Type 0 where
   pub is-2 : (enter l e .answer ≡ outsideLimits) ↔ First [] (outside e)
   pub is-7 : (enter l e .answer ≡ illFormedVote) ↔ First (outside e ∷ []) (illFormed e)

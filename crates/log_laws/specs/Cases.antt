@@ -1,4 +1,5 @@
--- Document 01, "Cases": P1 to P10 as one table of entries with the answers and results that the document gives.
+-- Document 01, "Cases": P1 to P10 as one table of entries with the answers and results that the
+-- document gives.
 use Prim.Native.Nat.{ℕ, suc}
 use mathlib.Core.Path.{_≡_}
 use mathlib.Core.Bool.{true, false}
@@ -20,7 +21,8 @@ pub data Result : Type 0 where
   group : ℕ → ℕ → Result
   involvement : ℕ → ℕ → Involvement → Result
 
--- a row of the table: the entries shown and the answers to them, after the takes that went before, and what the log says then
+-- a row of the table: the entries shown and the answers to them, after the takes that went before,
+-- and what the log says then
 pub record Case : Type 0 where
   pub took : List Entry
   pub entries : List Entry

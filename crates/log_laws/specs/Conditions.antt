@@ -1,4 +1,5 @@
--- What the conditions of the refusals say, in document 01's own numbers and words. `Answers` says which of them gives the answer.
+-- What the conditions of the refusals say, in document 01's own numbers and words. `Answers` says
+-- which of them gives the answer.
 use Prim.Native.Nat.{ℕ, _^_, _≤_, _<_}
 use mathlib.Core.Path.{_≡_}
 use mathlib.Core.Bool.{true, false}
@@ -17,7 +18,8 @@ use Rattle.log_laws.specs.Votes.{KeptCommit}
 
 -- ---- 2: a number outside its limits
 
--- "Stores 0 to 7. Transactions (`tx`) 0 to 31." A list has bits for stores 0 to 7. "An update is 32 bits".
+-- "Stores 0 to 7. Transactions (`tx`) 0 to 31." A list has bits for stores 0 to 7. "An update is 32
+-- bits".
 pub record VoteInLimits (e : Entry) : Type 0 where
   pub by : e .by ≤ 7
   pub tx : e .tx ≤ 31

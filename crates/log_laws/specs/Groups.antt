@@ -1,5 +1,6 @@
--- The claims on groups: "At a commit: if the transaction was running when the last group was begun, it joins that group; else it begins a
--- new group, numbered from 1. For every group, the transactions running just before its first commit are remembered."
+-- The claims on groups: "At a commit: if the transaction was running when the last group was begun,
+-- it joins that group; else it begins a new group, numbered from 1. For every group, the
+-- transactions running just before its first commit are remembered."
 use Prim.Native.Nat.{ℕ, _+_, _≤_}
 use mathlib.Core.Path.{_≡_}
 use mathlib.Core.Bool.{Bool, false, cond}
@@ -40,7 +41,8 @@ pub record Commits (l : Log) (e : Entry) : Type 0 where
 abbrev pub Begins : Log → Entry → Type 0
 Begins l e = enter l e .log .groups ≡ l .groups + 1
 
--- at a commit the transaction joins the last group if that remembers it, else it begins the next one
+-- at a commit the transaction joins the last group if that remembers it, else it begins the next
+-- one
 pub record Grouped (l : Log) (e : Entry) (joins : Bool) : Type 0 where
   pub group : groupOf (enter l e .log) (e .tx) ≡ cond joins (l .groups) (l .groups + 1)
   pub groups : enter l e .log .groups ≡ cond joins (l .groups) (l .groups + 1)
@@ -50,8 +52,8 @@ GroupAtCommit =
     (es : List Entry) (e : Entry) → Commits (reached es) e
     → Grouped (reached es) e (has (remembered (reached es) (reached es .groups)) (e .tx))
 
--- The same from the history alone: `first` begins a group, the entries `more` begin none, and `e` commits. Its transaction joins that group
--- exactly if it was running just before `first`.
+-- The same from the history alone: `first` begins a group, the entries `more` begin none, and `e`
+-- commits. Its transaction joins that group exactly if it was running just before `first`.
 abbrev pub JoinsIfRunningWhenBegun : Type 0
 JoinsIfRunningWhenBegun =
     (es : List Entry) (first : Entry) (more : List Entry) (e : Entry)

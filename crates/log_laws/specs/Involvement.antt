@@ -15,7 +15,8 @@ SomeVoteLists l tx store = (s : ℕ) × Listed l tx s store
 abbrev pub SomeCommitKept : Log → ℕ → Type 0
 SomeCommitKept l tx = (s : ℕ) × KeptCommit l tx s
 
--- "yes if the store is in the list of any kept vote of that tx; else no if a commit vote is kept; else unknown"
+-- "yes if the store is in the list of any kept vote of that tx; else no if a commit vote is kept;
+-- else unknown"
 pub record Involved (l : Log) (tx store : ℕ) : Type 0 where
   pub is-yes : (involvementOf l tx store ≡ Yes) ↔ SomeVoteLists l tx store
   pub is-no : (involvementOf l tx store ≡ No) ↔ ((SomeVoteLists l tx store → ⊥) × SomeCommitKept l tx)

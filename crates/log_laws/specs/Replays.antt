@@ -1,4 +1,5 @@
--- The claims on a store's replay: "by group, then tx, the (tx, update) of each committed tx with a kept commit vote of that store."
+-- The claims on a store's replay: "by group, then tx, the (tx, update) of each committed tx with a
+-- kept commit vote of that store."
 use Prim.Native.Nat.{ℕ, _<_}
 use mathlib.Core.Path.{_≡_}
 use mathlib.Core.List.{List}

@@ -1,4 +1,5 @@
--- The invariant of the ballots: the sent messages obey the core, and the states of acceptors and coordinators say what they say of them.
+-- The invariant of the ballots: the sent messages obey the core, and the states of acceptors and
+-- coordinators say what they say of them.
 use Prim.Native.Nat.{ℕ, suc, _+_, _*_, _≤_, _<_, min}
 use mathlib.Core.Path.{_≡_, refl, sym}
 use mathlib.Core.Logic.{_⊎_, inl, inr, _≢_}

@@ -16,7 +16,8 @@ use Rattle.model_protocol.proofs.Compute.{computed}
 use Rattle.model_agreement.specs.Claim.{keptOf}
 use Rattle.model_agreement.proofs.Theorem.{demand-3}
 
--- a list at whose end a coordinator has applied so many instances has a sequence of at least as many batches
+-- a list at whose end a coordinator has applied so many instances has a sequence of at least as
+-- many batches
 decides : (steps : List Step) (k p : ℕ) → coordinatorOf (computed steps) k .applied ≡ p → p ≤ length (demand-3 steps .sequence)
 unfolding computed
 decides steps k p e = subst (λ x. x ≤ length (demand-3 steps .sequence)) e (demand-3 steps .applied-within k)
@@ -29,7 +30,8 @@ whole =
     -- processes 1 and 2 take stores 0 and 1; coordinator 0 decides that in instance 0
     ∷ Request (takeEntry 1 0) 0 ∷ Deliver 0 ∷ Request (takeEntry 2 1) 0 ∷ Deliver 1 ∷ Open 0 0 3 ∷ Deliver 2 ∷ Deliver 3 ∷ Deliver 5
     ∷ Deliver 6 ∷ Propose 0 0 3 ∷ Deliver 7 ∷ Deliver 8 ∷ Deliver 10 ∷ Deliver 11
-    -- they are restored and vote commit; coordinator 1 learns instance 0 and decides the votes in instance 1
+    -- they are restored and vote commit; coordinator 1 learns instance 0 and decides the votes in
+    -- instance 1
     ∷ Restore 0 1 ∷ Deliver 12 ∷ Restore 0 2 ∷ Deliver 13 ∷ Request (voteEntry 1 0 0 4 0x03 true 10) 1 ∷ Deliver 14
     ∷ Request (voteEntry 2 1 1 4 0x03 true 11) 1 ∷ Deliver 15 ∷ Open 1 0 4 ∷ Deliver 17 ∷ Deliver 18 ∷ Deliver 19 ∷ Deliver 20
     ∷ Propose 1 0 4 ∷ Deliver 22 ∷ Deliver 23 ∷ Deliver 24 ∷ Deliver 25 ∷ Open 1 1 4 ∷ Deliver 27 ∷ Deliver 28 ∷ Deliver 29 ∷ Deliver 30
@@ -38,7 +40,8 @@ whole =
     ∷ Open 0 1 6 ∷ Deliver 36 ∷ Deliver 38 ∷ Deliver 39 ∷ Deliver 40 ∷ Propose 0 1 6 ∷ Deliver 41 ∷ Deliver 43 ∷ Deliver 44 ∷ Deliver 45
     ∷ Open 2 0 5 ∷ Deliver 46 ∷ Deliver 47 ∷ Deliver 49 ∷ Deliver 50 ∷ Propose 2 0 5 ∷ Deliver 51 ∷ Deliver 52 ∷ Deliver 54 ∷ Deliver 55
     ∷ Open 2 1 8 ∷ Deliver 56 ∷ Deliver 57 ∷ Deliver 59 ∷ Deliver 60 ∷ Propose 2 1 8 ∷ Deliver 61 ∷ Deliver 62 ∷ Deliver 64 ∷ Deliver 65
-    -- process 1 hears of the commit from coordinator 0, and process 2 takes a restore from coordinator 2
+    -- process 1 hears of the commit from coordinator 0, and process 2 takes a restore from
+    -- coordinator 2
     ∷ Tell 0 1 4 ∷ Deliver 66 ∷ Restore 2 2 ∷ Deliver 67
     ∷ []
 

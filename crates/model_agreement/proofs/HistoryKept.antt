@@ -1,4 +1,5 @@
--- The history and the world go together: promised ballots, applied counts and acceptances are what the history says.
+-- The history and the world go together: promised ballots, applied counts and acceptances are what
+-- the history says.
 use Prim.Native.Nat.{ℕ, suc, _+_, _*_, _^_, _≤_, _<_, min}
 use mathlib.Core.Path.{_≡_, refl, sym, ap, _∙_}
 use mathlib.Core.Logic.{_⊎_, inl, inr, _≢_}

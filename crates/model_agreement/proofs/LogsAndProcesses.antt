@@ -1,4 +1,5 @@
--- What was sent and kept beside the ballots: requests, batches and their entries, logs, tells and restores.
+-- What was sent and kept beside the ballots: requests, batches and their entries, logs, tells and
+-- restores.
 use Prim.Native.Nat.{ℕ, suc, _+_, _≤_, _<_, min}
 use mathlib.Core.Path.{_≡_, refl, sym, ap, subst, _∙_}
 use mathlib.Core.Logic.{_⊎_, inl, inr, _≢_}

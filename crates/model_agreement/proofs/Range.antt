@@ -1,4 +1,5 @@
--- Every number in a message, a slot and a round is in its range, and sets of acceptors hold acceptors only.
+-- Every number in a message, a slot and a round is in its range, and sets of acceptors hold
+-- acceptors only.
 use Prim.Native.Nat.{ℕ, _≤_, _<_}
 use mathlib.Core.Logic.{_⊎_, inl, inr}
 use mathlib.Core.List.{List}

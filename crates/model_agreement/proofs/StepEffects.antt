@@ -1,4 +1,5 @@
--- The step as a relation: its tests are gone through once, here, and every invariant goes by these cases.
+-- The step as a relation: its tests are gone through once, here, and every invariant goes by these
+-- cases.
 use Prim.Native.Nat.{ℕ, _+_, _*_, _-_, _%_, _≤_, _<_}
 use mathlib.Core.Path.{_≡_, refl, sym, subst, _∙_}
 use mathlib.Core.Logic.{_⊎_, inl, inr}

@@ -1,5 +1,5 @@
--- What else holds after every list of steps: no index, count or ballot leaves its range, a batch that is proposed has 1 to 4 entries, and
--- at most one is proposed under a ballot of an instance.
+-- What else holds after every list of steps: no index, count or ballot leaves its range, a batch
+-- that is proposed has 1 to 4 entries, and at most one is proposed under a ballot of an instance.
 use Prim.Native.Nat.{ℕ, _^_, _≤_, _<_}
 use mathlib.Core.Path.{_≡_}
 use mathlib.Core.List.{List}

@@ -1,5 +1,5 @@
--- Document 01, "Whole lists of steps": what was opened, sent and delivered, and its words that are defined by that alone. The newest event
--- stands first.
+-- Document 01, "Whole lists of steps": what was opened, sent and delivered, and its words that are
+-- defined by that alone. The newest event stands first.
 use Prim.Native.Nat.{ℕ, _≤_, _<_}
 use mathlib.Core.Bool.{cond, _&&_}
 use mathlib.Core.List.{List, [], _∷_}

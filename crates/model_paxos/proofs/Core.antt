@@ -1,5 +1,5 @@
--- Single-decree Paxos: what the sent messages obey, and that at most one value is chosen in an instance. S says which messages were sent;
--- nothing is said of what a value is.
+-- Single-decree Paxos: what the sent messages obey, and that at most one value is chosen in an
+-- instance. S says which messages were sent; nothing is said of what a value is.
 use Prim.Native.Nat.{ℕ, zero, suc, _≤_, _<_}
 use mathlib.Core.Path.{_≡_, sym}
 use mathlib.Core.Logic.{_⊎_, inl, inr}
@@ -10,7 +10,8 @@ use Rattle.model_paxos.specs.Ballot.{Majority}
 use Rattle.model_paxos.specs.Messages.{Paxos, accept, accepted, promise}
 use Rattle.model_paxos.proofs.Sets.{Has, meet}
 
--- why v may be proposed in i under b: a majority promised b, none of it with an accepted ballot above `from`, and `from` is 0 or has v
+-- why v may be proposed in i under b: a majority promised b, none of it with an accepted ballot
+-- above `from`, and `from` is 0 or has v
 pub record Why {X : Type 0} (n : ℕ) (S : Paxos X → Type 0) (i b : ℕ) (v : X) : Type 0 where
   pub from : ℕ
   pub below : from < b
@@ -60,7 +61,8 @@ module _ {X : Type 0} {n : ℕ} {S : Paxos X → Type 0} (C : Core n S) where
       end (inl z) = absurd (omega (arith, C .positive (ch .asked), f))
       end (inr t) = (y .from, t .0, t .1, f, y .below)
 
-  -- what is proposed above a chosen ballot is the chosen value; by recursion on a bound of the ballot
+  -- what is proposed above a chosen ballot is the chosen value; by recursion on a bound of the
+  -- ballot
   safe : (k : ℕ) {i b c a : ℕ} {v w : X} → c ≤ k → Chosen n S i b v → S (accept i c a w) → b ≤ c → v ≡ w
   safe zero h ch s g = absurd (omega (arith, C .positive s))
   safe (suc k) {i} {b} {c} {a} {v} {w} h ch s g = go (λ d x e s′ g′. safe k e ch s′ g′) (ℕ-discrete b c)

@@ -1,4 +1,5 @@
--- What an acceptor's and a coordinator's state say of the sent messages, and how what is known of those survives when more are sent.
+-- What an acceptor's and a coordinator's state say of the sent messages, and how what is known of
+-- those survives when more are sent.
 use Prim.Native.Nat.{ℕ, _≤_, _<_}
 use mathlib.Core.Path.{_≡_, refl}
 use mathlib.Core.Logic.{_⊎_, inl, inr, _≢_}
@@ -48,7 +49,8 @@ pub record AccOk {X : Type 0} (S : Paxos X → Type 0) (a i : ℕ) (x : Holding 
   pub order : x .ballot ≤ x .promised
   pub pair : (x .ballot ≡ 0) ⊎ S (accept i (x .ballot) a (x .value))
 
--- what an accept for (i, b, v) is to its coordinator, which has applied p instances, opened l last and, if f, proposed u
+-- what an accept for (i, b, v) is to its coordinator, which has applied p instances, opened l last
+-- and, if f, proposed u
 pub data Used (p l : ℕ) (f : Bool) {X : Type 0} (u : X) (i b : ℕ) (v : X) : Type 0 where
   past : i < p → Used p l f u i b v
   under : i ≡ p → b < l → Used p l f u i b v

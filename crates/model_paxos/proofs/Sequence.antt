@@ -1,4 +1,5 @@
--- The sequence of the chosen values, computed from the sent messages: it has exactly the chosen ones, by instance from 0.
+-- The sequence of the chosen values, computed from the sent messages: it has exactly the chosen
+-- ones, by instance from 0.
 use Prim.Native.Nat.{ℕ, zero, suc, _+_, _≤_, _<_, _*_}
 use mathlib.Core.Path.{_≡_, refl, sym, subst, _∙_}
 use mathlib.Core.Logic.{_⊎_, inl, inr}

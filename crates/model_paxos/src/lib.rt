@@ -1,1 +1,2 @@
-// No code: single-decree Paxos over any value. The messages and majorities stand in specs/, the proofs in proofs/.
+// No code: single-decree Paxos over any value. The messages and majorities stand in specs/, the
+// proofs in proofs/.

@@ -10,4 +10,6 @@ pub mod Process
 pub mod Queue
 pub mod Send
 pub mod Step
+pub mod Tables
+pub mod Unchanged
 pub mod World

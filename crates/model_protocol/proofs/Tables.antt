@@ -1,0 +1,134 @@
+-- The tables of steps and answers, by computation, and what stands in the world at their ends.
+use Prim.Native.Nat.{ℕ}
+use mathlib.Core.Path.{_≡_, refl}
+use mathlib.Core.List.{List, [], _∷_, _++_, map}
+use lib.ListN.{getD, take}
+use Rattle.log_entry.specs.declared.Entry.{Entry}
+use Rattle.log_votes.specs.declared.Outcome.{Outcome}
+use Rattle.log_votes.specs.declared.Outcome.the-variants as outcome
+use Rattle.log_core.specs.declared.Replayed.{Replayed}
+use Rattle.model_protocol.specs.declared.Message.{Message}
+use Rattle.model_protocol.specs.declared.World.{World}
+use Rattle.model_protocol.specs.Queue.{queued}
+use Rattle.model_protocol.specs.Tables.{Holds, Tried, acceptPromises, answersTheDown, asDefined, ballotsOfOne, beforeSetup, downAndBelief, fullQueue, learnsAnothers, numbersUsed, ofFive, opensWithThree, proposesWithThree, restoredOnce, stepsOf, takenOver, threeLeft, told}
+use Rattle.model_protocol.specs.World.{coordinatorOf, logOf, messageOf, processOf, slotOf}
+use Rattle.model_protocol.proofs.Compute.{computed}
+
+pub before-setup : Holds beforeSetup
+unfolding computed asDefined beforeSetup
+before-setup = refl
+
+pub ballots-of-one : Holds ballotsOfOne
+unfolding computed asDefined ballotsOfOne
+ballots-of-one = refl
+
+pub of-five : Holds ofFive
+unfolding computed asDefined ofFive
+of-five = refl
+
+pub down-and-belief : Holds (restoredOnce ++ downAndBelief)
+unfolding computed asDefined restoredOnce downAndBelief
+down-and-belief = refl
+
+pub numbers-used : Holds (restoredOnce ++ threeLeft ++ numbersUsed)
+unfolding computed asDefined restoredOnce threeLeft numbersUsed
+numbers-used = refl
+
+pub proposes-with-three : Holds (restoredOnce ++ threeLeft ++ proposesWithThree)
+unfolding computed asDefined restoredOnce threeLeft proposesWithThree
+proposes-with-three = refl
+
+pub opens-with-three : Holds (restoredOnce ++ threeLeft ++ opensWithThree)
+unfolding computed asDefined restoredOnce threeLeft opensWithThree
+opens-with-three = refl
+
+pub full-queue : Holds fullQueue
+unfolding computed asDefined fullQueue
+full-queue = refl
+
+pub learns-anothers : Holds learnsAnothers
+unfolding computed asDefined learnsAnothers
+learns-anothers = refl
+
+pub accept-promises : Holds acceptPromises
+unfolding computed asDefined acceptPromises
+accept-promises = refl
+
+pub answers-the-down : Holds answersTheDown
+unfolding computed asDefined answersTheDown
+answers-the-down = refl
+
+pub told-answers : Holds (restoredOnce ++ told)
+unfolding computed asDefined restoredOnce told
+told-answers = refl
+
+pub taken-over-answers : Holds (restoredOnce ++ takenOver)
+unfolding computed asDefined restoredOnce takenOver
+taken-over-answers = refl
+
+-- ---- what stands in the world at the end
+
+abbrev after : List Tried → World
+after table = computed (stepsOf table)
+
+-- who asked for the entries that are queued
+abbrev queuedBy : World → ℕ → List ℕ
+queuedBy w k = map (λ (e : Entry). e .process) (queued (coordinatorOf w k .queue))
+
+abbrev heardOf : World → ℕ → ℕ → Outcome
+heardOf w p tx = getD (processOf w p .heard) tx (record { outcome = outcome.Open }) .outcome
+
+-- the last restore that a process took
+abbrev rowsOf : World → ℕ → List Replayed
+rowsOf w p = take (processOf w p .replay .count) (processOf w p .replay .rows)
+
+-- "the first up to four queue entries" were proposed; the rest keep their order, and the refused
+-- one could join later
+pub first-four : (messageOf (after fullQueue) 15 .batch .count ≡ 4)
+    × (logOf (after fullQueue) 0 .holders ≡ 1 ∷ 2 ∷ 3 ∷ 4 ∷ 0 ∷ 0 ∷ 0 ∷ 0 ∷ [])
+    × (queuedBy (after fullQueue) 0 ≡ 5 ∷ 6 ∷ 7 ∷ 8 ∷ 9 ∷ [])
+unfolding computed fullQueue
+first-four = (refl, refl, refl)
+
+-- "Queue entries equal to an entry of the learned batch leave, the rest keep their order."
+pub equal-ones-leave : (logOf (after learnsAnothers) 1 .holders ≡ 1 ∷ 2 ∷ 0 ∷ 0 ∷ 0 ∷ 0 ∷ 0 ∷ 0 ∷ [])
+    × (queuedBy (after learnsAnothers) 1 ≡ 9 ∷ 8 ∷ [])
+    × (queuedBy (after learnsAnothers) 0 ≡ 1 ∷ 2 ∷ [])
+unfolding computed learnsAnothers
+equal-ones-leave = (refl, refl, refl)
+
+-- "sends prepare to every acceptor, down or not, acceptor 0 first"; a promise carries the accepted
+-- pair; an accept promises
+pub slot-and-promise : (map (λ (m : Message). m .acceptor) (take 4 (after acceptPromises .messages)) ≡ 0 ∷ 0 ∷ 1 ∷ 2 ∷ [])
+    × (slotOf (after acceptPromises) 2 0 .promised ≡ 8)
+    × (slotOf (after acceptPromises) 2 0 .ballot ≡ 6)
+    × (messageOf (after acceptPromises) 16 .accepted ≡ 6)
+    × (after acceptPromises .sent ≡ 17)
+unfolding computed acceptPromises
+slot-and-promise = (refl, refl, refl, refl, refl)
+
+-- each hears what the tells delivered to it say, of an abort too, and nothing else
+pub heard-told : (heardOf (after (restoredOnce ++ told)) 1 4 ≡ outcome.Commit)
+    × (heardOf (after (restoredOnce ++ told)) 1 5 ≡ outcome.Open)
+    × (heardOf (after (restoredOnce ++ told)) 1 6 ≡ outcome.Abort)
+    × (heardOf (after (restoredOnce ++ told)) 1 7 ≡ outcome.Open)
+    × (heardOf (after (restoredOnce ++ told)) 2 4 ≡ outcome.Open)
+    × (heardOf (after (restoredOnce ++ told)) 2 5 ≡ outcome.Abort)
+unfolding computed restoredOnce told
+heard-told = (refl, refl, refl, refl, refl, refl)
+
+-- the position is the applied count; an older restore that comes later is not taken
+pub restored-last : (processOf (after restoredOnce) 1 .position ≡ 1)
+    × (rowsOf (after restoredOnce) 1 ≡ [])
+    × (processOf (after (restoredOnce ++ told)) 1 .position ≡ 2)
+    × (processOf (after (restoredOnce ++ told)) 1 .store ≡ 0)
+    × (rowsOf (after (restoredOnce ++ told)) 1 ≡ record { group = 1; tx = 4; update = 10 } ∷ [])
+unfolding computed restoredOnce told
+restored-last = (refl, refl, refl, refl, refl)
+
+-- a store that was taken over, and the next one
+pub restored-other : (logOf (after (restoredOnce ++ takenOver)) 0 .holders ≡ 2 ∷ 1 ∷ 0 ∷ 0 ∷ 0 ∷ 0 ∷ 0 ∷ 0 ∷ [])
+    × (processOf (after (restoredOnce ++ takenOver)) 1 .store ≡ 1)
+    × (processOf (after (restoredOnce ++ takenOver)) 1 .position ≡ 3)
+unfolding computed restoredOnce takenOver
+restored-other = (refl, refl, refl)

@@ -1,0 +1,255 @@
+-- Lists of steps from the fresh world with the answers that document 01 gives them, in its own
+-- numbers. Most steps in them are refused, and a refused step changes nothing, so each shows which
+-- refusal is given where several apply.
+use Prim.Native.Nat.{ℕ}
+use mathlib.Core.Path.{_≡_}
+use mathlib.Core.Bool.{true, false}
+use mathlib.Core.List.{List, [], _∷_, map}
+use Rattle.log_entry.specs.Entry.{takeEntry, voteEntry}
+use Rattle.model_steps.specs.declared.Role.the-variants.{Acceptor, Coord, Proc}
+use Rattle.model_steps.specs.declared.Step.{Step}
+use Rattle.model_steps.specs.declared.Step.the-variants.{Crash, Deliver, Open, Propose, Request, Restore, Setup, Tell}
+use Rattle.model_protocol.specs.declared.World.{World}
+use Rattle.model_protocol.specs.Step.{stepOf}
+use Rattle.model_protocol.specs.World.{freshWorld}
+
+-- a step, and its answer
+pub record Tried : Type 0 where
+  pub step : Step
+  pub answer : ℕ
+
+infixl 20 _gives_
+abbrev pub _gives_ : Step → ℕ → Tried
+s gives n = record { step = s; answer = n }
+
+-- the same steps with the answers that the definitions give, one after the other
+unfoldable pub asDefined : World → List Tried → List Tried
+asDefined w [] = []
+asDefined w (t ∷ ts) = (t .step gives (stepOf w (t .step) .answer)) ∷ asDefined (stepOf w (t .step) .world) ts
+
+abbrev pub Holds : List Tried → Type 0
+Holds table = asDefined freshWorld table ≡ table
+
+abbrev pub stepsOf : List Tried → List Step
+stepsOf table = map (λ (t : Tried). t .step) table
+
+-- ---- before setup: 2 goes before 4 and 5, and 4 before 5; "before setup five acceptors count"
+
+unfoldable pub beforeSetup : List Tried
+beforeSetup =
+    (Crash Acceptor 4 gives 5) ∷ (Crash Acceptor 5 gives 2) ∷ (Crash Coord 2 gives 5) ∷ (Crash Coord 3 gives 2)
+    ∷ (Crash Proc 0 gives 2) ∷ (Crash Proc 1 gives 5) ∷ (Crash Proc 15 gives 5) ∷ (Crash Proc 16 gives 2)
+    ∷ (Deliver 0 gives 4) ∷ (Deliver 127 gives 4) ∷ (Deliver 128 gives 2)
+    ∷ (Open 0 0 3 gives 5) ∷ (Open 3 0 3 gives 2) ∷ (Open 0 15 255 gives 5) ∷ (Open 0 16 3 gives 2) ∷ (Open 0 0 0 gives 2) ∷ (Open 0 0 256 gives 2)
+    ∷ (Propose 0 0 3 gives 5) ∷ (Propose 3 0 3 gives 2) ∷ (Propose 0 15 255 gives 5) ∷ (Propose 0 16 3 gives 2) ∷ (Propose 0 0 0 gives 2)
+    ∷ (Propose 0 0 256 gives 2)
+    ∷ (Tell 2 15 31 gives 5) ∷ (Tell 3 1 0 gives 2) ∷ (Tell 0 0 0 gives 2) ∷ (Tell 0 16 0 gives 2) ∷ (Tell 0 1 32 gives 2)
+    ∷ (Restore 2 15 gives 5) ∷ (Restore 3 1 gives 2) ∷ (Restore 0 0 gives 2) ∷ (Restore 0 16 gives 2)
+    ∷ (Request (takeEntry 15 7) 2 gives 5) ∷ (Request (takeEntry 1 0) 3 gives 2) ∷ (Request (takeEntry 0 0) 0 gives 2)
+    ∷ (Request (takeEntry 16 0) 0 gives 2) ∷ (Request (takeEntry 1 8) 0 gives 2)
+    ∷ (Request (voteEntry 15 7 7 31 0xff true 0xffffffff) 0 gives 5) ∷ (Request (voteEntry 1 8 0 0 0x01 true 0) 0 gives 2)
+    ∷ (Request (voteEntry 1 0 0 32 0x01 true 0) 0 gives 2)
+    ∷ (Setup 0 gives 2) ∷ (Setup 2 gives 2) ∷ (Setup 4 gives 2) ∷ (Setup 6 gives 2) ∷ (Setup 5 gives 0)
+    ∷ (Setup 3 gives 5) ∷ (Setup 4 gives 2) ∷ (Crash Acceptor 4 gives 0) ∷ (Crash Acceptor 5 gives 2)
+    ∷ []
+
+-- ---- opening and proposing
+
+unfoldable pub ballotsOfOne : List Tried
+ballotsOfOne =
+    (Setup 3 gives 0) ∷ (Crash Acceptor 3 gives 2)
+    -- not its own, not the current instance; a ballot opened once, and none below it
+    ∷ (Open 0 0 1 gives 5) ∷ (Open 0 0 2 gives 5) ∷ (Open 1 0 3 gives 5) ∷ (Open 2 0 4 gives 5) ∷ (Open 0 1 6 gives 5)
+    ∷ (Open 0 0 6 gives 0) ∷ (Open 0 0 3 gives 5) ∷ (Open 0 0 6 gives 5) ∷ (Propose 0 0 6 gives 5)
+    -- one promise is no majority of three, and nothing is there to propose
+    ∷ (Deliver 0 gives 0) ∷ (Deliver 3 gives 0) ∷ (Deliver 3 gives 0) ∷ (Propose 0 0 6 gives 5)
+    ∷ (Deliver 1 gives 0) ∷ (Deliver 4 gives 0) ∷ (Propose 0 0 6 gives 5)
+    -- another ballot, another instance; and it proposes once
+    ∷ (Request (takeEntry 1 0) 0 gives 0) ∷ (Deliver 5 gives 0)
+    ∷ (Propose 0 0 3 gives 5) ∷ (Propose 0 0 9 gives 5) ∷ (Propose 0 1 6 gives 5) ∷ (Propose 1 0 6 gives 5)
+    ∷ (Propose 0 0 6 gives 0) ∷ (Propose 0 0 6 gives 5)
+    -- acceptor 0 accepts ballot 6; a higher one is opened, and the promises of ballot 6 count for
+    -- nothing
+    ∷ (Deliver 6 gives 0) ∷ (Open 0 0 9 gives 0) ∷ (Deliver 3 gives 0) ∷ (Deliver 4 gives 0) ∷ (Propose 0 0 9 gives 5)
+    -- coordinator 1 has nothing queued, and may propose what acceptor 0 accepted
+    ∷ (Open 1 0 10 gives 0) ∷ (Deliver 13 gives 0) ∷ (Deliver 14 gives 0) ∷ (Deliver 16 gives 0) ∷ (Propose 1 0 10 gives 5)
+    ∷ (Deliver 17 gives 0) ∷ (Propose 1 0 10 gives 0)
+    ∷ []
+
+-- ---- a majority of five is three
+
+unfoldable pub ofFive : List Tried
+ofFive =
+    (Setup 5 gives 0) ∷ (Request (takeEntry 1 0) 0 gives 0) ∷ (Deliver 0 gives 0) ∷ (Open 0 0 3 gives 0)
+    ∷ (Deliver 1 gives 0) ∷ (Deliver 2 gives 0) ∷ (Deliver 5 gives 0) ∷ (Deliver 6 gives 0) ∷ (Deliver 7 gives 0)
+    ∷ (Propose 0 0 3 gives 5) ∷ (Deliver 8 gives 0) ∷ (Propose 0 0 3 gives 0)
+    -- acceptances of 9 to 13: a third one, and the instance is the next
+    ∷ (Deliver 9 gives 0) ∷ (Deliver 10 gives 0) ∷ (Deliver 11 gives 0) ∷ (Deliver 14 gives 0) ∷ (Deliver 15 gives 0) ∷ (Open 0 1 3 gives 5)
+    ∷ (Deliver 16 gives 0) ∷ (Open 0 0 6 gives 5) ∷ (Open 0 1 3 gives 0)
+    ∷ []
+
+-- ---- process 1 takes store 0 and is restored: twelve messages
+
+unfoldable pub restoredOnce : List Tried
+restoredOnce =
+    (Setup 3 gives 0) ∷ (Request (takeEntry 1 0) 0 gives 0)
+    -- nobody believes anything yet
+    ∷ (Request (voteEntry 1 0 0 4 0x01 true 10) 0 gives 5)
+    ∷ (Deliver 0 gives 0) ∷ (Open 0 0 3 gives 0) ∷ (Deliver 1 gives 0) ∷ (Deliver 2 gives 0) ∷ (Deliver 4 gives 0) ∷ (Deliver 5 gives 0)
+    ∷ (Propose 0 0 3 gives 0) ∷ (Deliver 6 gives 0) ∷ (Deliver 7 gives 0) ∷ (Restore 0 1 gives 5) ∷ (Deliver 9 gives 0) ∷ (Restore 0 1 gives 5)
+    ∷ (Deliver 10 gives 0)
+    -- by this coordinator's log: coordinator 1 has applied nothing, and process 2 holds nothing
+    ∷ (Restore 1 1 gives 5) ∷ (Restore 0 2 gives 5) ∷ (Restore 0 1 gives 0) ∷ (Request (voteEntry 1 0 0 4 0x01 true 10) 0 gives 5)
+    ∷ (Deliver 12 gives 4) ∷ (Deliver 11 gives 0)
+    ∷ []
+
+-- ---- 3 before 5, 6 and 7; 5 before 7
+
+unfoldable pub downAndBelief : List Tried
+downAndBelief =
+    -- 7: list without `store`, list without `by`, commit on behalf, abort with an update
+    (Request (voteEntry 1 0 0 4 0x02 true 10) 0 gives 7) ∷ (Request (voteEntry 1 0 1 4 0x02 false 0) 0 gives 7)
+    ∷ (Request (voteEntry 1 0 1 4 0x03 true 0) 0 gives 7) ∷ (Request (voteEntry 1 0 0 4 0x01 false 1) 0 gives 7)
+    -- 5: it does not believe that it holds `by`
+    ∷ (Request (voteEntry 1 1 1 4 0x01 true 10) 0 gives 5) ∷ (Request (voteEntry 2 0 0 4 0x02 true 10) 0 gives 5)
+    ∷ (Tell 0 1 4 gives 5)
+    -- a crash is for good
+    ∷ (Crash Proc 1 gives 0) ∷ (Crash Coord 1 gives 0) ∷ (Crash Acceptor 2 gives 0)
+    ∷ (Crash Proc 1 gives 3) ∷ (Crash Coord 1 gives 3) ∷ (Crash Acceptor 2 gives 3) ∷ (Crash Proc 16 gives 2)
+    -- the acting party, or the one in `to`, `proc` or `id`
+    ∷ (Request (voteEntry 1 1 0 4 0x02 true 10) 0 gives 3) ∷ (Request (takeEntry 1 1) 0 gives 3) ∷ (Request (takeEntry 2 1) 1 gives 3)
+    ∷ (Request (takeEntry 2 8) 1 gives 2)
+    ∷ (Open 1 1 4 gives 3) ∷ (Propose 1 1 4 gives 3) ∷ (Tell 1 2 4 gives 3) ∷ (Tell 0 1 4 gives 3) ∷ (Tell 1 1 32 gives 2)
+    ∷ (Restore 0 1 gives 3) ∷ (Restore 1 2 gives 3)
+    -- the receiver: acceptor 2 of a prepare and an accept, process 1 of a restore
+    ∷ (Deliver 3 gives 3) ∷ (Deliver 8 gives 3) ∷ (Deliver 11 gives 3) ∷ (Deliver 12 gives 4)
+    -- the others go on
+    ∷ (Crash Proc 2 gives 0) ∷ (Open 0 1 3 gives 0) ∷ (Deliver 12 gives 0) ∷ (Deliver 14 gives 3)
+    ∷ []
+
+-- ---- 6: fewer message numbers left than the step sends; 5 before 6 before 7
+
+-- after that a take is queued, and coordinator 0 opens 36 ballots of instance 1. Acceptors 0 and 1
+-- promise the last one. Of 128 numbers 125 are used
+unfoldable pub threeLeft : List Tried
+threeLeft =
+    (Request (takeEntry 2 1) 0 gives 0) ∷ (Deliver 12 gives 0)
+    ∷ (Open 0 1 3 gives 0) ∷ (Open 0 1 6 gives 0) ∷ (Open 0 1 9 gives 0) ∷ (Open 0 1 12 gives 0) ∷ (Open 0 1 15 gives 0) ∷ (Open 0 1 18 gives 0)
+    ∷ (Open 0 1 21 gives 0) ∷ (Open 0 1 24 gives 0) ∷ (Open 0 1 27 gives 0) ∷ (Open 0 1 30 gives 0) ∷ (Open 0 1 33 gives 0) ∷ (Open 0 1 36 gives 0)
+    ∷ (Open 0 1 39 gives 0) ∷ (Open 0 1 42 gives 0) ∷ (Open 0 1 45 gives 0) ∷ (Open 0 1 48 gives 0) ∷ (Open 0 1 51 gives 0) ∷ (Open 0 1 54 gives 0)
+    ∷ (Open 0 1 57 gives 0) ∷ (Open 0 1 60 gives 0) ∷ (Open 0 1 63 gives 0) ∷ (Open 0 1 66 gives 0) ∷ (Open 0 1 69 gives 0) ∷ (Open 0 1 72 gives 0)
+    ∷ (Open 0 1 75 gives 0) ∷ (Open 0 1 78 gives 0) ∷ (Open 0 1 81 gives 0) ∷ (Open 0 1 84 gives 0) ∷ (Open 0 1 87 gives 0) ∷ (Open 0 1 90 gives 0)
+    ∷ (Open 0 1 93 gives 0) ∷ (Open 0 1 96 gives 0) ∷ (Open 0 1 99 gives 0) ∷ (Open 0 1 102 gives 0) ∷ (Open 0 1 105 gives 0) ∷ (Open 0 1 108 gives 0)
+    ∷ (Deliver 118 gives 0) ∷ (Deliver 119 gives 0) ∷ (Deliver 121 gives 0) ∷ (Deliver 122 gives 0)
+    ∷ (Request (takeEntry 3 2) 0 gives 0) ∷ (Request (takeEntry 4 3) 0 gives 0)
+    ∷ []
+
+-- three are enough to propose
+unfoldable pub proposesWithThree : List Tried
+proposesWithThree = (Propose 0 1 108 gives 0) ∷ (Request (takeEntry 5 4) 0 gives 6) ∷ []
+
+-- and to open
+unfoldable pub opensWithThree : List Tried
+opensWithThree = (Open 0 1 111 gives 0) ∷ (Request (takeEntry 5 4) 0 gives 6) ∷ []
+
+unfoldable pub numbersUsed : List Tried
+numbersUsed =
+    -- two are left
+    (Request (takeEntry 5 4) 0 gives 0)
+    ∷ (Open 0 1 111 gives 6) ∷ (Propose 0 1 108 gives 6) ∷ (Open 0 1 112 gives 5) ∷ (Propose 0 1 111 gives 5)
+    ∷ (Request (takeEntry 6 5) 0 gives 0) ∷ (Request (takeEntry 7 6) 0 gives 0)
+    -- none is left
+    ∷ (Request (takeEntry 8 7) 0 gives 6) ∷ (Request (voteEntry 1 0 0 4 0x02 true 10) 0 gives 6) ∷ (Request (voteEntry 1 1 0 4 0x02 true 10) 0 gives 5)
+    ∷ (Restore 0 1 gives 6) ∷ (Restore 0 2 gives 5) ∷ (Tell 0 1 4 gives 5)
+    -- a promise and an acceptance need one; a prepare that does nothing and the other messages none
+    ∷ (Deliver 120 gives 6) ∷ (Deliver 6 gives 6) ∷ (Deliver 1 gives 0) ∷ (Deliver 9 gives 0) ∷ (Deliver 4 gives 0) ∷ (Deliver 11 gives 0)
+    ∷ (Deliver 123 gives 0) ∷ (Crash Acceptor 2 gives 0) ∷ (Deliver 120 gives 3) ∷ (Crash Proc 1 gives 0) ∷ (Restore 0 1 gives 3)
+    ∷ []
+
+-- ---- 6: a full queue for a new entry
+
+unfoldable pub fullQueue : List Tried
+fullQueue =
+    (Setup 3 gives 0)
+    ∷ (Request (takeEntry 1 0) 0 gives 0) ∷ (Request (takeEntry 2 1) 0 gives 0) ∷ (Request (takeEntry 3 2) 0 gives 0)
+    ∷ (Request (takeEntry 4 3) 0 gives 0) ∷ (Request (takeEntry 5 4) 0 gives 0) ∷ (Request (takeEntry 6 5) 0 gives 0)
+    ∷ (Request (takeEntry 7 6) 0 gives 0) ∷ (Request (takeEntry 8 7) 0 gives 0) ∷ (Request (takeEntry 9 7) 0 gives 0)
+    ∷ (Request (takeEntry 3 2) 0 gives 0)
+    ∷ (Deliver 0 gives 0) ∷ (Deliver 1 gives 0) ∷ (Deliver 2 gives 0) ∷ (Deliver 3 gives 0) ∷ (Deliver 0 gives 0) ∷ (Deliver 4 gives 0)
+    ∷ (Deliver 5 gives 0) ∷ (Deliver 6 gives 0) ∷ (Deliver 7 gives 0)
+    -- eight are queued: a ninth is refused, an equal one is not
+    ∷ (Deliver 8 gives 6) ∷ (Deliver 9 gives 0) ∷ (Deliver 7 gives 0) ∷ (Deliver 8 gives 6)
+    -- the first four are proposed and learned, and then there is place
+    ∷ (Open 0 0 3 gives 0) ∷ (Deliver 10 gives 0) ∷ (Deliver 11 gives 0) ∷ (Deliver 13 gives 0) ∷ (Deliver 14 gives 0) ∷ (Propose 0 0 3 gives 0)
+    ∷ (Deliver 15 gives 0) ∷ (Deliver 16 gives 0) ∷ (Deliver 18 gives 0) ∷ (Deliver 8 gives 6) ∷ (Deliver 19 gives 0) ∷ (Deliver 8 gives 0)
+    ∷ []
+
+-- ---- a batch that another coordinator proposed is learned: its entries leave the queue of coordinator 1
+
+unfoldable pub learnsAnothers : List Tried
+learnsAnothers =
+    (Setup 3 gives 0)
+    ∷ (Request (takeEntry 9 0) 1 gives 0) ∷ (Request (takeEntry 2 1) 1 gives 0) ∷ (Request (takeEntry 1 0) 1 gives 0) ∷ (Request (takeEntry 8 7) 1 gives 0)
+    ∷ (Deliver 0 gives 0) ∷ (Deliver 1 gives 0) ∷ (Deliver 2 gives 0) ∷ (Deliver 3 gives 0)
+    ∷ (Request (takeEntry 1 0) 0 gives 0) ∷ (Request (takeEntry 2 1) 0 gives 0) ∷ (Deliver 4 gives 0) ∷ (Deliver 5 gives 0)
+    -- 0 decides its own under ballot 3, and is not told
+    ∷ (Open 0 0 3 gives 0) ∷ (Deliver 6 gives 0) ∷ (Deliver 7 gives 0) ∷ (Deliver 9 gives 0) ∷ (Deliver 10 gives 0) ∷ (Propose 0 0 3 gives 0)
+    ∷ (Deliver 11 gives 0) ∷ (Deliver 12 gives 0)
+    -- 1 hears of it, proposes it under ballot 4 and learns it
+    ∷ (Open 1 0 4 gives 0) ∷ (Deliver 17 gives 0) ∷ (Deliver 18 gives 0) ∷ (Deliver 19 gives 0) ∷ (Deliver 20 gives 0) ∷ (Propose 1 0 4 gives 0)
+    ∷ (Deliver 22 gives 0) ∷ (Deliver 23 gives 0) ∷ (Deliver 24 gives 0) ∷ (Deliver 25 gives 0)
+    ∷ []
+
+-- ---- an accept promises too, and a promise carries the accepted pair; what does nothing sends nothing
+
+unfoldable pub acceptPromises : List Tried
+acceptPromises =
+    (Setup 3 gives 0) ∷ (Request (takeEntry 1 0) 0 gives 0) ∷ (Deliver 0 gives 0) ∷ (Open 0 0 6 gives 0) ∷ (Deliver 1 gives 0) ∷ (Deliver 2 gives 0)
+    ∷ (Deliver 4 gives 0) ∷ (Deliver 5 gives 0) ∷ (Propose 0 0 6 gives 0)
+    -- acceptor 2 promised nothing, and accepts 6; then a prepare of 4 does nothing
+    ∷ (Deliver 8 gives 0) ∷ (Open 1 0 4 gives 0) ∷ (Deliver 12 gives 0) ∷ (Deliver 13 gives 4)
+    -- a prepare of 8 is promised, with 6; then the accept of 6 does nothing
+    ∷ (Open 2 0 8 gives 0) ∷ (Deliver 15 gives 0) ∷ (Deliver 8 gives 0) ∷ (Deliver 15 gives 0) ∷ (Deliver 17 gives 4)
+    ∷ []
+
+-- ---- an acceptor's answer goes to a coordinator that is down, too
+
+unfoldable pub answersTheDown : List Tried
+answersTheDown =
+    (Setup 3 gives 0) ∷ (Open 0 0 3 gives 0) ∷ (Crash Coord 0 gives 0) ∷ (Deliver 0 gives 0) ∷ (Deliver 3 gives 3) ∷ (Deliver 4 gives 4)
+    ∷ (Crash Acceptor 1 gives 0) ∷ (Deliver 1 gives 3) ∷ (Open 1 0 4 gives 0)
+    ∷ []
+
+-- ---- after a restore: votes are decided, outcomes told, and the store is restored again
+
+unfoldable pub told : List Tried
+told =
+    -- process 1 commits 4 and aborts 5 and, on behalf of store 1, 6; transaction 7 waits for store
+    -- 1
+    (Request (voteEntry 1 0 0 4 0x01 true 10) 0 gives 0) ∷ (Request (voteEntry 1 0 0 5 0x01 false 0) 0 gives 0)
+    ∷ (Request (voteEntry 1 0 1 6 0x03 false 0) 0 gives 0) ∷ (Request (voteEntry 1 0 0 7 0x03 true 11) 0 gives 0)
+    ∷ (Deliver 12 gives 0) ∷ (Deliver 13 gives 0) ∷ (Deliver 14 gives 0) ∷ (Deliver 15 gives 0) ∷ (Open 0 1 3 gives 0) ∷ (Deliver 16 gives 0)
+    ∷ (Deliver 17 gives 0) ∷ (Deliver 19 gives 0) ∷ (Deliver 20 gives 0) ∷ (Propose 0 1 3 gives 0) ∷ (Deliver 21 gives 0) ∷ (Deliver 22 gives 0)
+    ∷ (Deliver 24 gives 0) ∷ (Tell 0 1 4 gives 5) ∷ (Deliver 25 gives 0)
+    -- each is told once it is decided, by the log of the coordinator that tells
+    ∷ (Tell 1 1 4 gives 5) ∷ (Tell 0 1 7 gives 5) ∷ (Tell 0 1 8 gives 5)
+    ∷ (Tell 0 1 4 gives 0) ∷ (Tell 0 2 5 gives 0) ∷ (Tell 0 1 6 gives 0) ∷ (Deliver 26 gives 0) ∷ (Deliver 27 gives 0) ∷ (Deliver 28 gives 0)
+    -- the store is restored again, and the older restore comes once more
+    ∷ (Restore 0 1 gives 0) ∷ (Deliver 29 gives 0) ∷ (Deliver 11 gives 0)
+    ∷ []
+
+-- ---- after a restore: process 2 takes the store over, and process 1 takes another
+
+unfoldable pub takenOver : List Tried
+takenOver =
+    (Request (takeEntry 2 0) 0 gives 0) ∷ (Deliver 12 gives 0) ∷ (Open 0 1 3 gives 0) ∷ (Deliver 13 gives 0) ∷ (Deliver 14 gives 0) ∷ (Deliver 16 gives 0)
+    ∷ (Deliver 17 gives 0) ∷ (Propose 0 1 3 gives 0) ∷ (Deliver 18 gives 0) ∷ (Deliver 19 gives 0) ∷ (Deliver 21 gives 0) ∷ (Deliver 22 gives 0)
+    -- the old holder is not restored; it still believes, and what it sends is refused when it is
+    -- applied
+    ∷ (Restore 0 1 gives 5) ∷ (Request (takeEntry 1 1) 0 gives 0) ∷ (Deliver 23 gives 0) ∷ (Request (voteEntry 1 0 0 4 0x01 true 10) 0 gives 0)
+    ∷ (Deliver 24 gives 0) ∷ (Open 0 2 3 gives 0) ∷ (Deliver 25 gives 0) ∷ (Deliver 26 gives 0) ∷ (Deliver 28 gives 0) ∷ (Deliver 29 gives 0)
+    ∷ (Propose 0 2 3 gives 0) ∷ (Deliver 30 gives 0) ∷ (Deliver 31 gives 0) ∷ (Deliver 33 gives 0) ∷ (Deliver 34 gives 0) ∷ (Tell 0 1 4 gives 5)
+    -- with the restore of store 1 it believes it holds that and no other
+    ∷ (Restore 0 1 gives 0) ∷ (Request (voteEntry 1 1 1 5 0x02 true 1) 0 gives 5) ∷ (Deliver 35 gives 0)
+    ∷ (Request (voteEntry 1 0 0 4 0x01 true 10) 0 gives 5) ∷ (Request (voteEntry 1 1 1 5 0x02 true 1) 0 gives 0)
+    ∷ []
