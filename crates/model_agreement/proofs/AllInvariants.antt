@@ -14,7 +14,7 @@ use Rattle.model_steps.specs.declared.Step.{Step}
 use Rattle.model_steps.specs.Limits.{coordinators, instances, messages, mostAcceptors}
 use Rattle.log_entry.specs.Limits.{transactions}
 use Rattle.model_paxos.specs.Messages.{Paxos}
-use Rattle.model_paxos.proofs.Core.{Core}
+use Rattle.model_paxos.specs.Rules.{Core}
 use Rattle.model_paxos.proofs.Grow.{AccOk, CoOk}
 use Rattle.model_paxos.proofs.Sets.{few-zero, has-zero, has←, meet}
 use Rattle.model_protocol.specs.declared.Batch.{Batch}

@@ -11,7 +11,7 @@ use lib.ListN.{getD, length, set}
 use Rattle.model_steps.specs.Limits.{coordinators, instances, mostAcceptors}
 use Rattle.model_paxos.specs.Ballot.{Majority, owner}
 use Rattle.model_paxos.specs.Messages.{Paxos, accept, accepted, promise}
-use Rattle.model_paxos.proofs.Core.{Core}
+use Rattle.model_paxos.specs.Rules.{Core}
 use Rattle.model_paxos.proofs.Grow.{AccOk, Attempt, Best, CoOk, Holding, New, NewAll, acc-up, co-up, core-accepted, core-open, core-promise, core-propose, kind, new, newAt}
 use Rattle.model_paxos.proofs.Local.{acc-accepted, acc-promise, co-count, co-hear, co-learn, co-open, co-others, co-propose}
 use Rattle.model_paxos.proofs.Sets.{majority→, with-lt}

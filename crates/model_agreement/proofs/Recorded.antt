@@ -9,7 +9,8 @@ use lib.Dec.{T}
 use Rattle.log_entry.specs.Bits.{has, with}
 use Rattle.model_paxos.specs.Ballot.{Majority}
 use Rattle.model_paxos.specs.Messages.{Paxos, accept, accepted, prepare}
-use Rattle.model_paxos.proofs.Sets.{Has, few-zero, has-with, has-zero, has←, has→, meet, most-mono, with-has, with-keeps}
+use Rattle.model_paxos.specs.Rules.{Has}
+use Rattle.model_paxos.proofs.Sets.{few-zero, has-with, has-zero, has←, has→, meet, most-mono, with-has, with-keeps}
 use Rattle.model_protocol.specs.declared.Batch.{Batch}
 use Rattle.model_agreement.specs.Content.{paxos}
 use Rattle.model_agreement.specs.History.{Accepts, Event, Got, LastOpened, Learns, NoneAbove, Other, Since, before, delivered, first, heard, here, kept, later, learns, opened, opening, withoutMessages, there}

@@ -22,9 +22,9 @@ use Rattle.model_steps.specs.Limits.{instances}
 use Rattle.log_laws.proofs.Replicated.{decided-stays}
 use Rattle.model_paxos.specs.Ballot.{Majority}
 use Rattle.model_paxos.specs.Messages.{Paxos, accept}
-use Rattle.model_paxos.proofs.Core.{Chosen}
+use Rattle.model_paxos.specs.Rules.{Chosen, Has}
 use Rattle.model_paxos.proofs.Sequence.{all-below, chosen-front, chosen-in, chosen-is, prefix, seq-chosen, seqFrom}
-use Rattle.model_paxos.proofs.Sets.{Has, has←, has→, meet}
+use Rattle.model_paxos.proofs.Sets.{has←, has→, meet}
 use Rattle.model_protocol.specs.declared.Batch.{Batch}
 use Rattle.model_protocol.specs.declared.World.{World}
 use Rattle.model_protocol.specs.Batch.{entriesOf, noBatch}

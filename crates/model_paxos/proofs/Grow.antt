@@ -8,8 +8,7 @@ use native.Mathlib.Omega.{arith}
 use Rattle.model_steps.specs.Limits.{instances}
 use Rattle.model_paxos.specs.Ballot.{Majority, owner}
 use Rattle.model_paxos.specs.Messages.{Paxos, accept, accepted, prepare, promise}
-use Rattle.model_paxos.proofs.Sets.{Has}
-use Rattle.model_paxos.proofs.Core.{Why, Chosen, Core}
+use Rattle.model_paxos.specs.Rules.{Chosen, Core, Has, Why}
 
 -- what an acceptor holds of an instance
 pub record Holding (X : Type 0) : Type 0 where

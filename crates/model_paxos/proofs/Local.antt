@@ -9,8 +9,8 @@ use Rattle.log_entry.specs.Bits.{with}
 use Rattle.model_steps.specs.Limits.{instances}
 use Rattle.model_paxos.specs.Ballot.{Majority, owner}
 use Rattle.model_paxos.specs.Messages.{Paxos, accept, accepted, promise}
-use Rattle.model_paxos.proofs.Sets.{Has, has-with, has-zero, meet}
-use Rattle.model_paxos.proofs.Core.{Chosen, Core}
+use Rattle.model_paxos.specs.Rules.{Chosen, Core, Has}
+use Rattle.model_paxos.proofs.Sets.{has-with, has-zero, meet}
 use Rattle.model_paxos.proofs.Grow.{AccOk, Attempt, Best, CoOk, Holding, New, NewAll, UsedBy, best-up, chosen-up, co-up, kind, new, newAt, now, pair-up, past, under}
 
 -- ---- acceptors

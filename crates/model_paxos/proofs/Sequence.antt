@@ -16,8 +16,9 @@ use Rattle.log_entry.specs.Bits.{with}
 use Rattle.model_steps.specs.Limits.{instances}
 use Rattle.model_paxos.specs.Ballot.{Majority}
 use Rattle.model_paxos.specs.Messages.{Paxos, accept, accepted, prepare, promise}
-use Rattle.model_paxos.proofs.Core.{Chosen, Core, chosen-agree}
-use Rattle.model_paxos.proofs.Sets.{Has, has-with, has-zero, most-mono, with-has, with-keeps}
+use Rattle.model_paxos.specs.Rules.{Chosen, Core, Has}
+use Rattle.model_paxos.proofs.Core.{chosen-agree}
+use Rattle.model_paxos.proofs.Sets.{has-with, has-zero, most-mono, with-has, with-keeps}
 
 abbrev isMost : ℕ → ℕ → Bool
 isMost n q = ltb n (2 * onesIn n q)
@@ -254,7 +255,7 @@ module _ {X : Type 0} {n : ℕ} {S : Paxos X → Type 0} (C : Core n S) (all : L
               absurd (miss (ended (omega (arith, g))) (t .2))
 
   pub chosen-is : {i b : ℕ} {v : X} → Chosen n S i b v → getD chosen i z ≡ v
-  chosen-is {i} c = chosen-agree C (seq-chosen i (chosen-in c) .1) c
+  chosen-is {i} c = chosen-agree X n S C i _ _ _ _ (seq-chosen i (chosen-in c) .1) c
 
   -- the values chosen in the instances from 0 on are the front of the sequence
   pub chosen-front : (l : List X) → ((j : ℕ) → j < length l → (b : ℕ) × Chosen n S j b (getD l j z))

@@ -10,15 +10,7 @@ use lib.Dec.{T, eqb→eq, ltb→lt, lt→ltb}
 use lib.Pow.{pow-lt, shr-shr}
 use Rattle.log_entry.specs.Bits.{has, with}
 use Rattle.model_paxos.specs.Ballot.{Majority, majority}
-
--- digit a of the set
-abbrev pub bit : ℕ → ℕ → ℕ
-bit zero q = q % 2
-bit (suc a) q = bit a (q / 2)
-
--- a is in the set
-abbrev pub Has : ℕ → ℕ → Type 0
-Has q a = bit a q ≡ 1
+use Rattle.model_paxos.specs.Rules.{Has, bit}
 
 bit-is : (a q : ℕ) → bit a q ≡ q / 2 ^ a % 2
 bit-is zero q = let e : q / 1 ≡ q = omega arith in rw e

@@ -1,2 +1,3 @@
 pub mod Ballot
 pub mod Messages
+pub mod Rules
