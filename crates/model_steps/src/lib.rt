@@ -20,3 +20,16 @@ pub enum Step {
     Restore { coord: u8, process: u8 },
     Crash { role: Role, id: u8 },
 }
+
+// What a line asks for: a step to be taken, or only the answer to a line that is no step.
+pub struct Command {
+    // 0 if the step is to be taken.
+    pub refused: u8,
+    pub step: Step,
+}
+
+// What the lines of an input ask for: the first `count`.
+pub struct Commands {
+    pub count: u16,
+    pub commands: [Command; limits::COMMAND_PLACES],
+}

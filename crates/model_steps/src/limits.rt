@@ -18,6 +18,11 @@ pub const INSTANCES: u8 = 16;
 
 pub const MESSAGES: u8 = 128;
 
+// A command for each line that a program answers: 1,000, and line 1,001.
+pub const COMMANDS: u16 = 1001;
+
+pub const COMMAND_PLACES: usize = COMMANDS as usize;
+
 fn setup_outside(n: u8) -> bool
     ensures { λ r. ⌜ r ≡ not (eqb n 3 || eqb n mostAcceptors) ⌝ }
 {

@@ -9,13 +9,14 @@ use model_protocol::Change;
 use model_protocol::Coordinator;
 use model_protocol::Parts;
 use model_steps::Role;
-use world_coordinator::fresh;
 use world_coordinator::round;
+use world_fresh::new_round;
 use world_messages::message;
 use world_messages::parties;
 use world_messages::send;
 use world_parts::changes;
 use world_parts::refusal;
+use world_parts::refusal::Tests;
 
 // Whether coordinator k, of number coord, may not open the ballot.
 fn ballot_barred(n: u8, k: Coordinator, coord: u8, inst: u8, ballot: u8) -> bool
@@ -40,11 +41,17 @@ pub fn open(mut p: Parts, coord: u8, inst: u8, ballot: u8) -> Change
     let mut c = p.coordinator;
     let down = parties::is_down(p.down, Role::Coord, coord);
     let barred = ballot_barred(n, c, coord, inst, ballot);
-    let answer = refusal::first_of(false, down, barred, send::lacks_numbers(p.sent, n), false);
+    let answer = refusal::first_of(Tests {
+        unsent: false,
+        down: down,
+        unmet: barred,
+        full: send::lacks_numbers(p.sent, n),
+        ill: false,
+    });
     if answer != 0 {
         return changes::without_messages(p, answer);
     }
-    c.round = fresh::new_round(ballot);
+    c.round = new_round(ballot);
     p.coordinator = c;
     changes::sending(p, n, message::prepare_to(inst, ballot, 0))
 }
@@ -81,7 +88,13 @@ pub fn propose(mut p: Parts, coord: u8, inst: u8, ballot: u8) -> Change
     let mut c = p.coordinator;
     let down = parties::is_down(p.down, Role::Coord, coord);
     let barred = proposal_barred(n, c, inst, ballot);
-    let answer = refusal::first_of(false, down, barred, send::lacks_numbers(p.sent, n), false);
+    let answer = refusal::first_of(Tests {
+        unsent: false,
+        down: down,
+        unmet: barred,
+        full: send::lacks_numbers(p.sent, n),
+        ill: false,
+    });
     if answer != 0 {
         return changes::without_messages(p, answer);
     }

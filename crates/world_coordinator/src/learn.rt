@@ -5,7 +5,6 @@ ghost use Rattle.log_core.specs.Enter.{feed};
 ghost use Rattle.model_steps.specs.Limits.{instances};
 ghost use Rattle.model_protocol.specs.Batch.{entriesOf};
 ghost use Rattle.model_protocol.specs.Coordinator.{learning};
-use crate::fresh::new_round;
 use crate::limits::BATCH_ENTRIES;
 use crate::limits::least;
 use crate::queue::left_by;
@@ -13,6 +12,7 @@ use log_core::Log;
 use model_protocol::Batch;
 use model_protocol::Coordinator;
 use model_steps::limits::INSTANCES;
+use world_fresh::new_round;
 
 // The batch is applied in order; a refused entry is skipped.
 pub fn fed(mut log: Log, batch: Batch) -> Log

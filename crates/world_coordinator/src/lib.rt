@@ -1,5 +1,4 @@
 // A coordinator: its queue, the round of the ballot that it opened last, and what it learns. `protocol` has the definitions.
-pub mod fresh;
 pub mod learn;
 mod limits;
 pub mod queue;

@@ -2,12 +2,12 @@
 ghost use mathlib.Core.Path.{_≡_};
 ghost use Rattle.model_protocol.specs.Queue.{firstBatch, isFull, isIn, leftBy, queued};
 ghost use Rattle.model_protocol.specs.Queue.{joining};
-use crate::fresh::no_entry;
 use crate::limits::BATCH_ENTRIES;
 use crate::limits::least;
 use log_entry::Entry;
 use model_protocol::Batch;
 use model_protocol::Queue;
+use world_fresh::no_entry;
 use world_queue::QUEUE_PLACES;
 use world_queue::is_among_first;
 

@@ -10,14 +10,14 @@ use Rattle.model_protocol.specs.Change.{withoutMessages}
 use Rattle.model_protocol.specs.Deliver.{deliveryChange, noPlaceFor, receiverDown}
 use Rattle.model_protocol.specs.Step.{changeOf, stepChecks}
 use Rattle.world_parts.specs.Plan.{planOf, refusalIn}
-use Rattle.world_parts.specs.Refusal.{firstOf}
+use Rattle.world_parts.specs.Refusal.{firstOf, tests}
 use Rattle.world_parts.proofs.PlanLaws.{done-is, refused-is, same-first}
 
 module _ (p : Parts) (msg : ℕ) where
   pub first-refusal : (down full : Bool)
       → down ≡ receiverDown (p .down) (p .message) (p .message .kind)
       → full ≡ noPlaceFor p (p .message .kind)
-      → firstOf (leb (p .sent) msg) down (eqb (p .acceptors) 0) full false ≡ refusalIn p (Deliver msg)
+      → firstOf (tests (leb (p .sent) msg) down (eqb (p .acceptors) 0) full false) ≡ refusalIn p (Deliver msg)
   unfolding stepChecks firstRefusal
   first-refusal down full down-is full-is =
       same-first (leb (p .sent) msg) (leb (p .sent) msg) _ _ (eqb (p .acceptors) 0) (eqb (p .acceptors) 0) _ _ false false refl down-is refl full-is refl

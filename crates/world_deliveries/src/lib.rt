@@ -21,6 +21,7 @@ use world_messages::parties;
 use world_messages::send;
 use world_parts::changes;
 use world_parts::refusal;
+use world_parts::refusal::Tests;
 
 // Whether the queue is full for the entry.
 fn is_full_for(q: Queue, e: Entry) -> bool
@@ -174,7 +175,13 @@ pub fn deliver(p: Parts, msg: u8) -> Change
     ensures { λ r. ⌜ r ≡ planOf p (Deliver msg) ⌝ }
 {
     let down = parties::receiver_down(p.down, p.message);
-    let answer = refusal::first_of(p.sent <= msg, down, p.acceptors == 0, no_room(p), false);
+    let answer = refusal::first_of(Tests {
+        unsent: p.sent <= msg,
+        down: down,
+        unmet: p.acceptors == 0,
+        full: no_room(p),
+        ill: false,
+    });
     if answer != 0 {
         return changes::without_messages(p, answer);
     }

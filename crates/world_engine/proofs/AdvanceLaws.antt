@@ -1,4 +1,4 @@
--- One turn of the loop over a block's orders.
+-- One turn of the loop over the commands.
 use Prim.Native.Nat.{ℕ, suc, _<_, _≤_, _+_, _*_, _-_, _%_, min}
 use mathlib.Core.Bool.{false, true≢false}
 use mathlib.Core.List.{List, [], _∷_}
@@ -42,13 +42,14 @@ use Rattle.model_protocol.specs.World.{coordinatorOf, emptySlot, freshCoordinat
 use Rattle.world_coordinator.proofs.FrontLaws.{front-end, front-step}
 use Rattle.world_parts.specs.Asks.{asksLog}
 use Rattle.world_engine.specs.Changed.{changeIn}
-use Rattle.world_engine.proofs.Block.{the-type as block-type}
+use Rattle.model_steps.proofs.Commands.{the-type as commands-type}
 use Rattle.world_engine.specs.declared.Advanced.{Advanced}
-use Rattle.world_engine.specs.declared.Block.{Block}
-use Rattle.world_engine.specs.declared.Order.{Order}
-use Rattle.world_engine.specs.Orders.{advanced, answersTo, blockOrders, ordered, ordersOf, worldAfter}
-use Rattle.world_engine.proofs.Room.{order-fits}
-use Rattle.world_engine.proofs.Stepping.{order-is, stored}
+use Rattle.model_steps.specs.declared.Commands.{Commands}
+use Rattle.model_steps.specs.declared.Command.{Command}
+use Rattle.world_engine.specs.Commands.{advanced, answersTo, carriedOut, worldAfter}
+use Rattle.model_steps.specs.Commands.{commandsIn, mostCommands}
+use Rattle.world_engine.proofs.Room.{command-fits}
+use Rattle.world_engine.proofs.Stepping.{command-is, stored}
 
 -- ---- lengths
 
@@ -70,8 +71,8 @@ world-lengths w vs g = (
   simp length-map at (g .1 .1 .1 .1 .1 .1 .1 .1 .0 .1 .0 .1),
 )
 
-pub block-length : (b : Block) (vs : List Val) → Is (row block-type) b vs → length (b .orders) ≡ blockOrders
-block-length b vs g = simp length-map at (g .1 .1 .0 .1 .0 .1)
+pub commands-length : (b : Commands) (vs : List Val) → Is (row commands-type) b vs → length (b .commands) ≡ mostCommands
+commands-length b vs g = simp length-map at (g .1 .1 .1 .0 .1 .0 .1)
 
 message-inside : (s : Step) → messageAt s < messages
 message-inside (Setup n) = omega arith
@@ -232,27 +233,27 @@ module _ (m₀ : Message) where
       ∙ next-copy-suc i
       ∙ ap (λ (k : ℕ). copyOf m₀ k) (sym (add-one i))
 
--- ---- one order
+-- ---- one command
 
-module _ (w : World) (o : Order) (d m : Message) (at : Places) (p : Parts) where
-  read-order : d ≡ deliveredIn w (o .step) → at ≡ placesOf (o .step) d
+module _ (w : World) (o : Command) (d m : Message) (at : Places) (p : Parts) where
+  read-command : d ≡ deliveredIn w (o .step) → at ≡ placesOf (o .step) d
       → m ≡ messageFor (o .step) d (logOf w (at .coordinator)) (coordinatorOf w (at .coordinator) .applied)
-      → p ≡ partsAt w at m → stored w at (changeIn o p) ≡ ordered w o
-  read-order ed ea em ep = rw (ep, em, ea, ed) (order-is w o)
+      → p ≡ partsAt w at m → stored w at (changeIn o p) ≡ carriedOut w o
+  read-command ed ea em ep = rw (ep, em, ea, ed) (command-is w o)
 
-  pub order-taken : (ch : Change) (i : ℕ) (v : World) → d ≡ deliveredIn w (o .step) → at ≡ placesOf (o .step) d
+  pub command-taken : (ch : Change) (i : ℕ) (v : World) → d ≡ deliveredIn w (o .step) → at ≡ placesOf (o .step) d
       → m ≡ messageFor (o .step) d (logOf w (at .coordinator)) (coordinatorOf w (at .coordinator) .applied)
       → p ≡ partsAt w at m → ch ≡ changeIn o p → i ≡ ch .count
       → v ≡ sendToAll (putBack w at (ch .parts) (ch .learned)) i (copyOf (ch .message))
-      → answered v (ch .answer) ≡ ordered w o
-  order-taken ch i v ed ea em ep ec ei ev =
+      → answered v (ch .answer) ≡ carriedOut w o
+  command-taken ch i v ed ea em ep ec ei ev =
       ap (λ (x : World). answered x (ch .answer)) (ev ∙ ap (λ (k : ℕ). sendToAll (putBack w at (ch .parts) (ch .learned)) k (copyOf (ch .message))) ei)
       ∙ ap (λ (x : Change). stored w at x) ec
-      ∙ read-order ed ea em ep
+      ∙ read-command ed ea em ep
 
--- ---- the orders of a block
+-- ---- the commands in turn
 
-module _ (xs : List Order) (n k : ℕ) (hn : k < n) (hx : k < length xs) (d : Order) (w v : World) (a : ℕ) (is : answered v a ≡ ordered w (getD xs k d)) where
+module _ (xs : List Command) (n k : ℕ) (hn : k < n) (hx : k < length xs) (d : Command) (w v : World) (a : ℕ) (is : answered v a ≡ carriedOut w (getD xs k d)) where
   pub world-turn : worldAfter w (drop k (take n xs)) ≡ worldAfter v (drop (k + 1) (take n xs))
   unfolding worldAfter
   world-turn =
@@ -278,24 +279,24 @@ put-lengths w at p b long = (rw length-set (long .0), rw length-set (long .1), r
 pub sent-lengths : (w : World) (m : Message) → Lengths w → Lengths (withMessage w m)
 sent-lengths w m long = (long .0, long .1, long .2, long .3, rw length-set (long .4))
 
-pub count-fits : (ch : Change) (o : Order) (p : Parts) → ch ≡ changeIn o p → ch .count ≤ messages - p .sent
-count-fits ch o p e = rw e (order-fits o p)
+pub count-fits : (ch : Change) (o : Command) (p : Parts) → ch ≡ changeIn o p → ch .count ≤ messages - p .sent
+count-fits ch o p e = rw e (command-fits o p)
 
--- at the end of the loop all orders of the block are taken
-pub block-done : (w₀ w : World) (b : Block) (answers : List ℕ) (n k : ℕ) → length (b .orders) ≡ blockOrders → n ≡ min (b .count) blockOrders → n ≤ k
-    → worldAfter w (drop k (ordersOf b)) ≡ worldAfter w₀ (ordersOf b)
-    → sets answers k (answersTo w (drop k (ordersOf b))) ≡ sets (replicate blockOrders 0) 0 (answersTo w₀ (ordersOf b))
+-- at the end of the loop all commands are carried out
+pub commands-done : (w₀ w : World) (b : Commands) (answers : List ℕ) (n k : ℕ) → length (b .commands) ≡ mostCommands → n ≡ min (b .count) mostCommands → n ≤ k
+    → worldAfter w (drop k (commandsIn b)) ≡ worldAfter w₀ (commandsIn b)
+    → sets answers k (answersTo w (drop k (commandsIn b))) ≡ sets (replicate mostCommands 0) 0 (answersTo w₀ (commandsIn b))
     → _≡_ {A = Advanced} (record { world = w; answers = answers }) (advanced w₀ b)
 unfolding advanced worldAfter answersTo
-block-done w₀ w b answers n k hl hn hk hw ha =
-    let rest : drop k (ordersOf b) ≡ [] = front-end (b .orders) (b .count) k (omega (arith, hl, hn, hk)) in
-    let world : w ≡ worldAfter w₀ (ordersOf b) = rw rest at hw in
-    let answered : answers ≡ sets (replicate blockOrders 0) 0 (answersTo w₀ (ordersOf b)) = rw rest at ha in
+commands-done w₀ w b answers n k hl hn hk hw ha =
+    let rest : drop k (commandsIn b) ≡ [] = front-end (b .commands) (b .count) k (omega (arith, hl, hn, hk)) in
+    let world : w ≡ worldAfter w₀ (commandsIn b) = rw rest at hw in
+    let answered : answers ≡ sets (replicate mostCommands 0) 0 (answersTo w₀ (commandsIn b)) = rw rest at ha in
     λ i. record { world = world i; answers = answered i }
 
--- a block of one step
+-- one command
 pub one-step : (w : World) (s : Step) (after : Advanced)
-    → after ≡ advanced w (record { orders = replicate blockOrders (record { refused = 0; step = s }); count = 1 })
+    → after ≡ advanced w (record { count = 1; commands = replicate mostCommands (record { refused = 0; step = s }) })
     → _≡_ {A = Stepped} (record { world = after .world; answer = getD (after .answers) 0 0 }) (stepOf w s)
 unfolding advanced worldAfter answersTo
 one-step w s after is = ap (λ (x : Advanced). answered (x .world) (getD (x .answers) 0 0)) is

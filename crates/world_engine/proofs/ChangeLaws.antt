@@ -9,10 +9,10 @@ use Rattle.model_protocol.specs.declared.Parts.{Parts}
 use Rattle.model_protocol.specs.Change.{withoutMessages}
 use Rattle.model_protocol.specs.Step.{acceptorsCounted, stepRefusal}
 use Rattle.world_parts.specs.Plan.{planOf}
-use Rattle.world_engine.specs.declared.Order.{Order}
+use Rattle.model_steps.specs.declared.Command.{Command}
 use Rattle.world_engine.specs.Changed.{changeIn}
 
-module _ (o : Order) (p : Parts) where
+module _ (o : Command) (p : Parts) where
   pub order-refused : (o .refused ≡ 0 → ⊥) → withoutMessages p (o .refused) ≡ changeIn o p
   unfolding changeIn
   order-refused h = rw (ne-eqb (o .refused) 0 h)

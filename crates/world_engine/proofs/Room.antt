@@ -25,11 +25,11 @@ use Rattle.model_protocol.specs.Send.{lacksNumbers}
 use Rattle.model_protocol.specs.Step.{acceptorsCounted, cannotOpen, cannotPropose, changeOf, notSetUp, stepChecks, stepRefusal, voterNotHolder}
 use Rattle.model_protocol.specs.World.{isDown}
 use Rattle.world_parts.specs.Plan.{refusalIn}
-use Rattle.world_parts.specs.Refusal.{firstOf}
-use Rattle.world_engine.specs.declared.Order.{Order}
+use Rattle.world_parts.specs.Refusal.{firstOf, tests}
+use Rattle.model_steps.specs.declared.Command.{Command}
 use Rattle.world_engine.specs.Changed.{changeIn}
 
-first-roomy : (unsent down unmet full ill : Bool) → firstOf unsent down unmet full ill ≡ 0 → full ≡ false
+first-roomy : (unsent down unmet full ill : Bool) → firstOf (tests unsent down unmet full ill) ≡ 0 → full ≡ false
 unfolding firstRefusal
 first-roomy unsent down unmet false ill h = refl
 first-roomy true down unmet true ill h = absurd (omega (arith, h))
@@ -95,9 +95,9 @@ within p s = by (outsideStep (acceptorsCounted (p .acceptors)) s)
     by true h = absurd (omega (arith, h))
     by false h = h
 
-pub order-fits : (o : Order) (p : Parts) → changeIn o p .count ≤ messages - p .sent
+pub command-fits : (o : Command) (p : Parts) → changeIn o p .count ≤ messages - p .sent
 unfolding changeIn
-order-fits o p =
+command-fits o p =
     let s = o .step in
     either-fits (eqb (o .refused) 0) _ _ (messages - p .sent)
     (λ _. either-fits (eqb (stepRefusal p s) 0) (changeOf p s) _ (messages - p .sent) (λ h. change-fits p s (within p s (eqb-true (stepRefusal p s) 0 h))) (omega arith))

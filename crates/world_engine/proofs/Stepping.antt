@@ -21,9 +21,9 @@ use Rattle.model_protocol.specs.Deliver.{deliveryChange}
 use Rattle.model_protocol.specs.Step.{answered, changed, changeOf, messageIn, partsOf, placesIn, stepOf, stepRefusal}
 use Rattle.model_protocol.proofs.PutBack.{nothing-changed}
 use Rattle.world_parts.specs.Plan.{decided}
-use Rattle.world_engine.specs.declared.Order.{Order}
+use Rattle.model_steps.specs.declared.Command.{Command}
 use Rattle.world_engine.specs.Changed.{changeIn}
-use Rattle.world_engine.specs.Orders.{ordered}
+use Rattle.world_engine.specs.Commands.{carriedOut}
 
 -- ---- what is not refused is answered 0
 
@@ -61,7 +61,7 @@ change-accepted p (Crash role id) = refl
 abbrev pub stored : World → Places → Change → Stepped
 stored w at ch = answered (changed w at ch) (ch .answer)
 
-module _ (w : World) (o : Order) where
+module _ (w : World) (o : Command) where
   abbrev s : Step
   s = o .step
 
@@ -86,6 +86,6 @@ module _ (w : World) (o : Order) where
   by-order true = by-refusal (eqb (stepRefusal p s) accepted)
   by-order false = unchanged (o .refused)
 
-  pub order-is : stored w at (changeIn o p) ≡ ordered w o
+  pub command-is : stored w at (changeIn o p) ≡ carriedOut w o
   unfolding changeIn
-  order-is = by-order (eqb (o .refused) accepted)
+  command-is = by-order (eqb (o .refused) accepted)

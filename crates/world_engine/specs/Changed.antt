@@ -7,9 +7,9 @@ use Rattle.model_protocol.specs.declared.Parts.{Parts}
 use Rattle.model_protocol.specs.Change.{withoutMessages}
 use Rattle.model_protocol.specs.Step.{changeOf, stepRefusal}
 use Rattle.world_parts.specs.Plan.{decided}
-use Rattle.world_engine.specs.declared.Order.{Order}
+use Rattle.model_steps.specs.declared.Command.{Command}
 
 -- the step is refused or done, or what is none is answered
-unfoldable pub changeIn : Order → Parts → Change
+unfoldable pub changeIn : Command → Parts → Change
 changeIn o p =
     cond (eqb (o .refused) accepted) (decided p (stepRefusal p (o .step)) (changeOf p (o .step))) (withoutMessages p (o .refused))

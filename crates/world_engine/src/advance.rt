@@ -2,36 +2,39 @@
 ghost use mathlib.Core.Path.{_≡_};
 ghost use Rattle.model_protocol.specs.Step.{stepOf};
 ghost use Prim.Native.Nat.{min};
-ghost use Rattle.world_engine.specs.Orders.{advanced, blockOrders};
+ghost use Rattle.world_engine.specs.Commands.{advanced};
+ghost use Rattle.model_steps.specs.Commands.{mostCommands};
 use crate::Advanced;
-use crate::Block;
-use crate::Order;
 use crate::plan;
 use model_protocol::Parts;
 use model_protocol::Stepped;
 use model_protocol::World;
+use model_steps::Command;
+use model_steps::Commands;
 use model_steps::Step;
+use model_steps::limits::COMMAND_PLACES;
+use model_steps::limits::COMMANDS;
 use world_coordinator::learn;
 use world_parts::place;
 
-fn at_most(count: u8) -> u8
-    ensures { λ r. ⌜ r ≡ min count blockOrders ⌝ }
+fn at_most(count: u16) -> u16
+    ensures { λ r. ⌜ r ≡ min count mostCommands ⌝ }
 {
-    if count < 32 {
+    if count < COMMANDS {
         return count;
     }
-    32
+    COMMANDS
 }
 
-// The orders of the block, one after the other.
-pub fn advance(mut w: World, block: Block) -> Advanced
-    ensures { λ r. ⌜ r ≡ advanced w block ⌝ }
+// The commands, one after the other.
+pub fn advance(mut w: World, commands: Commands) -> Advanced
+    ensures { λ r. ⌜ r ≡ advanced w commands ⌝ }
 {
-    let mut answers = [0u8; 32];
-    let count = at_most(block.count);
-    let mut k: u8 = 0;
+    let mut answers = [0u8; COMMAND_PLACES];
+    let count = at_most(commands.count);
+    let mut k: u16 = 0;
     while k < count {
-        let o = block.orders[k as usize];
+        let o = commands.commands[k as usize];
         let s = o.step;
         let delivered = w.messages[place::message_at(s) as usize];
         let at = place::places(s, delivered);
@@ -90,15 +93,15 @@ pub fn advance(mut w: World, block: Block) -> Advanced
 pub fn step(w: World, s: Step) -> Stepped
     ensures { λ r. ⌜ r ≡ stepOf w s ⌝ }
 {
-    let o = Order {
+    let o = Command {
         refused: 0,
         step: s,
     };
-    let block = Block {
-        orders: [o; 32],
+    let commands = Commands {
         count: 1,
+        commands: [o; COMMAND_PLACES],
     };
-    let after = advance(w, block);
+    let after = advance(w, commands);
     let answers = after.answers;
     let world = after.world;
     Stepped {

@@ -1,12 +1,12 @@
-// What an order does to the parts of the world that it touches.
+// What a command does to the parts of the world that it touches.
 ghost use mathlib.Core.Path.{_≡_};
 ghost use Rattle.model_protocol.specs.Step.{acceptorsCounted};
 ghost use Rattle.world_parts.specs.Plan.{planOf};
 ghost use Rattle.world_engine.specs.Changed.{changeIn};
-use crate::Order;
 use log_entry::refusal::OUTSIDE_LIMITS;
 use model_protocol::Change;
 use model_protocol::Parts;
+use model_steps::Command;
 use model_steps::Step;
 use model_steps::limits;
 use world_parts::changes;
@@ -45,7 +45,7 @@ fn counted(acceptors: u8) -> u8
     acceptors
 }
 
-pub fn change(o: Order, p: Parts) -> Change
+pub fn change(o: Command, p: Parts) -> Change
     ensures { λ r. ⌜ r ≡ changeIn o p ⌝ }
 {
     if o.refused != 0 {

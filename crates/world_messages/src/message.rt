@@ -1,29 +1,15 @@
 // The messages of each kind. What a kind does not use is 0.
 ghost use mathlib.Core.Path.{_≡_};
-ghost use Rattle.model_protocol.specs.Message.{acceptTo, acceptedFrom, ballotMessage, directMessage, noReplay, prepareTo, promiseFrom, requestTo, restoreTo, tellTo};
+ghost use Rattle.model_protocol.specs.Message.{acceptTo, acceptedFrom, ballotMessage, directMessage, prepareTo, promiseFrom, requestTo, restoreTo, tellTo};
 use log_core::Replay;
-use log_core::Replayed;
 use log_entry::Entry;
 use log_votes::Outcome;
 use model_protocol::Batch;
 use model_protocol::Kind;
 use model_protocol::Message;
-use world_coordinator::fresh::no_batch;
-use world_coordinator::fresh::no_entry;
-
-pub fn no_replay() -> Replay
-    ensures { λ r. ⌜ r ≡ noReplay ⌝ }
-{
-    let none = Replayed {
-        group: 0,
-        tx: 0,
-        update: 0,
-    };
-    Replay {
-        count: 0,
-        rows: [none; 32],
-    }
-}
+use world_fresh::no_batch;
+use world_fresh::no_entry;
+use world_fresh::no_replay;
 
 fn ballot_message(
     kind: Kind,

@@ -7,7 +7,7 @@ use Rattle.model_protocol.specs.declared.Change.{Change}
 use Rattle.model_protocol.specs.declared.Parts.{Parts}
 use Rattle.model_protocol.specs.Change.{withoutMessages}
 use Rattle.world_parts.specs.Plan.{decided}
-use Rattle.world_parts.specs.Refusal.{firstOf}
+use Rattle.world_parts.specs.Refusal.{firstOf, tests}
 
 module _ (p : Parts) (r n : ℕ) (ch : Change) (is : n ≡ r) where
   pub refused-is : (n ≡ 0 → ⊥) → withoutMessages p n ≡ decided p r ch
@@ -18,5 +18,5 @@ module _ (p : Parts) (r n : ℕ) (ch : Change) (is : n ≡ r) where
 
 pub same-first : (unsent unsent' down down' unmet unmet' full full' ill ill' : Bool)
     → unsent ≡ unsent' → down ≡ down' → unmet ≡ unmet' → full ≡ full' → ill ≡ ill'
-    → firstOf unsent down unmet full ill ≡ firstOf unsent' down' unmet' full' ill'
+    → firstOf (tests unsent down unmet full ill) ≡ firstOf (tests unsent' down' unmet' full' ill')
 same-first _ _ _ _ _ _ _ _ _ _ a b c d e = rw (a, b, c, d, e)

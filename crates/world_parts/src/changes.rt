@@ -5,20 +5,18 @@ use model_protocol::Batch;
 use model_protocol::Change;
 use model_protocol::Message;
 use model_protocol::Parts;
-use world_coordinator::fresh::no_batch;
-use world_coordinator::fresh::no_entry;
-use world_messages::message::request_to;
+use world_fresh::no_batch;
+use world_fresh::no_message;
 
 // The parts are these, and nothing is sent.
 pub fn without_messages(p: Parts, answer: u8) -> Change
     ensures { λ r. ⌜ r ≡ withoutMessages p answer ⌝ }
 {
-    let none = request_to(0, no_entry());
     Change {
         answer: answer,
         parts: p,
         count: 0,
-        message: none,
+        message: no_message(),
         learned: no_batch(),
     }
 }
@@ -40,12 +38,11 @@ pub fn sending(p: Parts, count: u8, m: Message) -> Change
 pub fn learns(p: Parts, batch: Batch) -> Change
     ensures { λ r. ⌜ r ≡ learns p batch ⌝ }
 {
-    let none = request_to(0, no_entry());
     Change {
         answer: 0,
         parts: p,
         count: 0,
-        message: none,
+        message: no_message(),
         learned: batch,
     }
 }

@@ -8,22 +8,37 @@ use log_entry::refusal::NOT_MET;
 use log_entry::refusal::NOT_SENT_YET;
 use log_entry::refusal::PARTY_DOWN;
 
-pub fn first_of(unsent: bool, down: bool, unmet: bool, full: bool, ill: bool) -> u8
-    ensures { λ r. ⌜ r ≡ firstOf unsent down unmet full ill ⌝ }
+// Whether the condition of each refusal after 2 holds.
+pub struct Tests {
+    // 4: the message was not sent yet.
+    pub unsent: bool,
+    // 3: a party is down.
+    pub down: bool,
+    // 5: a condition of the step is not met.
+    pub unmet: bool,
+    // 6: no message number or no place in the queue is left.
+    pub full: bool,
+    // 7: the vote is ill-formed.
+    pub ill: bool,
+}
+
+// The answer: the first refusal whose condition holds, 0 if none does.
+pub fn first_of(t: Tests) -> u8
+    ensures { λ r. ⌜ r ≡ firstOf t ⌝ }
 {
-    if unsent {
+    if t.unsent {
         return NOT_SENT_YET;
     }
-    if down {
+    if t.down {
         return PARTY_DOWN;
     }
-    if unmet {
+    if t.unmet {
         return NOT_MET;
     }
-    if full {
+    if t.full {
         return NO_PLACE;
     }
-    if ill {
+    if t.ill {
         return ILL_FORMED_VOTE;
     }
     0

@@ -23,11 +23,18 @@ use world_messages::parties;
 use world_messages::send;
 use world_parts::changes;
 use world_parts::refusal;
+use world_parts::refusal::Tests;
 
 pub fn setup(mut p: Parts, n: u8) -> Change
     ensures { λ r. ⌜ r ≡ planOf p (Setup n) ⌝ }
 {
-    let answer = refusal::first_of(false, false, p.acceptors != 0, false, false);
+    let answer = refusal::first_of(Tests {
+        unsent: false,
+        down: false,
+        unmet: p.acceptors != 0,
+        full: false,
+        ill: false,
+    });
     if answer != 0 {
         return changes::without_messages(p, answer);
     }
@@ -62,13 +69,13 @@ pub fn request(p: Parts, e: Entry, to: u8) -> Change
         parties::is_down(p.down, Role::Coord, to),
     );
     let unmet = refusal::either(p.acceptors == 0, voter_not_holder(e, p.process));
-    let answer = refusal::first_of(
-        false,
-        down,
-        unmet,
-        send::lacks_numbers(p.sent, 1),
-        ill_formed(e),
-    );
+    let answer = refusal::first_of(Tests {
+        unsent: false,
+        down: down,
+        unmet: unmet,
+        full: send::lacks_numbers(p.sent, 1),
+        ill: ill_formed(e),
+    });
     if answer != 0 {
         return changes::without_messages(p, answer);
     }
@@ -92,13 +99,13 @@ pub fn tell(p: Parts, coord: u8, process: u8, tx: u8) -> Change
     let o = m.outcome;
     let open = o.is_open();
     let unmet = refusal::either(p.acceptors == 0, open);
-    let answer = refusal::first_of(
-        false,
-        either_down(p, coord, process),
-        unmet,
-        send::lacks_numbers(p.sent, 1),
-        false,
-    );
+    let answer = refusal::first_of(Tests {
+        unsent: false,
+        down: either_down(p, coord, process),
+        unmet: unmet,
+        full: send::lacks_numbers(p.sent, 1),
+        ill: false,
+    });
     if answer != 0 {
         return changes::without_messages(p, answer);
     }
@@ -110,13 +117,13 @@ pub fn restore(p: Parts, coord: u8, process: u8) -> Change
 {
     let m = p.message;
     let unmet = refusal::either(p.acceptors == 0, STORES <= m.store);
-    let answer = refusal::first_of(
-        false,
-        either_down(p, coord, process),
-        unmet,
-        send::lacks_numbers(p.sent, 1),
-        false,
-    );
+    let answer = refusal::first_of(Tests {
+        unsent: false,
+        down: either_down(p, coord, process),
+        unmet: unmet,
+        full: send::lacks_numbers(p.sent, 1),
+        ill: false,
+    });
     if answer != 0 {
         return changes::without_messages(p, answer);
     }
@@ -177,13 +184,13 @@ pub fn said(s: Step, delivered: Message, log: Log, applied: u8) -> Message
 pub fn crash(mut p: Parts, role: Role, id: u8) -> Change
     ensures { λ r. ⌜ r ≡ planOf p (Crash role id) ⌝ }
 {
-    let answer = refusal::first_of(
-        false,
-        parties::is_down(p.down, role, id),
-        p.acceptors == 0,
-        false,
-        false,
-    );
+    let answer = refusal::first_of(Tests {
+        unsent: false,
+        down: parties::is_down(p.down, role, id),
+        unmet: p.acceptors == 0,
+        full: false,
+        ill: false,
+    });
     if answer != 0 {
         return changes::without_messages(p, answer);
     }

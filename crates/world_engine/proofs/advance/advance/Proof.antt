@@ -10,13 +10,14 @@ use Rattle.model_steps.specs.Limits.{messages}
 use Rattle.model_protocol.specs.declared.World.{World}
 use Rattle.model_protocol.specs.Send.{copyOf, sendToAll}
 use Rattle.model_protocol.specs.Step.{putBack}
-use Rattle.world_engine.specs.Orders.{answersTo, ordersOf, worldAfter}
-use Rattle.world_engine.proofs.AdvanceLaws.{Lengths, There, block-done, block-length, copies-next, copies-none, count-fits, delivered-is, first-copy, log-fed, message-small, next-copy, none-fed, not-asked, order-taken, parts-are, places-there, put-lengths, said-is, sent-lengths, stored-turn, world-lengths, world-turn}
+use Rattle.world_engine.specs.Commands.{answersTo, worldAfter}
+use Rattle.model_steps.specs.Commands.{commandsIn}
+use Rattle.world_engine.proofs.AdvanceLaws.{Lengths, There, commands-done, commands-length, copies-next, copies-none, count-fits, delivered-is, first-copy, log-fed, message-small, next-copy, none-fed, not-asked, command-taken, parts-are, places-there, put-lengths, said-is, sent-lengths, stored-turn, world-lengths, world-turn}
 use Rattle.world_engine.proofs.advance.advance.Statement.{statement}
 use Rattle.world_engine.proofs.advance.advance.Tie as tie
 
 abbrev Inv-loop2 : tie.InvT-loop2
-Inv-loop2 w₀ block answers count k c x h change m₀ i₀ w m i =
+Inv-loop2 w₀ commands answers count k c x h change m₀ i₀ w m i =
     (i ≤ change .count)
     × (w ≡ sendToAll w₀ i (copyOf m₀))
     × (w .sent ≡ w₀ .sent + i)
@@ -25,18 +26,18 @@ Inv-loop2 w₀ block answers count k c x h change m₀ i₀ w m i =
     × Lengths w
 
 abbrev μ-loop2 : tie.MeasureT-loop2
-μ-loop2 w₀ block answers count k c x h change m₀ i₀ w m i = change .count - i
+μ-loop2 w₀ commands answers count k c x h change m₀ i₀ w m i = change .count - i
 
 abbrev Inv-loop : tie.InvT-loop
-Inv-loop w₀ block answers₀ count k₀ w answers k =
-    let os = ordersOf block in
+Inv-loop w₀ commands answers₀ count k₀ w answers k =
+    let os = commandsIn commands in
     (k ≤ count)
     × (worldAfter w (drop k os) ≡ worldAfter w₀ os)
     × (sets answers k (answersTo w (drop k os)) ≡ sets answers₀ 0 (answersTo w₀ os))
     × Lengths w
 
 abbrev μ-loop : tie.MeasureT-loop
-μ-loop w₀ block answers₀ count k₀ w answers k = count - k
+μ-loop w₀ commands answers₀ count k₀ w answers k = count - k
 
 at-most-requires : tie.Need-at-most-requires Inv-loop2 μ-loop2 Inv-loop μ-loop
 at-most-requires c κs = search needs
@@ -63,7 +64,7 @@ mul-delivered : tie.Need-mul-delivered Inv-loop2 μ-loop2 Inv-loop μ-loop
 mul-delivered c = omega arith
 
 element-copy-out-delivered : tie.Need-element-copy-out-delivered Inv-loop2 μ-loop2 Inv-loop μ-loop
-element-copy-out-delivered c = let o = getD (c .before .before .before .before .before .args .t2 .orders) (c .before .before .before .loop .k) (record { refused = 0; step = Setup 0 }) in let h = message-small (c .message-at .result) (o .step) (c .message-at .ensures) in omega (arith, h)
+element-copy-out-delivered c = let o = getD (c .before .before .before .before .before .args .t2 .commands) (c .before .before .before .loop .k) (record { refused = 0; step = Setup 0 }) in let h = message-small (c .message-at .result) (o .step) (c .message-at .ensures) in omega (arith, h)
 
 places-requires : tie.Need-places-requires Inv-loop2 μ-loop2 Inv-loop μ-loop
 places-requires c κs = search needs
@@ -217,8 +218,8 @@ loop-again c =
     let k = c .before .before .before .before .before .before .before .before .before .before .before .before .before .before .before .before .before .before .before .before .before .before .before .before .before .loop-test .taken in
     let n = c .before .before .before .before .before .before .before .before .before .before .before .before .before .before .before .before .before .before .before .before .before .before .before .before .before .before .before .at-most .ensures in
     let b = c .before .before .before .before .before .before .before .before .before .before .before .before .before .before .before .before .before .before .before .before .before .before .before .before .before .before .before .before .args .t2 in
-    let hl = block-length b _ (c .before .before .before .before .before .before .before .before .before .before .before .before .before .before .before .before .before .before .before .before .before .before .before .before .before .before .before .before .good .1 .0) in
-    let o = getD (b .orders) (l .k) (record { refused = 0; step = Setup 0 }) in
+    let hl = commands-length b _ (c .before .before .before .before .before .before .before .before .before .before .before .before .before .before .before .before .before .before .before .before .before .before .before .before .before .before .before .before .good .1 .0) in
+    let o = getD (b .commands) (l .k) (record { refused = 0; step = Setup 0 }) in
     let at = c .before .before .before .before .before .before .before .before .before .before .before .before .before .before .before .before .before .before .before .before .before .places .result in
     let there = here (c .before .before .before .before .before .before .before .before .before .before .before .before .before .before .before .before .before .before .before .before .before) in
     let ch = c .before .before .before .before .before .before .before .before .before .before .before .before .change .result in
@@ -228,7 +229,7 @@ loop-again c =
     (λ t. t .1 ∙ not-asked (o .step) _ _ _ (sym (c .before .before .before .before .before .before .before .before .before .before .before .before .before .before .before .before .before .asks-log .ensures) ∙ t .0 .left))
     (c .before .before .before .before .before .before .before .before .before .before .before .before .before .before .before .before .if1 .came) in
     let is =
-    order-taken
+    command-taken
     (l .w)
     o
     _
@@ -247,8 +248,8 @@ loop-again c =
     (z .inv .1 ∙ ap (λ (v : World). sendToAll v (z .i) (copyOf (ch .message))) (stored-is (c .before .before .before .before)))
     in (
       omega (arith, k),
-      sym (world-turn (b .orders) (b .count) (l .k) (omega (arith, k, n)) (omega (arith, k, n, hl)) _ (l .w) (z .w) _ is) ∙ l .inv .1,
-      stored-turn (b .orders) (b .count) (l .k) (omega (arith, k, n)) (omega (arith, k, n, hl)) _ (l .w) (z .w) _ is (l .answers) _ (l .inv .2),
+      sym (world-turn (b .commands) (b .count) (l .k) (omega (arith, k, n)) (omega (arith, k, n, hl)) _ (l .w) (z .w) _ is) ∙ l .inv .1,
+      stored-turn (b .commands) (b .count) (l .k) (omega (arith, k, n)) (omega (arith, k, n, hl)) _ (l .w) (z .w) _ is (l .answers) _ (l .inv .2),
       z .inv .5,
     )
 
@@ -256,7 +257,7 @@ returns : tie.Need-returns Inv-loop2 μ-loop2 Inv-loop μ-loop
 returns c =
     let l = c .before .loop in
     let b = c .before .before .before .args .t2 in
-    block-done (c .before .before .before .args .t1) (l .w) b (l .answers) _ (l .k) (block-length b _ (c .before .before .before .good .1 .0)) (c .before .before .at-most .ensures) (c .loop-test .left) (l .inv .1) (l .inv .2)
+    commands-done (c .before .before .before .args .t1) (l .w) b (l .answers) _ (l .k) (commands-length b _ (c .before .before .before .good .1 .0)) (c .before .before .at-most .ensures) (c .loop-test .left) (l .inv .1) (l .inv .2)
 
 pub advance-spec : {M : Type 1} → statement M
 advance-spec =

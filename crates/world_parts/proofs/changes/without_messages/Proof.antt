@@ -2,11 +2,8 @@ use borrow.Author.Needs.{needs}
 use Rattle.world_parts.proofs.changes.without_messages.Statement.{statement}
 use Rattle.world_parts.proofs.changes.without_messages.Tie as tie
 
-no-entry-requires : tie.Need-no-entry-requires
-no-entry-requires c κs = search needs
-
-request-to-requires : tie.Need-request-to-requires
-request-to-requires c κs = search needs
+no-message-requires : tie.Need-no-message-requires
+no-message-requires c κs = search needs
 
 no-batch-requires : tie.Need-no-batch-requires
 no-batch-requires c κs = search needs
@@ -15,4 +12,4 @@ returns : tie.Need-returns
 returns c = cc
 
 pub without-messages-spec : {M : Type 1} → statement M
-without-messages-spec = tie.close (tie.spec no-entry-requires request-to-requires no-batch-requires returns)
+without-messages-spec = tie.close (tie.spec no-message-requires no-batch-requires returns)

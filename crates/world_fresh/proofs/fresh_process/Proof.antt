@@ -1,7 +1,7 @@
 use borrow.Author.Needs.{needs}
 use Rattle.model_protocol.specs.World.{freshProcess}
-use Rattle.world_engine.proofs.fresh.fresh_process.Statement.{statement}
-use Rattle.world_engine.proofs.fresh.fresh_process.Tie as tie
+use Rattle.world_fresh.proofs.fresh_process.Statement.{statement}
+use Rattle.world_fresh.proofs.fresh_process.Tie as tie
 
 no-replay-requires : tie.Need-no-replay-requires
 no-replay-requires c κs = search needs

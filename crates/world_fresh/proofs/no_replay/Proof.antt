@@ -1,7 +1,7 @@
 use mathlib.Core.Path.{refl}
 use Rattle.model_protocol.specs.Message.{noReplay}
-use Rattle.world_messages.proofs.message.no_replay.Statement.{statement}
-use Rattle.world_messages.proofs.message.no_replay.Tie as tie
+use Rattle.world_fresh.proofs.no_replay.Statement.{statement}
+use Rattle.world_fresh.proofs.no_replay.Tie as tie
 
 returns : tie.Need-returns
 unfolding noReplay

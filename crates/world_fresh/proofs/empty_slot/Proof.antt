@@ -2,8 +2,8 @@ use borrow.Author.Needs.{needs}
 use Rattle.model_protocol.specs.declared.Batch.{Batch}
 use mathlib.Core.Path.{ap}
 use Rattle.model_protocol.specs.declared.AcceptorSlot.{AcceptorSlot}
-use Rattle.world_engine.proofs.fresh.empty_slot.Statement.{statement}
-use Rattle.world_engine.proofs.fresh.empty_slot.Tie as tie
+use Rattle.world_fresh.proofs.empty_slot.Statement.{statement}
+use Rattle.world_fresh.proofs.empty_slot.Tie as tie
 
 no-batch-requires : tie.Need-no-batch-requires
 no-batch-requires c κs = search needs

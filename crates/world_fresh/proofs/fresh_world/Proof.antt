@@ -1,7 +1,7 @@
 use borrow.Author.Needs.{needs}
 use Rattle.model_protocol.specs.World.{freshWorld}
-use Rattle.world_engine.proofs.fresh.fresh_world.Statement.{statement}
-use Rattle.world_engine.proofs.fresh.fresh_world.Tie as tie
+use Rattle.world_fresh.proofs.fresh_world.Statement.{statement}
+use Rattle.world_fresh.proofs.fresh_world.Tie as tie
 
 empty-slot-requires : tie.Need-empty-slot-requires
 empty-slot-requires c κs = search needs
@@ -15,11 +15,8 @@ empty-requires c κs = search needs
 fresh-process-requires : tie.Need-fresh-process-requires
 fresh-process-requires c κs = search needs
 
-no-entry-requires : tie.Need-no-entry-requires
-no-entry-requires c κs = search needs
-
-request-to-requires : tie.Need-request-to-requires
-request-to-requires c κs = search needs
+no-message-requires : tie.Need-no-message-requires
+no-message-requires c κs = search needs
 
 all-up-requires : tie.Need-all-up-requires
 all-up-requires c κs = search needs
@@ -36,7 +33,6 @@ fresh-world-spec =
     fresh-coordinator-requires
     empty-requires
     fresh-process-requires
-    no-entry-requires
-    request-to-requires
+    no-message-requires
     all-up-requires
     returns)

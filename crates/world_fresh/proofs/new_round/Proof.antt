@@ -1,6 +1,6 @@
 use borrow.Author.Needs.{needs}
-use Rattle.world_coordinator.proofs.fresh.new_round.Statement.{statement}
-use Rattle.world_coordinator.proofs.fresh.new_round.Tie as tie
+use Rattle.world_fresh.proofs.new_round.Statement.{statement}
+use Rattle.world_fresh.proofs.new_round.Tie as tie
 
 no-batch-requires : tie.Need-no-batch-requires
 no-batch-requires c κs = search needs

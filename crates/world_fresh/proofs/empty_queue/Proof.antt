@@ -1,7 +1,7 @@
 use borrow.Author.Needs.{needs}
 use Rattle.model_protocol.specs.Queue.{queueOf}
-use Rattle.world_coordinator.proofs.fresh.empty_queue.Statement.{statement}
-use Rattle.world_coordinator.proofs.fresh.empty_queue.Tie as tie
+use Rattle.world_fresh.proofs.empty_queue.Statement.{statement}
+use Rattle.world_fresh.proofs.empty_queue.Tie as tie
 
 no-entry-requires : tie.Need-no-entry-requires
 no-entry-requires c κs = search needs

@@ -1,7 +1,7 @@
 use Rattle.model_protocol.specs.World.{allUp}
 use mathlib.Core.Path.{refl}
-use Rattle.world_engine.proofs.fresh.all_up.Statement.{statement}
-use Rattle.world_engine.proofs.fresh.all_up.Tie as tie
+use Rattle.world_fresh.proofs.all_up.Statement.{statement}
+use Rattle.world_fresh.proofs.all_up.Tie as tie
 
 returns : tie.Need-returns
 unfolding allUp

@@ -1,7 +1,7 @@
 use borrow.Author.Needs.{needs}
 use Rattle.model_protocol.specs.World.{freshCoordinator}
-use Rattle.world_coordinator.proofs.fresh.fresh_coordinator.Statement.{statement}
-use Rattle.world_coordinator.proofs.fresh.fresh_coordinator.Tie as tie
+use Rattle.world_fresh.proofs.fresh_coordinator.Statement.{statement}
+use Rattle.world_fresh.proofs.fresh_coordinator.Tie as tie
 
 empty-queue-requires : tie.Need-empty-queue-requires
 empty-queue-requires c κs = search needs

@@ -1,7 +1,7 @@
 use borrow.Author.Needs.{needs}
 use Rattle.model_protocol.specs.Batch.{noBatch}
-use Rattle.world_coordinator.proofs.fresh.no_batch.Statement.{statement}
-use Rattle.world_coordinator.proofs.fresh.no_batch.Tie as tie
+use Rattle.world_fresh.proofs.no_batch.Statement.{statement}
+use Rattle.world_fresh.proofs.no_batch.Tie as tie
 
 no-entry-requires : tie.Need-no-entry-requires
 no-entry-requires c κs = search needs

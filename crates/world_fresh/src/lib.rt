@@ -1,0 +1,173 @@
+// What stands in a place that is not used, and every value as in the fresh world.
+ghost use mathlib.Core.List.{[]};
+ghost use mathlib.Core.Path.{_≡_};
+ghost use Rattle.model_protocol.specs.Batch.{noBatch, noEntry};
+ghost use Rattle.model_protocol.specs.Message.{noMessage, noReplay};
+ghost use Rattle.model_protocol.specs.Queue.{queueOf};
+ghost use Rattle.model_protocol.specs.World.{allUp, emptySlot, freshCoordinator, freshProcess, freshWorld, newRound};
+use log_core::Log;
+use log_core::Replay;
+use log_core::Replayed;
+use log_entry::Entry;
+use log_votes::Outcome;
+use model_protocol::AcceptorSlot;
+use model_protocol::Batch;
+use model_protocol::Coordinator;
+use model_protocol::Down;
+use model_protocol::Heard;
+use model_protocol::Kind;
+use model_protocol::Message;
+use model_protocol::Process;
+use model_protocol::Queue;
+use model_protocol::Round;
+use model_protocol::World;
+
+pub fn no_entry() -> Entry
+    ensures { λ r. ⌜ r ≡ noEntry ⌝ }
+{
+    Entry {
+        take: false,
+        process: 0,
+        by: 0,
+        store: 0,
+        tx: 0,
+        participants: 0,
+        commit: false,
+        update: 0,
+    }
+}
+
+pub fn no_batch() -> Batch
+    ensures { λ r. ⌜ r ≡ noBatch ⌝ }
+{
+    let blank = no_entry();
+    Batch {
+        entries: [blank; 4],
+        count: 0,
+    }
+}
+
+pub fn empty_queue() -> Queue
+    ensures { λ r. ⌜ r ≡ queueOf [] ⌝ }
+{
+    let blank = no_entry();
+    Queue {
+        entries: [blank; 8],
+        count: 0,
+    }
+}
+
+// The round of a ballot that was just opened; of ballot 0, where none was.
+pub fn new_round(ballot: u8) -> Round
+    ensures { λ r. ⌜ r ≡ newRound ballot ⌝ }
+{
+    let none = no_batch();
+    Round {
+        ballot: ballot,
+        promises: 0,
+        accepted: 0,
+        batch: none,
+        proposed: false,
+        proposal: none,
+        acceptances: 0,
+    }
+}
+
+pub fn fresh_coordinator() -> Coordinator
+    ensures { λ r. ⌜ r ≡ freshCoordinator ⌝ }
+{
+    Coordinator {
+        applied: 0,
+        queue: empty_queue(),
+        round: new_round(0),
+    }
+}
+
+pub fn no_replay() -> Replay
+    ensures { λ r. ⌜ r ≡ noReplay ⌝ }
+{
+    let none = Replayed {
+        group: 0,
+        tx: 0,
+        update: 0,
+    };
+    Replay {
+        count: 0,
+        rows: [none; 32],
+    }
+}
+
+// The place of no message.
+pub fn no_message() -> Message
+    ensures { λ r. ⌜ r ≡ noMessage ⌝ }
+{
+    Message {
+        kind: Kind::Request,
+        to: 0,
+        acceptor: 0,
+        inst: 0,
+        ballot: 0,
+        accepted: 0,
+        batch: no_batch(),
+        entry: no_entry(),
+        tx: 0,
+        outcome: Outcome::Open,
+        store: 0,
+        position: 0,
+        replay: no_replay(),
+    }
+}
+
+pub fn empty_slot() -> AcceptorSlot
+    ensures { λ r. ⌜ r ≡ emptySlot ⌝ }
+{
+    AcceptorSlot {
+        promised: 0,
+        ballot: 0,
+        batch: no_batch(),
+    }
+}
+
+pub fn fresh_process() -> Process
+    ensures { λ r. ⌜ r ≡ freshProcess ⌝ }
+{
+    let nothing = Heard {
+        outcome: Outcome::Open,
+    };
+    Process {
+        heard: [nothing; 32],
+        store: 0,
+        position: 0,
+        replay: no_replay(),
+    }
+}
+
+fn all_up() -> Down
+    ensures { λ r. ⌜ r ≡ allUp ⌝ }
+{
+    Down {
+        acceptors: [false; 5],
+        coordinators: [false; 3],
+        processes: [false; 16],
+    }
+}
+
+pub fn fresh_world() -> World
+    ensures { λ r. ⌜ r ≡ freshWorld ⌝ }
+{
+    let slot = empty_slot();
+    let coordinator = fresh_coordinator();
+    let log = Log::empty();
+    let process = fresh_process();
+    let none = no_message();
+    World {
+        acceptors: 0,
+        slots: [slot; 80],
+        coordinators: [coordinator; 3],
+        logs: [log; 3],
+        processes: [process; 16],
+        down: all_up(),
+        messages: [none; 128],
+        sent: 0,
+    }
+}
