@@ -1,5 +1,6 @@
 -- Document 01, "Numbers in use": the limits of what the parties hold.
-use Prim.Native.Nat.{ℕ, _*_}
+use Prim.Native.Nat.{ℕ, _+_, _*_}
+use Rattle.log_entry.specs.Limits.{processes}
 use Rattle.model_steps.specs.Limits.{instances, mostAcceptors}
 
 -- a batch has 1 to 4 entries
@@ -12,7 +13,7 @@ queuePlaces = 8
 
 -- places in an array by process: processes are 1 to 15, and place 0 is not used
 abbrev pub processPlaces : ℕ
-processPlaces = 16
+processPlaces = processes + 1
 
 -- a slot for every acceptor and instance
 abbrev pub slotPlaces : ℕ

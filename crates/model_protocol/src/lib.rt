@@ -1,13 +1,24 @@
 // The coordinated commit service: messages, acceptors, coordinators, processes, and the world that joins them.
 // These are the values; what each step does to them stands in specs/.
+use limits::ACCEPTOR_PLACES;
+use limits::BATCH_PLACES;
+use limits::COORDINATOR_PLACES;
+use limits::MESSAGE_PLACES;
+use limits::PROCESS_PLACES;
+use limits::QUEUE_PLACES;
+use limits::SLOT_PLACES;
 use log_core::Log;
 use log_core::Replay;
 use log_entry::Entry;
+use log_entry::limits::TRANSACTION_PLACES;
+
+pub mod limits;
+
 use log_votes::Outcome;
 
 // A batch: its first `count` entries.
 pub struct Batch {
-    pub entries: [Entry; 4],
+    pub entries: [Entry; BATCH_PLACES],
     pub count: u8,
 }
 
@@ -59,7 +70,7 @@ pub struct AcceptorSlot {
 
 // The entries that a coordinator was sent: the first `count`, oldest first.
 pub struct Queue {
-    pub entries: [Entry; 8],
+    pub entries: [Entry; QUEUE_PLACES],
     pub count: u8,
 }
 
@@ -93,7 +104,7 @@ pub struct Heard {
 
 pub struct Process {
     // By transaction.
-    pub heard: [Heard; 32],
+    pub heard: [Heard; TRANSACTION_PLACES],
     // The last restore that it took: store, position, replay. Position 0 if it took none.
     pub store: u8,
     pub position: u8,
@@ -102,25 +113,25 @@ pub struct Process {
 
 // Who is down.
 pub struct Down {
-    pub acceptors: [bool; 5],
-    pub coordinators: [bool; 3],
+    pub acceptors: [bool; ACCEPTOR_PLACES],
+    pub coordinators: [bool; COORDINATOR_PLACES],
     // Processes are numbered from 1.
-    pub processes: [bool; 16],
+    pub processes: [bool; PROCESS_PLACES],
 }
 
 pub struct World {
     // How many acceptors there are, 0 before setup.
     pub acceptors: u8,
     // Acceptor a's slot of instance i stands at a * 16 + i.
-    pub slots: [AcceptorSlot; 80],
-    pub coordinators: [Coordinator; 3],
+    pub slots: [AcceptorSlot; SLOT_PLACES],
+    pub coordinators: [Coordinator; COORDINATOR_PLACES],
     // By coordinator.
-    pub logs: [Log; 3],
+    pub logs: [Log; COORDINATOR_PLACES],
     // Processes are numbered from 1.
-    pub processes: [Process; 16],
+    pub processes: [Process; PROCESS_PLACES],
     pub down: Down,
     // The first `sent` were sent, numbered from 0.
-    pub messages: [Message; 128],
+    pub messages: [Message; MESSAGE_PLACES],
     pub sent: u8,
 }
 

@@ -14,6 +14,9 @@ abbrev pub coordinators : ℕ
 coordinators = 3
 
 -- acceptors are 3 or 5, from 0; before setup five count
+abbrev pub fewestAcceptors : ℕ
+fewestAcceptors = 3
+
 abbrev pub mostAcceptors : ℕ
 mostAcceptors = 5
 
@@ -42,7 +45,7 @@ noParty acceptors Proc id = noProcess id
 
 -- 2: a number of the step is outside its limits, where so many acceptors count
 unfoldable pub outsideStep : ℕ → Step → Bool
-outsideStep acceptors (Setup n) = not (eqb n 3 || eqb n mostAcceptors)
+outsideStep acceptors (Setup n) = not (eqb n fewestAcceptors || eqb n mostAcceptors)
 outsideStep acceptors (Request e to) = outside e || noCoordinator to
 outsideStep acceptors (Open c i b) = noCoordinator c || leb instances i || noBallot b
 outsideStep acceptors (Propose c i b) = noCoordinator c || leb instances i || noBallot b

@@ -4,13 +4,16 @@ ghost use mathlib.Core.Bool.{_||_, not};
 ghost use lib.Dec.{eqb, leb};
 ghost use Rattle.log_entry.specs.Entry.{noProcess, outside};
 ghost use Rattle.log_entry.specs.Limits.{transactions};
-ghost use Rattle.model_steps.specs.Limits.{instances, mostAcceptors, noBallot, noCoordinator, noParty, outsideStep};
+ghost use Rattle.model_steps.specs.Limits.{fewestAcceptors, instances, mostAcceptors, noBallot, noCoordinator, noParty, outsideStep};
 use crate::Role;
 use crate::Step;
 use log_entry::Entry;
 use log_entry::limits::TRANSACTIONS;
 
 pub const COORDINATORS: u8 = 3;
+
+// There are 3 acceptors or 5.
+pub const FEWEST_ACCEPTORS: u8 = 3;
 
 pub const MOST_ACCEPTORS: u8 = 5;
 
@@ -24,9 +27,9 @@ pub const COMMANDS: u16 = 1001;
 pub const COMMAND_PLACES: usize = COMMANDS as usize;
 
 fn setup_outside(n: u8) -> bool
-    ensures { λ r. ⌜ r ≡ not (eqb n 3 || eqb n mostAcceptors) ⌝ }
+    ensures { λ r. ⌜ r ≡ not (eqb n fewestAcceptors || eqb n mostAcceptors) ⌝ }
 {
-    if n == 3 {
+    if n == FEWEST_ACCEPTORS {
         return false;
     }
     n != MOST_ACCEPTORS

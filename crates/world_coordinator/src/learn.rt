@@ -5,12 +5,12 @@ ghost use Rattle.log_core.specs.Enter.{feed};
 ghost use Rattle.model_steps.specs.Limits.{instances};
 ghost use Rattle.model_protocol.specs.Batch.{entriesOf};
 ghost use Rattle.model_protocol.specs.Coordinator.{learning};
-use crate::limits::BATCH_ENTRIES;
 use crate::limits::least;
 use crate::queue::left_by;
 use log_core::Log;
 use model_protocol::Batch;
 use model_protocol::Coordinator;
+use model_protocol::limits::BATCH_ENTRIES;
 use model_steps::limits::INSTANCES;
 use world_fresh::new_round;
 

@@ -1,8 +1,6 @@
-// The limits of what a coordinator holds. `Limits.antt` of protocol and of this crate have the same numbers for the contracts.
+// The limits of what a coordinator holds. `specs/Limits.antt` has the same numbers for the contracts.
 ghost use mathlib.Core.Path.{_≡_};
 ghost use Prim.Native.Nat.{min};
-
-pub(crate) const BATCH_ENTRIES: u8 = 4;
 
 // The acceptors that a set has a bit for.
 pub(crate) const SET_PLACES: u8 = 8;

@@ -2,13 +2,15 @@
 ghost use mathlib.Core.Path.{_≡_};
 ghost use Rattle.model_protocol.specs.Queue.{firstBatch, isFull, isIn, leftBy, queued};
 ghost use Rattle.model_protocol.specs.Queue.{joining};
-use crate::limits::BATCH_ENTRIES;
 use crate::limits::least;
 use log_entry::Entry;
 use model_protocol::Batch;
 use model_protocol::Queue;
+use model_protocol::limits::BATCH_ENTRIES;
+use model_protocol::limits::BATCH_PLACES;
+use model_protocol::limits::QUEUE_ENTRIES;
+use model_protocol::limits::QUEUE_PLACES;
 use world_fresh::no_entry;
-use world_queue::QUEUE_PLACES;
 use world_queue::is_among_first;
 
 // Whether an equal entry is in the queue.
@@ -22,7 +24,7 @@ pub fn is_queued(queue: Queue, e: Entry) -> bool
 pub fn is_full(queue: Queue) -> bool
     ensures { λ r. ⌜ r ≡ isFull queue ⌝ }
 {
-    QUEUE_PLACES <= queue.count
+    QUEUE_ENTRIES <= queue.count
 }
 
 // A delivered request joins the queue unless an equal entry is there; a full queue stays as it is.
@@ -45,7 +47,7 @@ pub fn first_batch(queue: Queue) -> Batch
     ensures { λ r. ⌜ r ≡ firstBatch queue ⌝ }
 {
     let blank = no_entry();
-    let mut entries = [blank; 4];
+    let mut entries = [blank; BATCH_PLACES];
     let count = least(queue.count, BATCH_ENTRIES);
     let mut i: u8 = 0;
     while i < count {
@@ -63,8 +65,8 @@ pub fn left_by(queue: Queue, batch: Batch) -> Queue
     ensures { λ r. ⌜ r ≡ leftBy queue batch ⌝ }
 {
     let blank = no_entry();
-    let mut entries = [blank; 8];
-    let waiting = least(queue.count, QUEUE_PLACES);
+    let mut entries = [blank; QUEUE_PLACES];
+    let waiting = least(queue.count, QUEUE_ENTRIES);
     let learned = least(batch.count, BATCH_ENTRIES);
     let mut n: u8 = 0;
     let mut i: u8 = 0;

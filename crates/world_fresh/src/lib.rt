@@ -9,6 +9,7 @@ use log_core::Log;
 use log_core::Replay;
 use log_core::Replayed;
 use log_entry::Entry;
+use log_entry::limits::TRANSACTION_PLACES;
 use log_votes::Outcome;
 use model_protocol::AcceptorSlot;
 use model_protocol::Batch;
@@ -21,6 +22,13 @@ use model_protocol::Process;
 use model_protocol::Queue;
 use model_protocol::Round;
 use model_protocol::World;
+use model_protocol::limits::ACCEPTOR_PLACES;
+use model_protocol::limits::BATCH_PLACES;
+use model_protocol::limits::COORDINATOR_PLACES;
+use model_protocol::limits::MESSAGE_PLACES;
+use model_protocol::limits::PROCESS_PLACES;
+use model_protocol::limits::QUEUE_PLACES;
+use model_protocol::limits::SLOT_PLACES;
 
 pub fn no_entry() -> Entry
     ensures { λ r. ⌜ r ≡ noEntry ⌝ }
@@ -42,7 +50,7 @@ pub fn no_batch() -> Batch
 {
     let blank = no_entry();
     Batch {
-        entries: [blank; 4],
+        entries: [blank; BATCH_PLACES],
         count: 0,
     }
 }
@@ -52,7 +60,7 @@ pub fn empty_queue() -> Queue
 {
     let blank = no_entry();
     Queue {
-        entries: [blank; 8],
+        entries: [blank; QUEUE_PLACES],
         count: 0,
     }
 }
@@ -93,7 +101,7 @@ pub fn no_replay() -> Replay
     };
     Replay {
         count: 0,
-        rows: [none; 32],
+        rows: [none; TRANSACTION_PLACES],
     }
 }
 
@@ -135,7 +143,7 @@ pub fn fresh_process() -> Process
         outcome: Outcome::Open,
     };
     Process {
-        heard: [nothing; 32],
+        heard: [nothing; TRANSACTION_PLACES],
         store: 0,
         position: 0,
         replay: no_replay(),
@@ -146,9 +154,9 @@ fn all_up() -> Down
     ensures { λ r. ⌜ r ≡ allUp ⌝ }
 {
     Down {
-        acceptors: [false; 5],
-        coordinators: [false; 3],
-        processes: [false; 16],
+        acceptors: [false; ACCEPTOR_PLACES],
+        coordinators: [false; COORDINATOR_PLACES],
+        processes: [false; PROCESS_PLACES],
     }
 }
 
@@ -162,12 +170,12 @@ pub fn fresh_world() -> World
     let none = no_message();
     World {
         acceptors: 0,
-        slots: [slot; 80],
-        coordinators: [coordinator; 3],
-        logs: [log; 3],
-        processes: [process; 16],
+        slots: [slot; SLOT_PLACES],
+        coordinators: [coordinator; COORDINATOR_PLACES],
+        logs: [log; COORDINATOR_PLACES],
+        processes: [process; PROCESS_PLACES],
         down: all_up(),
-        messages: [none; 128],
+        messages: [none; MESSAGE_PLACES],
         sent: 0,
     }
 }

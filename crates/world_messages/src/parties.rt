@@ -4,6 +4,7 @@ ghost use Rattle.model_protocol.specs.World.{isDown};
 ghost use Rattle.model_protocol.specs.Deliver.{receiverDown};
 ghost use Rattle.model_paxos.specs.Ballot.{owner};
 ghost use Rattle.model_protocol.specs.World.{crashed};
+use log_entry::limits::PROCESSES;
 use model_protocol::Down;
 use model_protocol::Kind;
 use model_protocol::Message;
@@ -35,7 +36,7 @@ pub fn is_down(d: Down, role: Role, id: u8) -> bool
             d.coordinators[id as usize]
         }
         Role::Proc => {
-            if 16 <= id {
+            if PROCESSES < id {
                 return false;
             }
             d.processes[id as usize]
@@ -74,7 +75,7 @@ pub fn crashed(mut d: Down, role: Role, id: u8) -> Down
             }
         }
         Role::Proc => {
-            if id < 16 {
+            if id <= PROCESSES {
                 d.processes[id as usize] = true;
             }
         }

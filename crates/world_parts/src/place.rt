@@ -2,9 +2,12 @@
 ghost use mathlib.Core.Path.{_≡_};
 ghost use Rattle.world_parts.specs.Asks.{asksLog};
 ghost use Rattle.model_protocol.specs.Places.{deliveryPlaces, messageAt, onlySlot, onlyCoordinator, onlyProcess, placesOf};
+use log_entry::limits::PROCESSES;
 use model_protocol::Kind;
 use model_protocol::Message;
 use model_protocol::Places;
+use model_protocol::limits::INSTANCE_PLACES;
+use model_protocol::limits::SLOT_PLACES;
 use model_steps::Step;
 use model_steps::limits::COORDINATORS;
 use model_steps::limits::MESSAGES;
@@ -87,7 +90,7 @@ fn only_slot(acceptor: u8, inst: u8) -> Places
 {
     Places {
         coordinator: 0,
-        slot: (acceptor as usize * 16 + inst as usize) % 80,
+        slot: (acceptor as usize * INSTANCE_PLACES + inst as usize) % SLOT_PLACES,
         process: 0,
     }
 }
@@ -98,7 +101,7 @@ fn only_process(k: u8) -> Places
     Places {
         coordinator: 0,
         slot: 0,
-        process: k % 16,
+        process: k % (PROCESSES + 1),
     }
 }
 

@@ -5,9 +5,8 @@ ghost use lib.ListN.{take};
 ghost use Rattle.model_protocol.specs.Limits.{queuePlaces};
 ghost use Rattle.model_protocol.specs.Queue.{isIn};
 use log_entry::Entry;
-
-// `queuePlaces` of protocol has the same number for the contracts.
-pub const QUEUE_PLACES: u8 = 8;
+use model_protocol::limits::QUEUE_ENTRIES;
+use model_protocol::limits::QUEUE_PLACES;
 
 // Whether an equal entry is in a lent row.
 pub fn is_among(entries: &[Entry], e: Entry) -> bool
@@ -24,7 +23,7 @@ pub fn is_among(entries: &[Entry], e: Entry) -> bool
 }
 
 // Lends the first n entries.
-fn lend(entries: [Entry; 8], n: usize, e: Entry) -> bool
+fn lend(entries: [Entry; QUEUE_PLACES], n: usize, e: Entry) -> bool
     requires { ⌜ n ≤ queuePlaces ⌝ }
     ensures { λ r. ⌜ r ≡ isIn e (take n entries) ⌝ }
 {
@@ -32,11 +31,11 @@ fn lend(entries: [Entry; 8], n: usize, e: Entry) -> bool
 }
 
 // Whether an equal entry is among the first `count`, or among all if there are fewer. Its parameters are plain: a caller lends nothing.
-pub fn is_among_first(entries: [Entry; 8], count: u8, e: Entry) -> bool
+pub fn is_among_first(entries: [Entry; QUEUE_PLACES], count: u8, e: Entry) -> bool
     ensures { λ r. ⌜ r ≡ isIn e (take count entries) ⌝ }
 {
-    if QUEUE_PLACES <= count {
-        return lend(entries, QUEUE_PLACES as usize, e);
+    if QUEUE_ENTRIES <= count {
+        return lend(entries, QUEUE_PLACES, e);
     }
     lend(entries, count as usize, e)
 }

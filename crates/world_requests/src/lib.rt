@@ -11,6 +11,7 @@ ghost use Rattle.model_protocol.specs.World.{isDown};
 ghost use Rattle.world_parts.specs.Plan.{planOf};
 use log_core::Log;
 use log_entry::Entry;
+use log_entry::limits::STORE_PLACES;
 use log_entry::limits::STORES;
 use model_protocol::Change;
 use model_protocol::Message;
@@ -131,7 +132,7 @@ pub fn restore(p: Parts, coord: u8, process: u8) -> Change
 }
 
 // The store that the process holds; one past the last store if it holds none.
-fn held_store(holders: [u8; 8], process: u8) -> u8
+fn held_store(holders: [u8; STORE_PLACES], process: u8) -> u8
     ensures { λ r. ⌜ r ≡ heldFrom process 0 holders ⌝ }
 {
     let mut s: u8 = 0;

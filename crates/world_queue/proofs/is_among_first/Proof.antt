@@ -8,9 +8,6 @@ use Rattle.model_protocol.specs.Queue.{isIn}
 use Rattle.world_queue.proofs.is_among_first.Statement.{statement}
 use Rattle.world_queue.proofs.is_among_first.Tie as tie
 
-cast-lend : tie.Need-cast-lend
-cast-lend c = search needs
-
 lend-requires : tie.Need-lend-requires
 lend-requires c κs = search needs
 
@@ -29,4 +26,4 @@ returns-2 : tie.Need-returns-2
 returns-2 c = search needs
 
 pub is-among-first-spec : {M : Type 1} → statement M
-is-among-first-spec = tie.close (tie.spec cast-lend lend-requires returns lend-requires-2 returns-2)
+is-among-first-spec = tie.close (tie.spec lend-requires returns lend-requires-2 returns-2)
