@@ -42,7 +42,6 @@ use Rattle.model_protocol.specs.World.{coordinatorOf, emptySlot, freshCoordinat
 use Rattle.world_coordinator.proofs.FrontLaws.{front-end, front-step}
 use Rattle.world_parts.specs.Asks.{asksLog}
 use Rattle.world_engine.specs.Changed.{changeIn}
-use Rattle.model_steps.proofs.Commands.{the-type as commands-type}
 use Rattle.world_engine.specs.declared.Advanced.{Advanced}
 use Rattle.model_steps.specs.declared.Commands.{Commands}
 use Rattle.model_steps.specs.declared.Command.{Command}
@@ -70,9 +69,6 @@ world-lengths w vs g = (
   simp length-map at (g .1 .1 .1 .1 .1 .1 .0 .1 .0 .1),
   simp length-map at (g .1 .1 .1 .1 .1 .1 .1 .1 .0 .1 .0 .1),
 )
-
-pub commands-length : (b : Commands) (vs : List Val) → Is (row commands-type) b vs → length (b .commands) ≡ mostCommands
-commands-length b vs g = simp length-map at (g .1 .1 .1 .0 .1 .0 .1)
 
 message-inside : (s : Step) → messageAt s < messages
 message-inside (Setup n) = omega arith

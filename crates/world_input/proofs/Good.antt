@@ -1,4 +1,4 @@
--- What owning orders or an input by value says of it: how many places there are.
+-- What owning an input by value says of it: how many places there are.
 use mathlib.Core.List.{List}
 use mathlib.Core.Path.{_≡_}
 use denote.Laws.{Is}
@@ -7,12 +7,7 @@ use lib.ListN.{length, length-map}
 use mir.Val.{Val}
 use Rattle.text_lines.specs.Lines.{answeredLines}
 use Rattle.world_input.specs.declared.Input.{Input}
-use Rattle.world_input.specs.declared.Orders.{Orders}
 use Rattle.world_input.proofs.Input.{the-type as input-type}
-use Rattle.world_input.proofs.Orders.{the-type as orders-type}
 
-pub orders-length : (o : Orders) (vs : List Val) → Is (row orders-type) o vs → length (o .orders) ≡ answeredLines
-orders-length o vs g = simp length-map at (g .1 .1 .1 .0 .1 .0 .1)
-
-pub input-length : (i : Input) (vs : List Val) → Is (row input-type) i vs → length (i .orders .orders) ≡ answeredLines
+pub input-length : (i : Input) (vs : List Val) → Is (row input-type) i vs → length (i .commands .commands) ≡ answeredLines
 input-length i vs g = simp length-map at (g .1 .1 .0 .1 .1 .1 .0 .1 .0 .1)

@@ -15,17 +15,17 @@ use Rattle.text_step.specs.declared.Reading.{Reading}
 use Rattle.text_step.specs.declared.Reading.the-variants.{Read, Outside, Unreadable}
 use Rattle.text_step.specs.Step.{reading}
 use Rattle.text_step.proofs.Reading.{the-type as reading-type}
-use Rattle.world_input.specs.Orders.{orderTo, refusing}
-use Rattle.world_input.specs.State.{heldOrder}
+use Rattle.world_input.specs.Commands.{commandTo, refusing}
+use Rattle.world_input.specs.State.{heldCommand}
 
 module _ (line : Line) where
-  pub held-long : maxLineBytes < line .length → refusing unreadable ≡ heldOrder line
-  unfolding heldOrder
+  pub held-long : maxLineBytes < line .length → refusing unreadable ≡ heldCommand line
+  unfolding heldCommand
   held-long h = rw (lt-ltb maxLineBytes (line .length) h)
 
-  pub held-short : line .length ≤ maxLineBytes → (r : Reading) → reading (bytesOf line) ≡ r → orderTo r ≡ heldOrder line
-  unfolding heldOrder
-  held-short h r e = rw (le-ltb maxLineBytes (line .length) h) (ap orderTo (sym e))
+  pub held-short : line .length ≤ maxLineBytes → (r : Reading) → reading (bytesOf line) ≡ r → commandTo r ≡ heldCommand line
+  unfolding heldCommand
+  held-short h r e = rw (le-ltb maxLineBytes (line .length) h) (ap commandTo (sym e))
 
 -- a reading that is neither `Outside` nor `Read`
 pub neither : (r : Reading) → OneOf (0 ∷ 2 ∷ []) (tagOf reading-type r) → OneOf (1 ∷ 2 ∷ []) (tagOf reading-type r) → r ≡ Unreadable

@@ -2,43 +2,40 @@
 ghost use mathlib.Core.List.{[]};
 ghost use mathlib.Core.Path.{_≡_};
 ghost use Rattle.text_lines.specs.Feed.{fed, finished, fresh};
-ghost use Rattle.world_input.specs.Orders.{refusing};
-ghost use Rattle.world_input.specs.State.{heldOrder, orderAt, ordersIn, over, stateOf, withLine};
+ghost use Rattle.world_input.specs.Commands.{refusing};
+ghost use Rattle.world_input.specs.State.{commandAt, heldCommand, over, stateOf, withLine};
+ghost use Rattle.model_steps.specs.Commands.{commandsIn};
 use log_entry::refusal::ACCEPTED;
 use log_entry::refusal::NO_PLACE;
 use log_entry::refusal::OUTSIDE_LIMITS;
 use log_entry::refusal::UNREADABLE;
+use model_steps::Command;
+use model_steps::Commands;
 use model_steps::Step;
+use model_steps::limits::COMMAND_PLACES;
 use text_lines::ANSWERED_LINES;
 use text_lines::Line;
 use text_lines::MAX_LINE_BYTES;
 use text_lines::MAX_LINES;
 use text_step::Reading;
-use world_engine::Order;
 
-// What the lines so far ask for.
-pub struct Orders {
-    pub count: u16,
-    pub orders: [Order; ANSWERED_LINES as usize],
-}
-
-// The orders, and the line that is gathered.
+// The commands, and the line that is gathered.
 pub struct Input {
-    pub orders: Orders,
+    pub commands: Commands,
     pub line: Line,
 }
 
-fn refuse(answer: u8) -> Order
+fn refuse(answer: u8) -> Command
     ensures { λ r. ⌜ r ≡ refusing answer ⌝ }
 {
-    Order {
+    Command {
         refused: answer,
         step: Step::Setup { acceptors: 0 },
     }
 }
 
-fn order_of(line: Line) -> Order
-    ensures { λ r. ⌜ r ≡ heldOrder line ⌝ }
+fn command_of(line: Line) -> Command
+    ensures { λ r. ⌜ r ≡ heldCommand line ⌝ }
 {
     if MAX_LINE_BYTES < line.length {
         return refuse(UNREADABLE);
@@ -52,20 +49,20 @@ fn order_of(line: Line) -> Order
     let Reading::Read(step) = reading else {
         return refuse(UNREADABLE);
     };
-    Order {
+    Command {
         refused: ACCEPTED,
         step: step,
     }
 }
 
 // What the line asks for, after `count` others.
-fn order_at(count: u16, line: Line) -> Order
-    ensures { λ r. ⌜ r ≡ orderAt count line ⌝ }
+fn command_at(count: u16, line: Line) -> Command
+    ensures { λ r. ⌜ r ≡ commandAt count line ⌝ }
 {
     if MAX_LINES <= count {
         return refuse(NO_PLACE);
     }
-    order_of(line)
+    command_of(line)
 }
 
 impl Input {
@@ -73,37 +70,37 @@ impl Input {
         ensures { λ r. ⌜ stateOf r ≡ fresh [] ⌝ }
     {
         let none = refuse(ACCEPTED);
-        let orders = Orders {
+        let commands = Commands {
             count: 0,
-            orders: [none; ANSWERED_LINES as usize],
+            commands: [none; COMMAND_PLACES],
         };
         let line = Line::none();
         Input {
-            orders: orders,
+            commands: commands,
             line: line,
         }
     }
 
     // Whether line 1,001 has been read, which ends the reading.
     pub fn is_over(self) -> bool
-        ensures { λ r. ⌜ r ≡ over (ordersIn (self .orders)) ⌝ }
+        ensures { λ r. ⌜ r ≡ over (commandsIn (self .commands)) ⌝ }
     {
-        let orders = self.orders;
-        MAX_LINES < orders.count
+        let commands = self.commands;
+        MAX_LINES < commands.count
     }
 
     // The input after a piece of any length.
     pub fn feed(self, piece: &[u8]) -> Input
         ensures { λ r. ⌜ stateOf r ≡ fed over withLine (stateOf self) (now (piece .entry)) ⌝ }
     {
-        let mut orders = self.orders;
+        let mut commands = self.commands;
         let mut line = self.line;
         let mut at: usize = 0;
         while at < piece.len() {
-            let n = orders.count;
+            let n = commands.count;
             if MAX_LINES < n {
                 return Input {
-                    orders: orders,
+                    commands: commands,
                     line: line,
                 };
             }
@@ -112,35 +109,35 @@ impl Input {
             line = gathered.line;
             if !gathered.ended {
                 return Input {
-                    orders: orders,
+                    commands: commands,
                     line: line,
                 };
             }
-            orders.orders[n as usize] = order_at(n, line);
-            orders.count = n + 1;
+            commands.commands[n as usize] = command_at(n, line);
+            commands.count = n + 1;
             line = Line::none();
         }
         Input {
-            orders: orders,
+            commands: commands,
             line: line,
         }
     }
 
     // At the input's end, a line that has begun is a line.
-    pub fn finish(self) -> Orders
-        ensures { λ r. ⌜ ordersIn r ≡ finished over withLine (stateOf self) ⌝ }
+    pub fn finish(self) -> Commands
+        ensures { λ r. ⌜ commandsIn r ≡ finished over withLine (stateOf self) ⌝ }
     {
-        let mut orders = self.orders;
+        let mut commands = self.commands;
         let line = self.line;
-        let n = orders.count;
+        let n = commands.count;
         if MAX_LINES < n {
-            return orders;
+            return commands;
         }
         if line.length == 0 {
-            return orders;
+            return commands;
         }
-        orders.orders[n as usize] = order_at(n, line);
-        orders.count = n + 1;
-        orders
+        commands.commands[n as usize] = command_at(n, line);
+        commands.count = n + 1;
+        commands
     }
 }

@@ -11,7 +11,7 @@ use lib.ListN.{length}
 use borrow.Author.Tests.{eqb-true, le-ltb, lt-ltb}
 use Rattle.log_entry.specs.Refusal.{accepted, firstRefusal, outsideLimits, unreadable}
 use Rattle.model_agreement.proofs.Limits.{in-bounds}
-use Rattle.world_engine.specs.Orders.{ordered}
+use Rattle.world_engine.specs.Commands.{carriedOut}
 use Rattle.text_lines.specs.Lines.{maxLineBytes}
 use Rattle.log_laws.proofs.Answers.{fresh, not-given}
 use Rattle.model_protocol.specs.declared.Parts.{Parts}
@@ -28,11 +28,11 @@ use Rattle.text_step.specs.Claims.{IsText}
 use Rattle.text_step.specs.Step.{HasText, beyond, reading, readingOf, text}
 use Rattle.text_step.proofs.Agreement.{outside-line-is-text, read-line-is-text, text-reads-back}
 use Rattle.text_step.proofs.Beyond.{beyond-is-outside}
-use Rattle.world_input.specs.Orders.{orderOf, orderTo, refusing}
+use Rattle.world_input.specs.Commands.{commandOf, commandTo, refusing}
 use Rattle.world_run.specs.Claims.{Answered2IsOutside, FewCount, FewCounted, LongLineIsUnreadable, OtherLineIsUnreadable, TextIsTaken, TextOutsideLimits, lineTaken}
 
-short-line : (w : World) (line : List ℕ) → length line ≤ maxLineBytes → lineTaken w line ≡ ordered w (orderTo (reading line))
-unfolding orderOf
+short-line : (w : World) (line : List ℕ) → length line ≤ maxLineBytes → lineTaken w line ≡ carriedOut w (commandTo (reading line))
+unfolding commandOf
 short-line w line h = rw (le-ltb maxLineBytes (length line) h)
 
 outside-refused : (w : World) (s : Step) → outsideStep (acceptorsCounted (w .acceptors)) s ≡ true → stepOf w s ≡ answered w outsideLimits
@@ -46,28 +46,28 @@ few-counted steps = go (eqb (run freshWorld steps .acceptors) 0)
     go true = omega arith
     go false = omega (arith, in-bounds steps .acceptors)
 
-taken : (w : World) → FewCount w → (s : Step) → HasText s → (b : Bool) → beyond s ≡ b → ordered w (orderTo (cond b Outside (Read s))) ≡ stepOf w s
+taken : (w : World) → FewCount w → (s : Step) → HasText s → (b : Bool) → beyond s ≡ b → carriedOut w (commandTo (cond b Outside (Read s))) ≡ stepOf w s
 taken w few s t true h = sym (outside-refused w s (beyond-is-outside (acceptorsCounted (w .acceptors)) few s t h))
 taken w few s t false h = refl
 
 pub text-is-taken : TextIsTaken
 text-is-taken w few s t h =
     short-line w (text s) h
-    ∙ ap (λ (o : Option Step). ordered w (orderTo (readingOf o))) (text-reads-back s t)
+    ∙ ap (λ (o : Option Step). carriedOut w (commandTo (readingOf o))) (text-reads-back s t)
     ∙ taken w few s t (beyond s) refl
 
 pub text-outside-limits : TextOutsideLimits
 text-outside-limits w few s t h o = text-is-taken w few s t h ∙ outside-refused w s o
 
 pub long-line-is-unreadable : LongLineIsUnreadable
-unfolding orderOf
+unfolding commandOf
 long-line-is-unreadable w line h = rw (lt-ltb maxLineBytes (length line) h)
 
 pub other-line-is-unreadable : OtherLineIsUnreadable
-unfolding orderOf
+unfolding commandOf
 other-line-is-unreadable w line h = go (ltb maxLineBytes (length line)) (reading line) refl
   where
-    go : (b : Bool) (r : Reading) → reading line ≡ r → ordered w (cond b (refusing unreadable) (orderTo r)) ≡ answered w unreadable
+    go : (b : Bool) (r : Reading) → reading line ≡ r → carriedOut w (cond b (refusing unreadable) (commandTo r)) ≡ answered w unreadable
     go true r k = refl
     go false (Read s) k = absurd (h s (read-line-is-text line s k))
     go false Outside k = let t = outside-line-is-text line k in absurd (h (t .0) (t .1))
@@ -107,10 +107,10 @@ answer-is-refusal w s = go (eqb (stepRefusal p s) accepted) refl
     go false k = refl
 
 pub answered-2-is-outside : Answered2IsOutside
-unfolding orderOf
+unfolding commandOf
 answered-2-is-outside w few line h = go (ltb maxLineBytes (length line)) (reading line) refl h
   where
-    go : (b : Bool) (r : Reading) → reading line ≡ r → ordered w (cond b (refusing unreadable) (orderTo r)) .answer ≡ outsideLimits
+    go : (b : Bool) (r : Reading) → reading line ≡ r → carriedOut w (cond b (refusing unreadable) (commandTo r)) .answer ≡ outsideLimits
         → (s : Step) × IsText line s × (outsideStep (acceptorsCounted (w .acceptors)) s ≡ true)
     go true r k h = absurd (let z : ⊥ = omega arith in z)
     go false (Read s) k h = (s, read-line-is-text line s k, refused-2 (partsOf w s) s (sym (answer-is-refusal w s) ∙ h))

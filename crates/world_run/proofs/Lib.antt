@@ -1,3 +1,3 @@
 pub mod Answers
-pub mod Blocks
+pub mod Carried
 pub mod Meaning

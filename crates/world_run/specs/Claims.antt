@@ -17,8 +17,8 @@ use Rattle.text_ascii.specs.Decimal.{byteNumbers}
 use Rattle.text_lines.specs.Lines.{maxLineBytes}
 use Rattle.text_step.specs.Claims.{IsText}
 use Rattle.text_step.specs.Step.{HasText, text}
-use Rattle.world_engine.specs.Orders.{ordered}
-use Rattle.world_input.specs.Orders.{orderOf}
+use Rattle.world_engine.specs.Commands.{carriedOut}
+use Rattle.world_input.specs.Commands.{commandOf}
 use Rattle.world_run.specs.declared.Session.{Session}
 use Rattle.world_run.specs.Program.{world, worldFor}
 use Rattle.world_run.specs.Ran.{Agreed, output}
@@ -38,7 +38,7 @@ AgreedPrints = (input : List ℕ) (s : Session) → Agreed input s → output s 
 
 -- the answer to a line, and the world after it
 abbrev pub lineTaken : World → List ℕ → Stepped
-lineTaken w line = ordered w (orderOf line)
+lineTaken w line = carriedOut w (commandOf line)
 
 -- In the world, no more acceptors count than a byte holds.
 abbrev pub FewCount : World → Type 0

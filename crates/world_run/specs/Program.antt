@@ -5,16 +5,16 @@ use Rattle.model_protocol.specs.declared.World.{World}
 use Rattle.model_protocol.specs.World.{freshWorld}
 use Rattle.text_report.specs.Report.{answersText}
 use Rattle.world_report.specs.Report.{worldText}
-use Rattle.world_engine.specs.Orders.{answersTo, worldAfter}
-use Rattle.world_input.specs.Orders.{ordersOf}
+use Rattle.world_engine.specs.Commands.{answersTo, worldAfter}
+use Rattle.world_input.specs.Commands.{commandsOf}
 
 -- "The first step gets the fresh world [..]. Each later one gets the world that the last one handed
 -- back"
 abbrev pub answersFor : List ℕ → List ℕ
-answersFor input = answersTo freshWorld (ordersOf input)
+answersFor input = answersTo freshWorld (commandsOf input)
 
 abbrev pub worldFor : List ℕ → World
-worldFor input = worldAfter freshWorld (ordersOf input)
+worldFor input = worldAfter freshWorld (commandsOf input)
 
 -- answers and a world as they are printed
 abbrev pub printed : List ℕ → World → List ℕ

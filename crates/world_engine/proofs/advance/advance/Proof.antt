@@ -7,12 +7,13 @@ use lib.ListN.{drop, getD}
 use lib.Seq.{sets}
 use Rattle.model_steps.specs.declared.Step.the-variants.{Setup}
 use Rattle.model_steps.specs.Limits.{messages}
+use Rattle.model_steps.proofs.Lengths.{commands-length}
 use Rattle.model_protocol.specs.declared.World.{World}
 use Rattle.model_protocol.specs.Send.{copyOf, sendToAll}
 use Rattle.model_protocol.specs.Step.{putBack}
 use Rattle.world_engine.specs.Commands.{answersTo, worldAfter}
 use Rattle.model_steps.specs.Commands.{commandsIn}
-use Rattle.world_engine.proofs.AdvanceLaws.{Lengths, There, commands-done, commands-length, copies-next, copies-none, count-fits, delivered-is, first-copy, log-fed, message-small, next-copy, none-fed, not-asked, command-taken, parts-are, places-there, put-lengths, said-is, sent-lengths, stored-turn, world-lengths, world-turn}
+use Rattle.world_engine.proofs.AdvanceLaws.{Lengths, There, commands-done, copies-next, copies-none, count-fits, delivered-is, first-copy, log-fed, message-small, next-copy, none-fed, not-asked, command-taken, parts-are, places-there, put-lengths, said-is, sent-lengths, stored-turn, world-lengths, world-turn}
 use Rattle.world_engine.proofs.advance.advance.Statement.{statement}
 use Rattle.world_engine.proofs.advance.advance.Tie as tie
 

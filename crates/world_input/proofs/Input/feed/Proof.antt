@@ -5,23 +5,24 @@ use mathlib.Core.Bool.{true}
 use mathlib.Core.Path.{_≡_, refl, sym, _∙_, ap, subst}
 use lib.ListN.{length, length-drop, length-set, drop, set, take}
 use borrow.Author.Tests.{not-true, not-false}
-use Rattle.world_engine.specs.declared.Order.{Order}
+use Rattle.model_steps.specs.declared.Command.{Command}
 use Rattle.text_lines.specs.Feed.{fed}
 use Rattle.text_lines.specs.Line.{Part, gathered, seen}
 use Rattle.text_lines.specs.Lines.{answeredLines}
 use Rattle.text_lines.proofs.Feeding.{fed-at-end, fed-begun, fed-line, gathered-shorter}
 use Rattle.text_lines.proofs.Stream.{fed-over}
-use Rattle.world_input.specs.State.{ordersIn, over, withLine}
+use Rattle.world_input.specs.State.{over, withLine}
+use Rattle.model_steps.specs.Commands.{commandsIn}
 use Rattle.world_input.proofs.Good.{input-length}
 use Rattle.world_input.proofs.Ordering.{over-last, over-not, with-line}
 use Rattle.world_input.proofs.Input.feed.Statement.{statement}
 use Rattle.world_input.proofs.Input.feed.Tie as tie
 
 abbrev Inv-loop : tie.InvT-loop
-Inv-loop piece orders₀ line₀ at₀ orders line at = (length (orders .orders) ≡ answeredLines) × (fed over withLine (record { state = ordersIn orders₀; line = line₀ }) piece ≡ fed over withLine (record { state = ordersIn orders; line = line }) (drop at piece))
+Inv-loop piece commands₀ line₀ at₀ commands line at = (length (commands .commands) ≡ answeredLines) × (fed over withLine (record { state = commandsIn commands₀; line = line₀ }) piece ≡ fed over withLine (record { state = commandsIn commands; line = line }) (drop at piece))
 
 abbrev μ-loop : tie.MeasureT-loop
-μ-loop piece orders₀ line₀ at₀ orders line at = length piece - at
+μ-loop piece commands₀ line₀ at₀ commands line at = length piece - at
 
 loop-holds : tie.Need-loop-holds Inv-loop μ-loop
 loop-holds c = (input-length (c .before .before .before .args .self) _ (c .before .before .before .good .0), refl)
@@ -29,7 +30,7 @@ loop-holds c = (input-length (c .before .before .before .args .self) _ (c .befor
 returns : tie.Need-returns Inv-loop μ-loop
 returns c =
     let l = c .before .before .loop in
-    sym (l .inv .1 ∙ fed-over over withLine (record { state = ordersIn (l .orders); line = l .line }) (drop (l .at) (c .before .before .before .before .before .before .args .piece .now)) (over-last (l .orders) (l .inv .0) (c .if1 .taken)))
+    sym (l .inv .1 ∙ fed-over over withLine (record { state = commandsIn (l .commands); line = l .line }) (drop (l .at) (c .before .before .before .before .before .before .args .piece .now)) (over-last (l .commands) (l .inv .0) (c .if1 .taken)))
 
 gather-requires : tie.Need-gather-requires Inv-loop μ-loop
 gather-requires c κs = search needs
@@ -38,10 +39,10 @@ returns-2 : tie.Need-returns-2 Inv-loop μ-loop
 returns-2 c =
     let l = c .before .before .before .before .before .before .loop in
     let s = c .before .before .before .before .before .before .before .before .before .before .args .piece .now in
-    sym (l .inv .1 ∙ fed-begun over withLine (record { state = ordersIn (l .orders); line = l .line }) (drop (l .at) s) (seen s (c .before .before .before .gather .result)) (over-not (l .orders) (l .inv .0) (c .before .before .before .before .if1 .left)) (c .before .before .before .gather .ensures) (not-true _ (c .if2 .taken)))
+    sym (l .inv .1 ∙ fed-begun over withLine (record { state = commandsIn (l .commands); line = l .line }) (drop (l .at) s) (seen s (c .before .before .before .gather .result)) (over-not (l .commands) (l .inv .0) (c .before .before .before .before .if1 .left)) (c .before .before .before .gather .ensures) (not-true _ (c .if2 .taken)))
 
-order-at-requires : tie.Need-order-at-requires Inv-loop μ-loop
-order-at-requires c κs = search needs
+command-at-requires : tie.Need-command-at-requires Inv-loop μ-loop
+command-at-requires c κs = search needs
 
 cast-t8 : tie.Need-cast-t8 Inv-loop μ-loop
 cast-t8 c = omega arith
@@ -49,11 +50,11 @@ cast-t8 c = omega arith
 mul-t13 : tie.Need-mul-t13 Inv-loop μ-loop
 mul-t13 c = let l = c .before .before .before .before .before .before .before .loop in omega arith
 
-element-set-from-orders : tie.Need-element-set-from-orders Inv-loop μ-loop
-element-set-from-orders c = let l = c .before .before .before .before .before .before .before .loop in omega (arith, l .inv .0)
+element-set-from-commands : tie.Need-element-set-from-commands Inv-loop μ-loop
+element-set-from-commands c = let l = c .before .before .before .before .before .before .before .loop in omega (arith, l .inv .0)
 
-add-orders : tie.Need-add-orders Inv-loop μ-loop
-add-orders c = omega arith
+add-commands : tie.Need-add-commands Inv-loop μ-loop
+add-commands c = omega arith
 
 none-requires : tie.Need-none-requires Inv-loop μ-loop
 none-requires c κs = search needs
@@ -70,20 +71,20 @@ loop-less c =
 loop-again : tie.Need-loop-again Inv-loop μ-loop
 loop-again c =
     let l = c .before .before .before .before .before .before .before .before .loop in
-    let o = l .orders in
+    let o = l .commands in
     let s = c .before .before .before .before .before .before .before .before .before .before .before .before .args .piece .now in
     let g = c .before .before .before .before .before .gather .result in
-    let added : withLine (ordersIn o) (g .line) ≡ take (o .count + 1) (set (o .orders) (o .count) (c .before .order-at .result)) = with-line o (l .inv .0) (g .line) (c .before .before .before .before .before .before .if1 .left) ∙ ap (λ (x : Order). take (o .count + 1) (set (o .orders) (o .count) x)) (sym (c .before .order-at .ensures)) in (
-      length-set (o .orders) (o .count) (c .before .order-at .result) ∙ l .inv .0,
+    let added : withLine (commandsIn o) (g .line) ≡ take (o .count + 1) (set (o .commands) (o .count) (c .before .command-at .result)) = with-line o (l .inv .0) (g .line) (c .before .before .before .before .before .before .if1 .left) ∙ ap (λ (x : Command). take (o .count + 1) (set (o .commands) (o .count) x)) (sym (c .before .command-at .ensures)) in (
+      length-set (o .commands) (o .count) (c .before .command-at .result) ∙ l .inv .0,
       l .inv .1
-          ∙ fed-line over withLine (record { state = ordersIn (l .orders); line = l .line }) (drop (l .at) s) (seen s g) (over-not o (l .inv .0) (c .before .before .before .before .before .before .if1 .left)) (c .before .before .before .before .before .gather .ensures) (not-false _ (c .before .before .if2 .left))
+          ∙ fed-line over withLine (record { state = commandsIn (l .commands); line = l .line }) (drop (l .at) s) (seen s g) (over-not o (l .inv .0) (c .before .before .before .before .before .before .if1 .left)) (c .before .before .before .before .before .gather .ensures) (not-false _ (c .before .before .if2 .left))
           ∙ (λ i. fed over withLine (record { state = added i; line = sym (c .none .ensures) i }) (drop (g .next) s)),
     )
 
 returns-3 : tie.Need-returns-3 Inv-loop μ-loop
 returns-3 c =
     let l = c .before .loop in
-    sym (l .inv .1 ∙ fed-at-end over withLine (record { state = ordersIn (l .orders); line = l .line }) (c .before .before .before .before .before .args .piece .now) (l .at) (c .loop-test .left))
+    sym (l .inv .1 ∙ fed-at-end over withLine (record { state = commandsIn (l .commands); line = l .line }) (c .before .before .before .before .before .args .piece .now) (l .at) (c .loop-test .left))
 
 pub feed-spec : {M : Type 1} → statement M
 feed-spec =
@@ -95,11 +96,11 @@ feed-spec =
     returns
     gather-requires
     returns-2
-    order-at-requires
+    command-at-requires
     cast-t8
     mul-t13
-    element-set-from-orders
-    add-orders
+    element-set-from-commands
+    add-commands
     none-requires
     loop-less
     loop-again

@@ -1,7 +1,7 @@
 use Prim.Native.Nat.{_+_}
 use mathlib.Core.Path.{_≡_, sym, _∙_, ap}
 use lib.ListN.{length, set, take}
-use Rattle.world_engine.specs.declared.Order.{Order}
+use Rattle.model_steps.specs.declared.Command.{Command}
 use Rattle.text_lines.specs.Lines.{answeredLines}
 use Rattle.text_lines.proofs.Feeding.{finished-empty, finished-line, finished-over}
 use Rattle.world_input.specs.State.{over, stateOf, withLine}
@@ -11,17 +11,17 @@ use borrow.Author.Needs.{needs}
 use Rattle.world_input.proofs.Input.finish.Statement.{statement}
 use Rattle.world_input.proofs.Input.finish.Tie as tie
 
-room : (c : tie.After-line) → length (c .before .before .args .self .orders .orders) ≡ answeredLines
+room : (c : tie.After-line) → length (c .before .before .args .self .commands .commands) ≡ answeredLines
 room c = input-length (c .before .before .args .self) _ (c .before .before .good .0)
 
 returns : tie.Need-returns
-returns c = let i = c .before .before .before .args .self in finished-over over withLine (stateOf i) (over-last (i .orders) (room (c .before)) (c .if1 .taken))
+returns c = let i = c .before .before .before .args .self in finished-over over withLine (stateOf i) (over-last (i .commands) (room (c .before)) (c .if1 .taken))
 
 returns-2 : tie.Need-returns-2
-returns-2 c = let i = c .before .before .before .before .before .args .self in finished-empty over withLine (stateOf i) (over-not (i .orders) (room (c .before .before .before)) (c .before .before .if1 .left)) (c .if2 .taken)
+returns-2 c = let i = c .before .before .before .before .before .args .self in finished-empty over withLine (stateOf i) (over-not (i .commands) (room (c .before .before .before)) (c .before .before .if1 .left)) (c .if2 .taken)
 
-order-at-requires : tie.Need-order-at-requires
-order-at-requires c κs = search needs
+command-at-requires : tie.Need-command-at-requires
+command-at-requires c κs = search needs
 
 cast-t7 : tie.Need-cast-t7
 cast-t7 c = search needs
@@ -29,17 +29,17 @@ cast-t7 c = search needs
 mul-t8 : tie.Need-mul-t8
 mul-t8 c = search needs
 
-element-set-from-orders : tie.Need-element-set-from-orders
-element-set-from-orders c = search needs
+element-set-from-commands : tie.Need-element-set-from-commands
+element-set-from-commands c = search needs
 
-add-orders : tie.Need-add-orders
-add-orders c = search needs
+add-commands : tie.Need-add-commands
+add-commands c = search needs
 
 returns-3 : tie.Need-returns-3
 returns-3 c =
     let i = c .before .before .before .before .before .before .args .self in
-    let o = i .orders in
-    ap (λ (x : Order). take (o .count + 1) (set (o .orders) (o .count) x)) (c .order-at .ensures)
+    let o = i .commands in
+    ap (λ (x : Command). take (o .count + 1) (set (o .commands) (o .count) x)) (c .command-at .ensures)
     ∙ sym (with-line o (room (c .before .before .before .before)) (i .line) (c .before .before .before .if1 .left))
     ∙ finished-line over withLine (stateOf i) (over-not o (room (c .before .before .before .before)) (c .before .before .before .if1 .left)) (c .before .if2 .left)
 
@@ -49,9 +49,9 @@ finish-spec =
     (tie.spec
     returns
     returns-2
-    order-at-requires
+    command-at-requires
     cast-t7
     mul-t8
-    element-set-from-orders
-    add-orders
+    element-set-from-commands
+    add-commands
     returns-3)

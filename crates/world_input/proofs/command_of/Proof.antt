@@ -5,8 +5,8 @@ use Rattle.text_lines.proofs.Good.{bytes-length}
 use Rattle.text_step.specs.declared.Reading.the-variants.{Outside, Unreadable}
 use Rattle.world_input.proofs.Held.{held-long, held-short, neither}
 use borrow.Author.Needs.{needs}
-use Rattle.world_input.proofs.order_of.Statement.{statement}
-use Rattle.world_input.proofs.order_of.Tie as tie
+use Rattle.world_input.proofs.command_of.Statement.{statement}
+use Rattle.world_input.proofs.command_of.Tie as tie
 
 refuse-requires : tie.Need-refuse-requires
 refuse-requires c κs = search needs
@@ -47,8 +47,8 @@ returns-3 c = c .refuse3 .ensures ∙ held-short (c .before .before .before .bef
 returns-4 : tie.Need-returns-4
 returns-4 c = held-short (c .before .before .before .before .before .before .before .before .before .before .args .line) (c .before .before .before .before .before .before .before .before .if1 .left) _ (sym (c .before .before .before .before .read-step .ensures) ∙ c .before .reading .given .1)
 
-pub order-of-spec : {M : Type 1} → statement M
-order-of-spec =
+pub command-of-spec : {M : Type 1} → statement M
+command-of-spec =
     tie.close
     (tie.spec
     refuse-requires
