@@ -47,7 +47,7 @@ pub struct Message {
     pub ballot: u8,
     // Of a promise: the ballot that the acceptor accepted, 0 if none.
     pub accepted: u8,
-    // Of a promise: the batch that goes with `held`; of an accept: the batch proposed.
+    // Of a promise: the batch that goes with `accepted`; of an accept: the batch proposed.
     pub batch: Batch,
     // Of a request.
     pub entry: Entry,
