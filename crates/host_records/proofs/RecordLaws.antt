@@ -9,8 +9,9 @@ use lib.ListN.{drop, drop-of-length-le, getD, length}
 use lib.Seq.{drop-cons}
 use Rattle.log_entry.specs.Refusal.{unreadable as unreadableNumber}
 use Rattle.log_entry.specs.declared.Entry.{Entry}
+use Rattle.log_entry.specs.Limits.{updateBytes}
 use Rattle.host_records.specs.Numbers.{abortSay, commitSay, numbers, readNumbers, takeKind, voteKind}
-use Rattle.host_records.specs.Record.{fromLowFirst, lowFirst, readRecord, recordOf, recordSize, updateAt, updateSize, zeroAt}
+use Rattle.host_records.specs.Record.{fromLowFirst, lowFirst, readRecord, recordOf, recordSize, updateAt, zeroAt}
 use Rattle.host_records.specs.declared.Reading.{Reading}
 use Rattle.host_records.specs.declared.Reading.the-variants.{Refused}
 
@@ -40,7 +41,7 @@ module _ (bytes : List ℕ) where
         rw (h, kind, process, by, store, tx, list, say, update, eq-eqb (length bytes) recordSize size, eq-eqb (getD bytes zeroAt 0) 0 zero, update-bytes)
 
 pub record-bytes : (e : Entry) {kind say : ℕ} {update : List ℕ}
-    → kind ≡ cond (e .take) takeKind voteKind → say ≡ cond (e .commit) commitSay abortSay → update ≡ lowFirst updateSize (e .update)
+    → kind ≡ cond (e .take) takeKind voteKind → say ≡ cond (e .commit) commitSay abortSay → update ≡ lowFirst updateBytes (e .update)
     → kind ∷ e .process ∷ e .by ∷ e .store ∷ e .tx ∷ e .participants ∷ say ∷ 0 ∷ getD update 0 0 ∷ getD update 1 0 ∷ getD update 2 0 ∷ getD update 3 0 ∷ []
     ≡ recordOf e
 unfolding recordOf

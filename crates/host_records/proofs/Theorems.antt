@@ -8,11 +8,11 @@ use lib.Dec.{eqb}
 use Rattle.log_entry.proofs.InsideLaws.{inside-vote}
 use Rattle.log_entry.specs.declared.Entry.{Entry}
 use Rattle.log_entry.specs.Entry.{outside, takeEntry, voteEntry}
-use Rattle.log_entry.specs.Limits.{updates}
+use Rattle.log_entry.specs.Limits.{updateBytes, updates}
 use Rattle.host_records.proofs.ReadableLaws.{numbers-of-entry, take-update}
 use Rattle.host_records.proofs.ReadingLaws.{entry-read, passed-read}
 use Rattle.host_records.specs.Numbers.{abortSay, commitSay, entryOf, numbers, numbersOf, readNumbers, takeKind, unreadable, voteKind}
-use Rattle.host_records.specs.Record.{fromLowFirst, lowFirst, proper, readRecord, recordOf, updateSize}
+use Rattle.host_records.specs.Record.{fromLowFirst, lowFirst, proper, readRecord, recordOf}
 use Rattle.host_records.specs.declared.Numbers.{Numbers}
 use Rattle.host_records.specs.declared.Reading.the-variants.{Of}
 
@@ -20,7 +20,7 @@ and-both : (a b : Bool) → (a && b) ≡ true → (a ≡ true) × (b ≡ true)
 and-both true b h = (refl, h)
 and-both false b h = absurd (false≢true h)
 
-low-first-back : (u : ℕ) → u < updates → fromLowFirst (lowFirst updateSize u) ≡ u
+low-first-back : (u : ℕ) → u < updates → fromLowFirst (lowFirst updateBytes u) ≡ u
 low-first-back u h = omega arith
 
 kind-back : (t : Bool) → eqb (cond t takeKind voteKind) takeKind ≡ t

@@ -1,4 +1,5 @@
--- Document 01, "Hosts in C": an entry as numbers. A call has them, and a record has them as its bytes.
+-- Document 01, "Hosts in C": an entry as numbers. A call has them, and a record has them as its
+-- bytes.
 use Prim.Native.Nat.{ℕ}
 use mathlib.Core.Bool.{Bool, _||_, not, cond}
 use lib.Dec.{eqb, leb, ltb}

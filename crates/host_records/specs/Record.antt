@@ -1,10 +1,11 @@
--- Document 01, "Hosts in C": "A record is 12 bytes: kind (0 take, 1 vote), process, by, store, tx, list, say (0 abort, 1 commit), a zero,
--- and the update, low byte first".
+-- Document 01, "Hosts in C": "A record is 12 bytes: kind (0 take, 1 vote), process, by, store, tx,
+-- list, say (0 abort, 1 commit), a zero, and the update, low byte first".
 use Prim.Native.Nat.{ℕ, zero, suc, _+_, _*_, _/_, _%_}
 use mathlib.Core.Bool.{Bool, _&&_, cond, not}
 use mathlib.Core.List.{List, [], _∷_}
 use lib.Dec.{eqb}
 use lib.ListN.{drop, getD, length}
+use Rattle.log_entry.specs.Limits.{updateBytes}
 use Rattle.log_entry.specs.Refusal.{unreadable as unreadableNumber}
 use Rattle.log_entry.specs.declared.Entry.{Entry}
 use Rattle.log_entry.specs.Entry.{outside}
@@ -13,10 +14,7 @@ use Rattle.host_records.specs.declared.Reading.{Reading}
 use Rattle.host_records.specs.declared.Reading.the-variants.{Refused}
 use Rattle.host_records.specs.Numbers.{byteValues, entryOf, numbers, numbersOf, readNumbers, unreadable}
 
--- the bytes of an update, and where they begin in a record
-abbrev pub updateSize : ℕ
-updateSize = 4
-
+-- where the bytes of the update begin in a record
 abbrev pub updateAt : ℕ
 updateAt = 8
 
@@ -25,7 +23,7 @@ abbrev pub zeroAt : ℕ
 zeroAt = 7
 
 abbrev pub recordSize : ℕ
-recordSize = updateAt + updateSize
+recordSize = updateAt + updateBytes
 
 -- a number's first n bytes, low byte first
 abbrev pub lowFirst : ℕ → ℕ → List ℕ
@@ -39,7 +37,7 @@ fromLowFirst (b ∷ bs) = b + byteValues * fromLowFirst bs
 
 -- numbers as a record
 abbrev pub bytesOf : Numbers → List ℕ
-bytesOf n = n .kind ∷ n .process ∷ n .by ∷ n .store ∷ n .tx ∷ n .list ∷ n .say ∷ 0 ∷ lowFirst updateSize (n .update)
+bytesOf n = n .kind ∷ n .process ∷ n .by ∷ n .store ∷ n .tx ∷ n .list ∷ n .say ∷ 0 ∷ lowFirst updateBytes (n .update)
 
 -- an entry as a record
 unfoldable pub recordOf : Entry → List ℕ
@@ -50,7 +48,8 @@ abbrev pub numbersIn : List ℕ → Numbers
 numbersIn bytes =
     numbers (getD bytes 0 0) (getD bytes 1 0) (getD bytes 2 0) (getD bytes 3 0) (getD bytes 4 0) (getD bytes 5 0) (getD bytes 6 0) (fromLowFirst (drop updateAt bytes))
 
--- what a record reads as: "a byte that should be 0 and is not, is 1"; so is what is no record, for its length
+-- what a record reads as: "a byte that should be 0 and is not, is 1"; so is what is no record, for
+-- its length
 unfoldable pub readRecord : List ℕ → Reading
 readRecord bytes =
     cond (eqb (length bytes) recordSize && eqb (getD bytes zeroAt 0) 0) (readNumbers (numbersIn bytes)) (Refused unreadableNumber)

@@ -1,17 +1,20 @@
-// An entry as numbers, as a host's call has them, and as a record's bytes. Document 01, "Hosts in C".
+// An entry as numbers, as a host's call has them, and as a record's bytes. Document 01, "Hosts in
+// C".
 ghost use mathlib.Core.Path.{_≡_};
+ghost use Rattle.log_entry.specs.Limits.{updateBytes};
 ghost use Rattle.host_records.specs.Numbers.{beyondByte, readNumbers, unreadable};
-ghost use Rattle.host_records.specs.Record.{fromLowFirst, lowFirst, readRecord, recordOf, updateSize};
+ghost use Rattle.host_records.specs.Record.{fromLowFirst, lowFirst, readRecord, recordOf};
 ghost use mathlib.Core.Bool.{cond};
 ghost use mathlib.Core.List.{[], _∷_};
 use log_entry::Entry;
+use log_entry::limits::UPDATE_BYTES;
 use log_entry::refusal::OUTSIDE_LIMITS;
 use log_entry::refusal::UNREADABLE;
 
-// The bytes of a record. `specs/Record.antt` has the same number for the contracts.
-pub const RECORD_SIZE: usize = 12;
-// The bytes of an update.
-pub const UPDATE_SIZE: usize = 4;
+// Where the update begins in a record. `specs/Record.antt` has the same number for the contracts.
+const UPDATE_AT: usize = 8;
+// The bytes of a record.
+pub const RECORD_SIZE: usize = UPDATE_AT + UPDATE_BYTES;
 
 // The place of a record's zero.
 const ZERO_AT: usize = 7;
@@ -163,8 +166,8 @@ fn either(test: bool, yes: u8, no: u8) -> u8
 }
 
 // An update's bytes, low byte first.
-pub fn low_first(u: u32) -> [u8; UPDATE_SIZE]
-    ensures { λ r. ⌜ r ≡ lowFirst updateSize u ⌝ }
+pub fn low_first(u: u32) -> [u8; UPDATE_BYTES]
+    ensures { λ r. ⌜ r ≡ lowFirst updateBytes u ⌝ }
 {
     let second = u / BYTE_VALUES;
     let third = second / BYTE_VALUES;

@@ -1,5 +1,6 @@
-// The cases of `stdin`, a line for each entry: what the log answers to each, and what it says at the end of each case.
-// The layout of a line is in tests/make_log_cases.py, and `stdout` is what tests/log_reference.py makes of it.
+// The cases of `stdin`, a line for each entry: what the log answers to each, and what it says at
+// the end of each case. The layout of a line is in tests/make_log_cases.py, and `stdout` is what
+// tests/log_reference.py makes of it.
 use libc::STDIN_FILENO;
 use libc::STDOUT_FILENO;
 use log_core::Log;

@@ -5,17 +5,17 @@ use Rattle.log_entry.specs.Limits.{stores, transactions}
 use Rattle.log_core.specs.declared.Log.{Log}
 use Rattle.log_votes.specs.declared.Row.{Row}
 use Rattle.log_core.specs.Log.{emptyLog}
-use Rattle.log_votes.specs.Row.{noVote}
+use Rattle.log_votes.specs.Row.{emptyRow}
 
 abbrev pub allRows : Row → Log
 allRows r = record {
   rows = replicate transactions r;
   holders = replicate stores 0;
-  past = replicate stores 0;
+  takers = replicate stores 0;
   groups = 0;
   remembered = replicate transactions 0;
 }
 
-pub rows-without-votes : (r : Row) → r ≡ record { votes = replicate stores noVote; group = 0 } → allRows r ≡ emptyLog
+pub rows-without-votes : (r : Row) → r ≡ emptyRow → allRows r ≡ emptyLog
 unfolding emptyLog
 rows-without-votes r h = ap allRows h

@@ -1,104 +1,170 @@
--- The log after an entry, by its answer.
-use Prim.Native.Nat.{ℕ, _%_, _*_, _<_, _^_}
-use mathlib.Core.Bool.{Bool, cond, false, not, true, _&&_, _||_}
+-- The log after an entry, by its effect.
+use Prim.Native.Nat.{ℕ, _%_, _*_, _+_, _-_, _<_, _^_}
+use mathlib.Core.Bool.{Bool, cond, false, true}
 use mathlib.Core.Path.{_≡_, ap, ap₂, refl, sym, _∙_}
 use native.Mathlib.Nat.{mod-eq-of-lt, one-mul}
+use native.Mathlib.Omega.{arith}
 use borrow.Author.Tests.{eq-eqb, ne-eqb}
 use lib.Bits.{bitOr}
-use lib.Dec.{eqb, leb}
+use lib.Dec.{eqb}
 use lib.ListN.{getD, set}
 use lib.Pow.{pow-lt}
 use Rattle.log_entry.specs.declared.Entry.{Entry}
-use Rattle.log_entry.specs.Entry.{noProcess, outside, takeEntry}
-use Rattle.log_entry.specs.Limits.{lists, stores, transactions, updates}
-use Rattle.log_entry.specs.Refusal.{accepted, firstRefusal, holdsOrHeld, outsideLimits}
+use Rattle.log_entry.specs.Entry.{outside}
+use Rattle.log_entry.specs.Limits.{transactions}
+use Rattle.log_entry.specs.Refusal.{accepted, firstRefusal, outsideLimits}
+use Rattle.log_entry.proofs.InsideLaws.{inside-vote}
+use Rattle.log_core.specs.declared.Effect.{Effect}
+use Rattle.log_core.specs.declared.Entered.{Entered}
 use Rattle.log_core.specs.declared.Log.{Log}
-use Rattle.log_votes.specs.declared.Row.{Row}
-use Rattle.log_core.specs.Enter.{afterEntry, answered, enter, refusalOf, voted}
-use Rattle.log_core.specs.Group.{committing}
-use Rattle.log_core.specs.Log.{heldBefore, rowOf, withHolder, withRow}
-use Rattle.log_votes.specs.Row.{keeping}
-use Rattle.log_votes.specs.Outcome.{isCommitted, outcomeOfVotes}
-use Rattle.log_core.specs.Refusal.{holdsAny}
-use Rattle.log_votes.proofs.RefusalLaws.{cond-false, cond-true}
-use Rattle.log_core.proofs.RefusalLaws.{take-checked}
+use Rattle.log_core.specs.declared.Parts.{Parts}
+use Rattle.log_core.specs.Decide.{effectOf, partsOf, refusal}
+use Rattle.log_core.specs.Enter.{answered, enter, entered, stored}
+use Rattle.log_core.specs.Group.{remembered, runningSet}
+use Rattle.log_core.specs.Log.{rowOf, withGroup, withHolder, withRow}
+use Rattle.log_core.proofs.DecideLaws.{answer-outside}
 
-module _ (l : Log) (e : Entry) where
-  pub entry-refused : (refusalOf l e ≡ accepted → ⊥) → answered l (refusalOf l e) ≡ enter l e
-  unfolding enter
-  entry-refused h = rw (ne-eqb (refusalOf l e) accepted h)
+-- the answer to an entry
+abbrev pub refusalOf : Log → Entry → ℕ
+refusalOf l e = refusal (partsOf l e) e
 
-  pub entry-accepted : refusalOf l e ≡ accepted → answered (afterEntry l e) accepted ≡ enter l e
-  unfolding enter
-  entry-accepted h = rw (eq-eqb (refusalOf l e) accepted h)
+pub answer-is : (l : Log) (e : Entry) → enter l e .answer ≡ refusalOf l e
+unfolding enter entered effectOf
+answer-is l e = refl
 
-  pub take-entered : e .take ≡ true → refusalOf l e ≡ accepted → answered (withHolder l (e .process) (e .store)) accepted ≡ enter l e
-  unfolding afterEntry
-  take-entered take h = ap (λ (m : Log). answered m accepted) (sym (cond-true (e .take) _ _ take)) ∙ entry-accepted h
+pub outside-refused : (l : Log) (e : Entry) → outside e ≡ true → refusalOf l e ≡ outsideLimits
+outside-refused l e h = sym (answer-outside (partsOf l e) e h)
 
-  pub vote-entered : e .take ≡ false → refusalOf l e ≡ accepted → answered (voted l (e .tx) (keeping (rowOf l (e .tx)) e)) accepted ≡ enter l e
-  unfolding afterEntry
-  vote-entered vote h = ap (λ (m : Log). answered m accepted) (sym (cond-false (e .take) _ _ vote)) ∙ entry-accepted h
+pub accepted-inside : (l : Log) (e : Entry) → refusalOf l e ≡ accepted → outside e ≡ false
+accepted-inside l e h = split (outside e) refl
+  where
+    split : (t : Bool) → outside e ≡ t → outside e ≡ false
+    split true k = absurd (let z : _≡_ {A = ℕ} 2 0 = sym (outside-refused l e k) ∙ h in omega arith)
+    split false k = k
 
-  -- the answer that a test of its own gave
-  pub refused-with : (n : ℕ) → n ≡ refusalOf l e → (n ≡ accepted → ⊥) → answered l n ≡ enter l e
-  refused-with n is h = ap (λ (k : ℕ). answered l k) is ∙ entry-refused (λ k. h (is ∙ k))
+-- what is stored
+module _ (l : Log) (e : Entry) (f : Effect) where
+  pub stored-holder : e .take ≡ true → withHolder l (e .process) (e .store) ≡ stored l e f
+  unfolding stored
+  stored-holder take = rw take
+
+  pub stored-row : e .take ≡ false → f .begins ≡ false → withRow l (e .tx) (f .row) ≡ stored l e f
+  unfolding stored
+  stored-row vote h = rw (vote, h)
+
+  pub stored-group : e .take ≡ false → f .begins ≡ true → (running : ℕ) → running ≡ runningSet (l .rows)
+      → withGroup (withRow l (e .tx) (f .row)) (f .row .group) running ≡ stored l e f
+  unfolding stored
+  stored-group vote h running is = ap (λ (n : ℕ). withGroup (withRow l (e .tx) (f .row)) (f .row .group) n) is ∙ rw (vote, h)
+
+  entered-accepted : f .answer ≡ accepted → answered (stored l e f) accepted ≡ entered l e f
+  unfolding entered
+  entered-accepted ok = rw ok
+
+  entered-refused : (f .answer ≡ accepted → ⊥) → answered l (f .answer) ≡ entered l e f
+  unfolding entered
+  entered-refused wrong = rw (ne-eqb (f .answer) accepted wrong)
 
 -- a shifted one is the power, as long as it fits
 one-shifted : (width p : ℕ) → p < width → 1 * 2 ^ p % 2 ^ width ≡ 2 ^ p
 one-shifted width p h = rw (one-mul (2 ^ p)) (mod-eq-of-lt (pow-lt h))
 
--- the log after an accepted take, its new past holder a shifted one
-pub take-stored : (l : Log) (e : Entry) → e .take ≡ true → e .process < 16 → refusalOf l e ≡ accepted
-    → answered
-    (record {
+-- a new holder, who is past holder by a shifted one
+pub holder-stored : (l : Log) (e : Entry) (f : Effect) → e .take ≡ true → e .process < 16
+    → record {
       rows = l .rows;
       holders = set (l .holders) (e .store) (e .process);
-      past = set (l .past) (e .store) (bitOr (getD (l .past) (e .store) 0) (1 * 2 ^ e .process % 65536));
+      takers = set (l .takers) (e .store) (bitOr (getD (l .takers) (e .store) 0) (1 * 2 ^ e .process % 65536));
       groups = l .groups;
       remembered = l .remembered;
-    })
-    accepted
-    ≡ enter l e
-take-stored l e take h k = rw (one-shifted 16 (e .process) h) (take-entered l e take k)
+    }
+    ≡ stored l e f
+holder-stored l e f take h = rw (one-shifted 16 (e .process) h) (stored-holder l e f take)
 
--- a vote that commits its transaction, and one that does not
-module _ (l : Log) (tx : ℕ) (r : Row) where
-  pub voted-commits : isCommitted (outcomeOfVotes (r .votes)) ≡ true → committing l tx r ≡ voted l tx r
-  unfolding voted
-  voted-commits h = rw h
+-- what the last group remembers
+pub remembered-last : (l : Log) {k : ℕ} → k ≡ cond (eqb (l .groups) 0) 0 (getD (l .remembered) (l .groups - 1) 0) → k ≡ remembered l (l .groups)
+unfolding remembered
+remembered-last l h = h
 
-  pub voted-only : isCommitted (outcomeOfVotes (r .votes)) ≡ false → withRow l tx r ≡ voted l tx r
-  unfolding voted
-  voted-only h = rw h
+-- the place of the row that an entry is decided on is within the rows
+pub place-inside : (e : Entry) → outside e ≡ false → {at : ℕ} → at ≡ cond (e .take) 0 (e .tx) → at < transactions
+place-inside e inside h = split (e .take) refl h
+  where
+    split : (t : Bool) → e .take ≡ t → {at : ℕ} → at ≡ cond t 0 (e .tx) → at < transactions
+    split true k h = omega arith
+    split false k h = omega (arith, h, inside-vote e inside k .tx)
 
--- a take goes by its process and store alone
-module _ (l : Log) (e : Entry) (take : e .take ≡ true) where
-  plain : Entry
-  plain = takeEntry (e .process) (e .store)
+-- the parts with the row at a place and what the last group remembers, as the code finds them
+abbrev pub partsAt : Log → Entry → ℕ → ℕ → Parts
+partsAt l e at last = record {
+  row = rowOf l at;
+  holders = l .holders;
+  takers = getD (l .takers) (e .store) 0;
+  groups = l .groups;
+  remembered = last;
+}
 
-  same-outside : outside plain ≡ outside e
-  unfolding outside plain
-  same-outside =
-      ap (λ (t : Bool).
-      noProcess (e .process) || leb stores (e .store)
-      || not t && (leb stores (e .by) || leb transactions (e .tx) || leb lists (e .participants) || leb updates (e .update)))
-      (sym take)
+effect-answer : (p : Parts) (e : Entry) → effectOf p e .answer ≡ refusal p e
+unfolding effectOf
+effect-answer p e = refl
 
-  same-refusal : refusalOf l plain ≡ refusalOf l e
-  unfolding firstRefusal plain
-  same-refusal =
-      take-checked l plain refl
-      ∙ ap (λ (b : Bool).
-      cond b outsideLimits
-      (cond (holdsAny (l .holders) (e .process) || heldBefore l (e .process) (e .store)) holdsOrHeld accepted)) same-outside
-      ∙ sym (take-checked l e take)
+-- a take is answered whatever the row
+take-answer : (p q : Parts) (e : Entry) → e .take ≡ true → p .holders ≡ q .holders → p .takers ≡ q .takers → refusal p e ≡ refusal q e
+unfolding refusal firstRefusal
+take-answer p q e take h k = rw (take, h, k)
 
-  same-after : afterEntry l plain ≡ afterEntry l e
-  unfolding afterEntry plain
-  same-after = sym (cond-true (e .take) _ _ take)
+-- an effect that was decided on those parts
+module _ (l : Log) (e : Entry) (at last : ℕ) (place : at ≡ cond (e .take) 0 (e .tx)) (remembers : last ≡ remembered l (l .groups)) (f : Effect) (is : f ≡ effectOf (partsAt l e at last) e) where
+  whole : Effect
+  whole = effectOf (partsOf l e) e
 
-  pub take-by-numbers : enter l (takeEntry (e .process) (e .store)) ≡ enter l e
-  unfolding enter plain
-  take-by-numbers =
-      ap₂ (λ (n : ℕ) (m : Log). cond (eqb n accepted) (answered m accepted) (answered l n)) same-refusal same-after
+  -- for a vote all parts are those of the entry
+  vote-same : e .take ≡ false → f ≡ whole
+  unfolding whole
+  vote-same vote =
+      is
+      ∙ ap₂ (λ (t m : ℕ). effectOf (partsAt l e t m) e) (place ∙ ap (λ (b : Bool). cond b 0 (e .tx)) vote) remembers
+
+  answer-same : f .answer ≡ whole .answer
+  unfolding whole
+  answer-same = by-kind (e .take) refl
+    where
+      by-kind : (t : Bool) → e .take ≡ t → f .answer ≡ effectOf (partsOf l e) e .answer
+      by-kind true take =
+          ap (λ (f : Effect). f .answer) is
+          ∙ effect-answer (partsAt l e at last) e
+          ∙ take-answer (partsAt l e at last) (partsOf l e) e take refl refl
+          ∙ sym (effect-answer (partsOf l e) e)
+      by-kind false vote = ap (λ (f : Effect). f .answer) (vote-same vote)
+
+  stored-same : stored l e f ≡ stored l e whole
+  unfolding whole
+  stored-same = by-kind (e .take) refl
+    where
+      by-kind : (t : Bool) → e .take ≡ t → stored l e f ≡ stored l e (effectOf (partsOf l e) e)
+      by-kind true take = sym (stored-holder l e f take) ∙ stored-holder l e (effectOf (partsOf l e) e) take
+      by-kind false vote = ap (λ (f : Effect). stored l e f) (vote-same vote)
+
+  pub enter-refused : (f .answer ≡ accepted → ⊥) → answered l (f .answer) ≡ enter l e
+  unfolding enter whole
+  enter-refused wrong = ap (λ (n : ℕ). answered l n) answer-same ∙ entered-refused l e whole (λ k. wrong (answer-same ∙ k))
+
+  pub enter-stored : f .answer ≡ accepted → {m : Log} → m ≡ stored l e f → answered m accepted ≡ enter l e
+  unfolding enter whole
+  enter-stored ok h = ap (λ (m : Log). answered m accepted) (h ∙ stored-same) ∙ entered-accepted l e whole (sym answer-same ∙ ok)
+
+-- refused 2 whatever the log
+pub enter-outside : (l : Log) (e : Entry) → outside e ≡ true → answered l outsideLimits ≡ enter l e
+unfolding enter
+enter-outside l e h =
+    let said = effect-answer (partsOf l e) e ∙ outside-refused l e h in
+    ap (λ (n : ℕ). answered l n) (sym said) ∙ entered-refused l e (effectOf (partsOf l e) e) (λ k. let z : _≡_ {A = ℕ} 2 0 = sym said ∙ k in omega arith)
+
+-- an accepted entry
+pub enter-accepted : (l : Log) (e : Entry) → refusalOf l e ≡ accepted → answered (stored l e (effectOf (partsOf l e) e)) accepted ≡ enter l e
+unfolding enter
+enter-accepted l e ok = entered-accepted l e (effectOf (partsOf l e) e) (effect-answer (partsOf l e) e ∙ ok)
+
+pub take-entered : (l : Log) (e : Entry) → e .take ≡ true → refusalOf l e ≡ accepted → answered (withHolder l (e .process) (e .store)) accepted ≡ enter l e
+take-entered l e take ok =
+    ap (λ (m : Log). answered m accepted) (stored-holder l e (effectOf (partsOf l e) e) take) ∙ enter-accepted l e ok

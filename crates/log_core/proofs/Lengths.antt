@@ -15,5 +15,5 @@ rows-length l vs g = simp length-map at (g .1 .1 .0 .1 .0 .1)
 pub holders-length : (l : Log) (vs : List Val) → Is (row log-type) l vs → length (l .holders) ≡ stores
 holders-length l vs g = simp length-map at (g .1 .1 .1 .0 .1 .0 .1)
 
-pub past-length : (l : Log) (vs : List Val) → Is (row log-type) l vs → length (l .past) ≡ stores
-past-length l vs g = simp length-map at (g .1 .1 .1 .1 .0 .1 .0 .1)
+pub takers-length : (l : Log) (vs : List Val) → Is (row log-type) l vs → length (l .takers) ≡ stores
+takers-length l vs g = simp length-map at (g .1 .1 .1 .1 .0 .1 .0 .1)

@@ -1,9 +1,8 @@
 pub mod Absent
+pub mod DecideLaws
 pub mod EmptyLaws
 pub mod EnterLaws
-pub mod GroupLaws
 pub mod Lengths
-pub mod RefusalLaws
 pub mod ReplayLaws
 pub mod ReplayLength
 pub mod ReplayedRows

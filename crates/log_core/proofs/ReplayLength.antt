@@ -1,4 +1,5 @@
--- A replay has no more rows than the log: each row of the log is of one group, so at most one group's part of the replay has it.
+-- A replay has no more rows than the log: each row of the log is of one group, so at most one
+-- group's part of the replay has it.
 use Prim.Native.Nat.{ℕ, suc, _+_, _≤_, _<_}
 use mathlib.Core.Path.{_≡_, refl, _∙_}
 use mathlib.Core.Bool.{Bool, true, false, _&&_, cond}

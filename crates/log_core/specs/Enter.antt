@@ -4,37 +4,34 @@ use mathlib.Core.Bool.{cond}
 use mathlib.Core.List.{List, [], _∷_}
 use lib.Dec.{eqb}
 use Rattle.log_entry.specs.declared.Entry.{Entry}
-use Rattle.log_entry.specs.Refusal.{accepted, firstRefusal}
+use Rattle.log_entry.specs.Refusal.{accepted}
+use Rattle.log_core.specs.declared.Effect.{Effect}
 use Rattle.log_core.specs.declared.Entered.{Entered}
 use Rattle.log_core.specs.declared.Log.{Log}
-use Rattle.log_votes.specs.declared.Row.{Row}
-use Rattle.log_core.specs.Group.{committing}
-use Rattle.log_votes.specs.Row.{keeping}
-use Rattle.log_core.specs.Log.{rowOf, withHolder, withRow}
-use Rattle.log_votes.specs.Outcome.{isCommitted, outcomeOfVotes}
-use Rattle.log_core.specs.Refusal.{checks}
-
--- "An accepted vote is kept for good", and if the outcome is commit with it, the transaction gets its group.
-unfoldable pub voted : Log → ℕ → Row → Log
-voted l tx r = cond (isCommitted (outcomeOfVotes (r .votes))) (committing l tx r) (withRow l tx r)
-
--- the log after an entry that is accepted
-unfoldable pub afterEntry : Log → Entry → Log
-afterEntry l e =
-    cond (e .take)
-    (withHolder l (e .process) (e .store))
-    (voted l (e .tx) (keeping (rowOf l (e .tx)) e))
-
--- the answer to an entry
-unfoldable pub refusalOf : Log → Entry → ℕ
-refusalOf l e = firstRefusal (checks l e)
+use Rattle.log_core.specs.Decide.{effectOf, partsOf}
+use Rattle.log_core.specs.Group.{runningSet}
+use Rattle.log_core.specs.Log.{withGroup, withHolder, withRow}
 
 abbrev pub answered : Log → ℕ → Entered
 answered l n = record { log = l; answer = n }
 
--- the log after the entry, and the answer: a refused entry leaves the log as it was
+-- the log with the effect of an accepted entry stored: a new holder, or a row and the group that it
+-- begins
+unfoldable pub stored : Log → Entry → Effect → Log
+stored l e f =
+    cond (e .take)
+    (withHolder l (e .process) (e .store))
+    (cond (f .begins)
+    (withGroup (withRow l (e .tx) (f .row)) (f .row .group) (runningSet (l .rows)))
+    (withRow l (e .tx) (f .row)))
+
+-- a refused entry leaves the log as it was
+unfoldable pub entered : Log → Entry → Effect → Entered
+entered l e f = answered (cond (eqb (f .answer) accepted) (stored l e f) l) (f .answer)
+
+-- the log after an entry, and the answer
 unfoldable pub enter : Log → Entry → Entered
-enter l e = cond (eqb (refusalOf l e) accepted) (answered (afterEntry l e) accepted) (answered l (refusalOf l e))
+enter l e = entered l e (effectOf (partsOf l e) e)
 
 -- the log fed a list of entries, refused ones skipped
 unfoldable pub feed : Log → List Entry → Log

@@ -1,3 +1,4 @@
+pub mod Decide
 pub mod Enter
 pub mod Group
 pub mod Log

@@ -18,7 +18,7 @@ unfoldable pub emptyLog : Log
 emptyLog = record {
   rows = replicate transactions emptyRow;
   holders = replicate stores 0;
-  past = replicate stores 0;
+  takers = replicate stores 0;
   groups = 0;
   remembered = replicate transactions 0;
 }
@@ -40,7 +40,7 @@ holderOf l store = getD (l .holders) store 0
 
 -- the process took the store before; the present holder did too
 abbrev pub heldBefore : Log → ℕ → ℕ → Bool
-heldBefore l process store = has (getD (l .past) store 0) process
+heldBefore l process store = has (getD (l .takers) store 0) process
 
 -- a transaction's outcome
 abbrev pub outcomeOf : Log → ℕ → Outcome
@@ -52,14 +52,14 @@ involvementOf l tx store = involvementOfVotes store (rowOf l tx .votes)
 
 abbrev pub withRow : Log → ℕ → Row → Log
 withRow l tx r =
-    record { rows = set (l .rows) tx r; holders = l .holders; past = l .past; groups = l .groups; remembered = l .remembered }
+    record { rows = set (l .rows) tx r; holders = l .holders; takers = l .takers; groups = l .groups; remembered = l .remembered }
 
 -- "An accepted take makes the process the store's holder."
 abbrev pub withHolder : Log → ℕ → ℕ → Log
 withHolder l process store = record {
   rows = l .rows;
   holders = set (l .holders) store process;
-  past = set (l .past) store (with (getD (l .past) store 0) process);
+  takers = set (l .takers) store (with (getD (l .takers) store 0) process);
   groups = l .groups;
   remembered = l .remembered;
 }
@@ -67,4 +67,4 @@ withHolder l process store = record {
 -- the log with one more group, which remembers the transactions of the set
 abbrev pub withGroup : Log → ℕ → ℕ → Log
 withGroup l g running =
-    record { rows = l .rows; holders = l .holders; past = l .past; groups = g; remembered = set (l .remembered) (g - 1) running }
+    record { rows = l .rows; holders = l .holders; takers = l .takers; groups = g; remembered = set (l .remembered) (g - 1) running }

@@ -1,5 +1,6 @@
--- "Replay of a store: by group, then tx, the (tx, update) of each committed tx with a kept commit vote of that store. Update 0 is replayed
--- too." A transaction has a group exactly if it is committed (`group-iff-committed` of log_laws).
+-- "Replay of a store: by group, then tx, the (tx, update) of each committed tx with a kept commit
+-- vote of that store. Update 0 is replayed too." A transaction has a group exactly if it is
+-- committed (`group-iff-committed` of log_laws).
 use Prim.Native.Nat.{ℕ, suc}
 use mathlib.Core.Bool.{cond}
 use mathlib.Core.List.{List, [], _∷_, _++_}

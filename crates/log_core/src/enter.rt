@@ -1,77 +1,36 @@
 // Entries taken into the log.
 ghost use mathlib.Core.Path.{_≡_};
-ghost use mathlib.Core.Bool.{false};
-ghost use Prim.Native.Nat.{_<_};
-ghost use Rattle.log_entry.specs.Entry.{takeEntry, voteEntry};
+ghost use mathlib.Core.Bool.{cond, false, true};
+ghost use Prim.Native.Nat.{_<_, _≤_};
+ghost use Rattle.log_entry.specs.Entry.{outside, takeEntry, voteEntry};
 ghost use Rattle.log_entry.specs.Limits.{transactions};
-ghost use Rattle.log_core.specs.Enter.{enter, voted};
+ghost use Rattle.log_core.specs.Enter.{enter, stored};
+use crate::Effect;
 use crate::Entered;
 use crate::Log;
+use crate::Parts;
+use crate::group::remembered_in;
 use log_entry::Entry;
 use log_entry::refusal::ACCEPTED;
 use log_entry::refusal::OUTSIDE_LIMITS;
-use log_votes::Row;
-use log_votes::Vote;
+
+// The place of the row that an entry is decided on: a vote's transaction, and for a take any.
+pub fn row_place(e: Entry) -> usize
+    ensures { λ r. ⌜ r ≡ cond (e .take) 0 (e .tx) ⌝ }
+{
+    if e.take {
+        return 0;
+    }
+    e.tx as usize
+}
 
 impl Log {
     // The process takes the store.
     pub fn take(mut self, process: u8, store: u8) -> Entered
         ensures { λ r. ⌜ r ≡ enter self (takeEntry process store) ⌝ }
     {
-        let answer = self.take_refusal(process, store);
-        if answer != ACCEPTED {
-            return Entered {
-                log: self,
-                answer: answer,
-            };
-        }
-        let s = store as usize;
-        self.holders[s] = process;
-        self.past[s] = self.past[s] | (1u16 << process);
-        Entered {
-            log: self,
-            answer: ACCEPTED,
-        }
-    }
-
-    // The transaction's row is `row` by now, one more vote in it.
-    pub(crate) fn voted(mut self, tx: u8, row: Row) -> Log
-        requires { ⌜ tx < transactions ⌝ }
-        ensures { λ r. ⌜ r ≡ voted self tx row ⌝ }
-    {
-        if row.outcome().is_commit() {
-            return self.committing(tx, row);
-        }
-        self.rows[tx as usize] = row;
-        self
-    }
-
-    pub(crate) fn vote_entry(mut self, e: Entry) -> Entered
-        requires { ⌜ e .take ≡ false ⌝ }
-        ensures { λ r. ⌜ r ≡ enter self e ⌝ }
-    {
-        if e.outside() {
-            return Entered {
-                log: self,
-                answer: OUTSIDE_LIMITS,
-            };
-        }
-        let by = e.by as usize;
-        let tx = e.tx as usize;
-        let mut row = self.rows[tx];
-        let answer = row.vote_refusal(self.holders[by], e);
-        if answer != ACCEPTED {
-            return Entered {
-                log: self,
-                answer: answer,
-            };
-        }
-        let store = e.store as usize;
-        row.votes[store] = Vote::of(e);
-        Entered {
-            log: self.voted(e.tx, row),
-            answer: ACCEPTED,
-        }
+        let e = Entry::take_of(process, store);
+        self.enter(e)
     }
 
     // The process, which holds `by`, votes for the store on the transaction.
@@ -88,16 +47,66 @@ impl Log {
         ensures { λ r. ⌜ r ≡ enter self (voteEntry process by store tx list commit update) ⌝ }
     {
         let e = Entry::vote_of(process, by, store, tx, list, commit, update);
-        self.vote_entry(e)
+        self.enter(e)
     }
 
-    // Any entry.
+    // The log with the effect of an accepted entry stored.
+    fn stored(mut self, e: Entry, f: Effect) -> Log
+        requires { ⌜ outside e ≡ false ⌝ }
+        requires { ⌜ (f .begins ≡ true → (0 < f .row .group) × (f .row .group ≤ transactions)) ⌝ }
+        ensures { λ r. ⌜ r ≡ stored self e f ⌝ }
+    {
+        let store = e.store as usize;
+        if e.take {
+            self.holders[store] = e.process;
+            self.takers[store] = self.takers[store] | (1u16 << e.process);
+            return self;
+        }
+        let tx = e.tx as usize;
+        let row = f.row;
+        if !f.begins {
+            self.rows[tx] = row;
+            return self;
+        }
+        let running = self.running_set();
+        let g = row.group;
+        self.rows[tx] = row;
+        self.groups = g;
+        let i = g - 1;
+        self.remembered[i as usize] = running;
+        self
+    }
+
+    // Any entry: decided on its parts, and the effect stored.
     pub fn enter(mut self, e: Entry) -> Entered
         ensures { λ r. ⌜ r ≡ enter self e ⌝ }
     {
-        if e.take {
-            return self.take(e.process, e.store);
+        if e.outside() {
+            return Entered {
+                log: self,
+                answer: OUTSIDE_LIMITS,
+            };
         }
-        self.vote_entry(e)
+        let store = e.store as usize;
+        let tx = row_place(e);
+        let remembered = self.remembered;
+        let p = Parts {
+            row: self.rows[tx],
+            holders: self.holders,
+            takers: self.takers[store],
+            groups: self.groups,
+            remembered: remembered_in(remembered, self.groups),
+        };
+        let f = p.decide(e);
+        if f.answer != ACCEPTED {
+            return Entered {
+                log: self,
+                answer: f.answer,
+            };
+        }
+        Entered {
+            log: self.stored(e, f),
+            answer: ACCEPTED,
+        }
     }
 }

@@ -1,16 +1,13 @@
 // The groups of committed transactions.
 ghost use mathlib.Core.Path.{_≡_};
 ghost use mathlib.Core.Bool.{cond};
-ghost use Prim.Native.Nat.{_-_, _<_};
+ghost use Prim.Native.Nat.{_-_};
 ghost use lib.Dec.{eqb};
 ghost use lib.ListN.{getD};
-ghost use Rattle.log_entry.specs.Limits.{transactions};
-ghost use Rattle.log_core.specs.Group.{committing, nextGroup, remembered, runningSet};
+ghost use Rattle.log_core.specs.Group.{nextGroup, runningSet};
 use crate::Log;
 use log_entry::limits::TRANSACTION_PLACES;
 use log_entry::limits::TRANSACTIONS;
-use log_entry::sets;
-use log_votes::Row;
 
 fn digit(b: bool) -> u32
     ensures { λ r. ⌜ r ≡ cond b 1 0 ⌝ }
@@ -32,6 +29,20 @@ pub fn remembered_in(all: [u32; TRANSACTION_PLACES], g: u8) -> u32
     all[i as usize]
 }
 
+// The group of a transaction that commits after `groups` groups: the last one, if it joins that,
+// and else a new one.
+pub fn next_group(groups: u8, joins: bool) -> u8
+    ensures { λ r. ⌜ r ≡ cond joins groups (nextGroup groups) ⌝ }
+{
+    if joins {
+        return groups;
+    }
+    if TRANSACTIONS <= groups {
+        return TRANSACTIONS;
+    }
+    groups + 1
+}
+
 impl Log {
     // The transactions that run, bit t for transaction t.
     pub fn running_set(self) -> u32
@@ -45,45 +56,5 @@ impl Log {
             t -= 1;
         }
         set
-    }
-
-    // What the group remembers.
-    pub fn remembered_by(self, g: u8) -> u32
-        ensures { λ r. ⌜ r ≡ remembered self g ⌝ }
-    {
-        let all = self.remembered;
-        remembered_in(all, g)
-    }
-
-    // The number of a new group.
-    pub fn next_group(self) -> u8
-        ensures { λ r. ⌜ r ≡ nextGroup self ⌝ }
-    {
-        if TRANSACTIONS <= self.groups {
-            return TRANSACTIONS;
-        }
-        self.groups + 1
-    }
-
-    // The log after the commit of a transaction whose row is `row` by then.
-    pub(crate) fn committing(mut self, tx: u8, mut row: Row) -> Log
-        requires { ⌜ tx < transactions ⌝ }
-        ensures { λ r. ⌜ r ≡ committing self tx row ⌝ }
-    {
-        let groups = self.groups;
-        let running = self.running_set();
-        let last = self.remembered_by(groups);
-        if sets::has32(last, tx) {
-            row.group = groups;
-            self.rows[tx as usize] = row;
-            return self;
-        }
-        let g = self.next_group();
-        row.group = g;
-        self.rows[tx as usize] = row;
-        self.groups = g;
-        let i = g - 1;
-        self.remembered[i as usize] = running;
-        self
     }
 }

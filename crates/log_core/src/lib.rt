@@ -5,6 +5,7 @@ use log_entry::limits::STORE_PLACES;
 use log_entry::limits::TRANSACTION_PLACES;
 use log_votes::Row;
 
+pub mod decide;
 pub mod enter;
 pub mod group;
 pub mod query;
@@ -17,11 +18,35 @@ pub struct Log {
     // By store, 0 if none.
     pub holders: [u8; STORE_PLACES],
     // By store: the processes that took it, bit p for process p.
-    pub past: [u16; STORE_PLACES],
+    pub takers: [u16; STORE_PLACES],
     // How many groups were begun.
     pub groups: u8,
-    // By group, the first is group 1: the transactions that ran just before its first commit, bit t for transaction t.
+    // By group, the first is group 1: the transactions that ran just before its first commit, bit t
+    // for transaction t.
     pub remembered: [u32; TRANSACTION_PLACES],
+}
+
+// The parts of a log that an entry is decided on.
+pub struct Parts {
+    // Its transaction's.
+    pub row: Row,
+    // By store, 0 if none.
+    pub holders: [u8; STORE_PLACES],
+    // The processes that took its store.
+    pub takers: u16,
+    // How many groups were begun.
+    pub groups: u8,
+    // What the last group remembers.
+    pub remembered: u32,
+}
+
+// What an entry is answered, and what it changes.
+pub struct Effect {
+    pub answer: u8,
+    // The transaction's row after an accepted vote, with its group; else as it was.
+    pub row: Row,
+    // The vote begins a group.
+    pub begins: bool,
 }
 
 // The log after an entry, and the answer.
@@ -51,7 +76,7 @@ impl Log {
         Log {
             rows: [row; TRANSACTION_PLACES],
             holders: [0; STORE_PLACES],
-            past: [0; STORE_PLACES],
+            takers: [0; STORE_PLACES],
             groups: 0,
             remembered: [0; TRANSACTION_PLACES],
         }

@@ -1,4 +1,5 @@
--- Sets of small numbers, kept as the bits of a number: a list of stores, the past holders of a store, the transactions that a group remembers.
+-- Sets of small numbers, kept as the bits of a number: a list of stores, the past holders of a
+-- store, the transactions that a group remembers.
 use Prim.Native.Nat.{ℕ, _/_, _%_, _^_}
 use mathlib.Core.Bool.{Bool}
 use lib.Bits.{bitAnd, bitOr}

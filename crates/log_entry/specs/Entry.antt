@@ -1,4 +1,5 @@
--- Document 01, "Plain log": entries are `take` (process, store) and `vote` (process, by, store, tx, list, say, update).
+-- Document 01, "Plain log": entries are `take` (process, store) and `vote` (process, by, store, tx,
+-- list, say, update).
 use Prim.Native.Nat.{ℕ}
 use mathlib.Core.Bool.{Bool, Bool·beq, true, false, _&&_, _||_, not, cond}
 use lib.Dec.{eqb, leb, ltb}
@@ -26,7 +27,8 @@ outside e =
     || leb stores (e .store)
     || not (e .take) && (leb stores (e .by) || leb transactions (e .tx) || leb lists (e .participants) || leb updates (e .update))
 
--- 7, of a vote: its list lacks `store` or `by`; it says commit on behalf; it says abort with an update other than 0
+-- 7, of a vote: its list lacks `store` or `by`; it says commit on behalf; it says abort with an
+-- update other than 0
 unfoldable pub illFormed : Entry → Bool
 illFormed e =
     not (has (e .participants) (e .store))

@@ -1,5 +1,6 @@
--- Document 01, "Numbers in use": the limits of what an entry names. `src/limits.rt` has the same numbers for the code.
-use Prim.Native.Nat.{ℕ, _^_}
+-- Document 01, "Numbers in use": the limits of what an entry names. `src/limits.rt` has the same
+-- numbers for the code.
+use Prim.Native.Nat.{ℕ, _*_, _^_}
 
 -- stores are 0 to 7
 abbrev pub stores : ℕ
@@ -17,6 +18,9 @@ processes = 15
 abbrev pub lists : ℕ
 lists = 2 ^ 8
 
--- an update is 32 bits
+-- an update is 32 bits, four bytes
+abbrev pub updateBytes : ℕ
+updateBytes = 4
+
 abbrev pub updates : ℕ
-updates = 2 ^ 32
+updates = 2 ^ (8 * updateBytes)

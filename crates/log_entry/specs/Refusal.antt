@@ -1,4 +1,5 @@
--- Document 01, "Who can cause which refusal": the numbers, and the order in which conditions are tried.
+-- Document 01, "Who can cause which refusal": the numbers, and the order in which conditions are
+-- tried.
 use Prim.Native.Nat.{ℕ}
 use mathlib.Core.Bool.{Bool, cond}
 use mathlib.Core.List.{List, [], _∷_}
@@ -7,7 +8,8 @@ use mathlib.Core.List.{List, [], _∷_}
 abbrev pub accepted : ℕ
 accepted = 0
 
--- 1: a line that does not read as a step of this program; of a host, a wrong kind or say, or a byte that should be 0
+-- 1: a line that does not read as a step of this program; of a host, a wrong kind or say, or a byte
+-- that should be 0
 abbrev pub unreadable : ℕ
 unreadable = 1
 
@@ -15,7 +17,8 @@ unreadable = 1
 abbrev pub outsideLimits : ℕ
 outsideLimits = 2
 
--- 3: the acting party, the one in `to`, `proc` or `id`, or the receiver of the delivered message is down
+-- 3: the acting party, the one in `to`, `proc` or `id`, or the receiver of the delivered message is
+-- down
 abbrev pub partyDown : ℕ
 partyDown = 3
 
@@ -27,7 +30,8 @@ notSentYet = 4
 abbrev pub notMet : ℕ
 notMet = 5
 
--- 6: fewer message numbers left than the step sends, a full queue for a new entry, or line 1,001; of a host, a buffer too short
+-- 6: fewer message numbers left than the step sends, a full queue for a new entry, or line 1,001;
+-- of a host, a buffer too short
 abbrev pub noPlace : ℕ
 noPlace = 6
 
@@ -39,7 +43,8 @@ illFormedVote = 7
 abbrev pub notHolder : ℕ
 notHolder = 8
 
--- 9: a commit vote with list L is kept, and this is a commit with another list or an abort whose list is not within L
+-- 9: a commit vote with list L is kept, and this is a commit with another list or an abort whose
+-- list is not within L
 abbrev pub otherList : ℕ
 otherList = 9
 
@@ -59,7 +64,8 @@ pub record Check : Type 0 where
 abbrev pub check : ℕ → Bool → Check
 check n b = record { number = n; applies = b }
 
--- "The lowest number that applies is given": the conditions stand in the order in which they are tried, and the first that holds decides; 0 if none does
+-- "The lowest number that applies is given": the conditions stand in the order in which they are
+-- tried, and the first that holds decides; 0 if none does
 unfoldable pub firstRefusal : List Check → ℕ
 firstRefusal [] = accepted
 firstRefusal (c ∷ cs) = cond (c .applies) (c .number) (firstRefusal cs)

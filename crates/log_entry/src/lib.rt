@@ -9,8 +9,8 @@ pub mod limits;
 pub mod refusal;
 pub mod sets;
 
-// Document 01's entries: `take` (process, store), or `vote` (process, by, store, tx, list, say, update).
-// What a take does not use is 0.
+// Document 01's entries: `take` (process, store), or `vote` (process, by, store, tx, list, say,
+// update). What a take does not use is 0.
 pub struct Entry {
     // A take, and else a vote.
     pub take: bool,

@@ -5,6 +5,9 @@ pub const TRANSACTIONS: u8 = 32;
 // The largest process; 0 means no holder.
 pub const PROCESSES: u8 = 15;
 
+// The bytes of an update.
+pub const UPDATE_BYTES: usize = 4;
+
 // Places in an array by store, and in one by transaction.
 pub const STORE_PLACES: usize = STORES as usize;
 

@@ -2,6 +2,7 @@
 use Prim.Native.Nat.{ℕ, _<_}
 use mathlib.Core.Path.{_≡_, refl, sym, ap, _∙_}
 use mathlib.Core.Bool.{Bool, true, false, not, _||_, cond}
+use mathlib.Core.List.{List, _∷_}
 use mathlib.Core.Logic.{_≢_}
 use lib.Dec.{eqb, leb, ltb}
 use lib.ListN.{getD}
@@ -10,10 +11,11 @@ use Rattle.log_entry.specs.declared.Entry.{Entry}
 use Rattle.log_entry.specs.Bits.{has}
 use Rattle.log_entry.specs.Entry.{illFormed, noProcess, outside}
 use Rattle.log_entry.specs.Limits.{lists, processes, stores, transactions, updates}
-use Rattle.log_entry.specs.Refusal.{accepted, firstRefusal}
+use Rattle.log_entry.specs.Refusal.{Check, accepted, check, firstRefusal, outsideLimits}
 use Rattle.log_core.specs.declared.Log.{Log}
 use Rattle.log_votes.specs.declared.Row.{Row}
-use Rattle.log_core.specs.Enter.{refusalOf}
+use Rattle.log_core.proofs.EnterLaws.{refusalOf}
+use Rattle.log_core.specs.Decide.{refusal}
 use Rattle.log_core.specs.Log.{heldBefore, holderOf, rowOf}
 use Rattle.log_votes.specs.Row.{noVote}
 use Rattle.log_votes.specs.Refusal.{anyClash, voteChecks}
@@ -37,28 +39,39 @@ pub record VoteOk (r : Row) (holder : ℕ) (e : Entry) : Type 0 where
   pub no-clash : anyClash e (r .votes) ≡ false
   pub free : getD (r .votes) (e .store) noVote .kept ≡ false
 
-pub take-refusal : (l : Log) (e : Entry) → e .take ≡ true → refusalOf l e ≡ firstRefusal (takeChecks l e)
-unfolding refusalOf
-take-refusal l e t =
-    ap (λ (b : Bool). firstRefusal (cond b (takeChecks l e) (voteChecks (rowOf l (e .tx)) (holderOf l (e .by)) e))) t
+-- the checks of a take and of a vote, in the order in which they are tried
+abbrev pub takeList : Log → Entry → List Check
+takeList l e = check outsideLimits (outside e) ∷ takeChecks (l .holders) (getD (l .takers) (e .store) 0) e
 
-pub vote-refusal : (l : Log) (e : Entry) → e .take ≡ false → refusalOf l e ≡ firstRefusal (voteChecks (rowOf l (e .tx)) (holderOf l (e .by)) e)
-unfolding refusalOf
-vote-refusal l e t =
-    ap (λ (b : Bool). firstRefusal (cond b (takeChecks l e) (voteChecks (rowOf l (e .tx)) (holderOf l (e .by)) e))) t
+abbrev pub voteList : Log → Entry → List Check
+voteList l e = check outsideLimits (outside e) ∷ voteChecks (rowOf l (e .tx)) (holderOf l (e .by)) e
+
+by-kind : Log → Entry → Bool → ℕ
+by-kind l e t =
+    firstRefusal
+    (check outsideLimits (outside e)
+    ∷ cond t (takeChecks (l .holders) (getD (l .takers) (e .store) 0) e) (voteChecks (rowOf l (e .tx)) (holderOf l (e .by)) e))
+
+pub take-refusal : (l : Log) (e : Entry) → e .take ≡ true → refusalOf l e ≡ firstRefusal (takeList l e)
+unfolding refusal by-kind
+take-refusal l e t = ap (by-kind l e) t
+
+pub vote-refusal : (l : Log) (e : Entry) → e .take ≡ false → refusalOf l e ≡ firstRefusal (voteList l e)
+unfolding refusal by-kind
+vote-refusal l e t = ap (by-kind l e) t
 
 pub take-ok : (l : Log) (e : Entry) → e .take ≡ true → refusalOf l e ≡ accepted → TakeOk l e
 take-ok l e t h = record { is-take = t; in-limits = n .0; not-held = n .1 .0 }
   where
-    n : None (conditions (takeChecks l e))
-    n = none-applies (takeChecks l e) refl (sym (take-refusal l e t) ∙ h)
+    n : None (conditions (takeList l e))
+    n = none-applies (takeList l e) refl (sym (take-refusal l e t) ∙ h)
 
 pub vote-ok : (l : Log) (e : Entry) → e .take ≡ false → refusalOf l e ≡ accepted → VoteOk (rowOf l (e .tx)) (holderOf l (e .by)) e
 vote-ok l e t h =
     record { is-vote = t; in-limits = n .0; well-formed = n .1 .0; holds = n .1 .1 .0; no-clash = n .1 .1 .1 .0; free = n .1 .1 .1 .1 .0 }
   where
-    n : None (conditions (voteChecks (rowOf l (e .tx)) (holderOf l (e .by)) e))
-    n = none-applies (voteChecks (rowOf l (e .tx)) (holderOf l (e .by)) e) refl (sym (vote-refusal l e t) ∙ h)
+    n : None (conditions (voteList l e))
+    n = none-applies (voteList l e) refl (sym (vote-refusal l e t) ∙ h)
 
 -- the limits
 module _ (e : Entry) (h : outside e ≡ false) where

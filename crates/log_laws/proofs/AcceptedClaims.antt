@@ -9,20 +9,19 @@ use lib.Seq.{getD-set-same}
 use Rattle.log_entry.proofs.InsideLaws.{inside-store, inside-vote}
 use Rattle.log_entry.specs.declared.Entry.{Entry}
 use Rattle.log_entry.specs.Refusal.{accepted}
-use Rattle.log_core.proofs.EnterLaws.{take-entered}
-use Rattle.log_core.proofs.RefusalLaws.{accepted-inside}
+use Rattle.log_core.proofs.EnterLaws.{accepted-inside, answer-is, refusalOf, take-entered}
 use Rattle.log_core.specs.declared.Entered.{Entered}
 use Rattle.log_core.specs.declared.Log.{Log}
 use Rattle.log_votes.specs.declared.Row.{Row}
 use Rattle.log_votes.specs.declared.Vote.{Vote}
-use Rattle.log_core.specs.Enter.{enter, refusalOf}
+use Rattle.log_core.specs.Enter.{enter}
 use Rattle.log_core.specs.Log.{holderOf, rowOf, voteAt}
 use Rattle.log_votes.specs.Row.{inGroup, keeping, noRow, noVote, voteOfEntry}
 use Rattle.log_laws.specs.Holders.{AcceptedTakeHolds}
 use Rattle.log_laws.specs.Reached.{reached}
 use Rattle.log_laws.specs.Votes.{AcceptedVoteIsKept}
 use Rattle.log_laws.proofs.Replicated.{holders-length, rows-length, votes-length}
-use Rattle.log_laws.proofs.Steps.{answer-is, groupAfter, vote-entered, voted-rows}
+use Rattle.log_laws.proofs.Steps.{groupAfter, vote-entered, voted-rows}
 
 stands-there : (es : List Entry) (e : Entry) → e .take ≡ false → enter (reached es) e .answer ≡ accepted
     → voteAt (enter (reached es) e .log) (e .tx) (e .store) ≡ voteOfEntry e

@@ -6,25 +6,25 @@ use mathlib.Core.List.{List, [], _∷_, _++_}
 use mathlib.Core.Logic.{_↔_, _≢_}
 use native.Mathlib.Omega.{arith}
 use lib.Dec.{eqb}
+use borrow.Author.Tests.{eqb-true}
 use Rattle.log_entry.specs.declared.Entry.{Entry}
 use Rattle.log_entry.specs.Entry.{illFormed, outside}
 use Rattle.log_entry.specs.Refusal.{Check, accepted, check, firstRefusal, holdsOrHeld, illFormedVote, keptAlready, notHolder, otherList, outsideLimits}
-use Rattle.log_core.specs.declared.Entered.{Entered}
 use Rattle.log_core.specs.declared.Log.{Log}
-use Rattle.log_core.specs.Enter.{enter, refusalOf}
-use Rattle.log_core.specs.Log.{holderOf, rowOf}
-use Rattle.log_core.specs.Refusal.{takeChecks}
-use Rattle.log_votes.specs.Refusal.{voteChecks}
+use Rattle.log_core.specs.Decide.{effectOf}
+use Rattle.log_core.specs.Enter.{enter, entered}
+use Rattle.log_core.proofs.EnterLaws.{answer-is, refusalOf}
 use Rattle.log_laws.specs.Answers.{First, None, RefusedEntryChangesNothing, TakeAnswerExactly, VoteAnswerExactly, clash, held, holdsNot, kept}
-use Rattle.log_laws.proofs.Accepted.{take-refusal, vote-refusal}
+use Rattle.log_laws.proofs.Accepted.{take-refusal, takeList, vote-refusal, voteList}
 use Rattle.log_laws.proofs.Answers.{conditions, fresh, given-exactly, no-refusal, none-applies}
-use Rattle.log_laws.proofs.Steps.{answer-is}
 use Rattle.log_laws.proofs.Tests.{by-test}
 
 pub refused-same : RefusedEntryChangesNothing
-unfolding enter
+unfolding enter entered effectOf
 refused-same l e =
-    by-test (λ (x : Entered). x .answer ≢ accepted → x .log ≡ l) (eqb (refusalOf l e) accepted) _ _ (λ h n. absurd (n refl)) (λ h n. refl)
+    by-test (λ (x : Log). refusalOf l e ≢ accepted → x ≡ l) (eqb (refusalOf l e) accepted) _ _
+    (λ h n. absurd (n (eqb-true (refusalOf l e) accepted h)))
+    (λ h n. refl)
 
 -- the entry's answer is by this list of checks
 module _ (l : Log) (e : Entry) (cs : List Check) (is : refusalOf l e ≡ firstRefusal cs) where
@@ -64,7 +64,7 @@ vote-exactly l e v = record {
     c10 = check keptAlready (kept l e)
 
     cs : List Check
-    cs = voteChecks (rowOf l (e .tx)) (holderOf l (e .by)) e
+    cs = voteList l e
 
     by : (before after : List Check) (n : ℕ) (t : Bool) → n ≢ accepted → fresh n (before ++ after) ≡ true → before ++ check n t ∷ after ≡ cs
         → (enter l e .answer ≡ n) ↔ First (conditions before) t
@@ -78,7 +78,7 @@ take-exactly l e v = record {
 }
   where
     cs : List Check
-    cs = takeChecks l e
+    cs = takeList l e
 
     is : refusalOf l e ≡ firstRefusal cs
     is = take-refusal l e v

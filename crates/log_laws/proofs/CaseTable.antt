@@ -2,14 +2,15 @@
 use mathlib.Core.Path.{refl}
 use Rattle.log_entry.specs.Entry.{illFormed, outside}
 use Rattle.log_entry.specs.Refusal.{firstRefusal}
-use Rattle.log_core.specs.Enter.{afterEntry, enter, feed, refusalOf, voted}
-use Rattle.log_core.specs.Group.{committing, remembered, runningSet}
+use Rattle.log_core.specs.Decide.{effectOf, refusal}
+use Rattle.log_core.specs.Enter.{enter, entered, feed, stored}
+use Rattle.log_core.specs.Group.{remembered}
 use Rattle.log_votes.specs.Involvement.{involvementOfVotes}
 use Rattle.log_core.specs.Log.{emptyLog}
 use Rattle.log_votes.specs.Outcome.{outcomeOfVotes, running}
-use Rattle.log_votes.specs.Scan.{allFrom, anyFrom}
+use Rattle.log_votes.specs.Scan.{allFrom, anyFrom, setOf}
 use Rattle.log_laws.specs.Cases.{CasesHold, answersTo, cases}
 
 pub table-holds : CasesHold
-unfolding cases answersTo feed enter refusalOf firstRefusal outside illFormed afterEntry voted committing remembered runningSet running outcomeOfVotes involvementOfVotes anyFrom allFrom emptyLog
+unfolding cases answersTo feed enter entered stored effectOf refusal firstRefusal outside illFormed remembered setOf running outcomeOfVotes involvementOfVotes anyFrom allFrom emptyLog
 table-holds = refl

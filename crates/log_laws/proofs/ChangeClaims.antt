@@ -12,12 +12,11 @@ use Rattle.log_votes.specs.declared.Row.{Row}
 use Rattle.log_votes.specs.declared.Vote.{Vote}
 use Rattle.log_votes.specs.Row.{keeping, noRow, noVote, voteOfStore}
 use Rattle.log_core.specs.declared.Log.{Log}
-use Rattle.log_core.specs.Enter.{voted}
 use Rattle.log_core.specs.Log.{rowOf}
 use Rattle.log_laws.specs.Changes.{OnlyHolderChanges, OnlyVoteChanges, TakeChangesOnly, VoteChangesOnly}
 use Rattle.log_laws.specs.Reached.{reached}
 use Rattle.log_laws.proofs.Places.{set-either}
-use Rattle.log_laws.proofs.Steps.{answer-cases, groupAfter, voted-holders, voted-past, voted-rows}
+use Rattle.log_laws.proofs.Steps.{answer-cases, groupAfter, voted, voted-holders, voted-takers, voted-rows}
 use Rattle.log_laws.proofs.Tests.{opposed}
 
 pub only-holder : TakeChangesOnly
@@ -29,7 +28,7 @@ only-holder es e t =
       groups = refl;
       remembered = refl;
       other-holders = λ s n. getD-set-other (l .holders) (e .store) s (e .process) 0 n;
-      other-past = λ p s n. ap (λ (x : ℕ). has x p) (getD-set-other (l .past) (e .store) s _ 0 n);
+      other-past = λ p s n. ap (λ (x : ℕ). has x p) (getD-set-other (l .takers) (e .store) s _ 0 n);
     })
     (λ ok k. absurd (opposed t k))
   where
@@ -60,11 +59,11 @@ pub only-vote : VoteChangesOnly
 unfolding r
 only-vote es e t =
     answer-cases (λ (m : Log). OnlyVoteChanges l m (e .tx) (e .store)) l e
-    (record { holders = refl; past = refl; other-stores = λ s n. refl; other-votes = λ t s n. refl; other-groups = λ t n. refl })
+    (record { holders = refl; takers = refl; other-stores = λ s n. refl; other-votes = λ t s n. refl; other-groups = λ t n. refl })
     (λ ok k. absurd (opposed k t))
     (λ ok k. record {
       holders = voted-holders l (e .tx) (keeping (rowOf l (e .tx)) e);
-      past = voted-past l (e .tx) (keeping (rowOf l (e .tx)) e);
+      takers = voted-takers l (e .tx) (keeping (rowOf l (e .tx)) e);
       other-stores = λ s n. other-vote l e s n;
       other-votes = λ t s n. ap (λ (x : Row). voteOfStore s x) (other-row l e t n);
       other-groups = λ t n. ap (λ (x : Row). x .group) (other-row l e t n);

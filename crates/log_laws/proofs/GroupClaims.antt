@@ -11,7 +11,8 @@ use Rattle.log_entry.specs.Bits.{has}
 use Rattle.log_entry.specs.Refusal.{accepted}
 use Rattle.log_core.specs.declared.Log.{Log}
 use Rattle.log_votes.specs.declared.Row.{Row}
-use Rattle.log_core.specs.Enter.{enter, feed, refusalOf}
+use Rattle.log_core.specs.Enter.{enter, feed}
+use Rattle.log_core.proofs.EnterLaws.{answer-is, refusalOf}
 use Rattle.log_core.specs.Group.{nextGroup, remembered}
 use Rattle.log_core.specs.Log.{emptyLog, holderOf, rowOf, outcomeOf}
 use Rattle.log_votes.specs.Row.{inGroup, keeping}
@@ -27,7 +28,7 @@ use Rattle.log_laws.proofs.Remembered.{remembered-stays, remembers-runn
 use Rattle.log_laws.proofs.RowSteps.{joins-some}
 use Rattle.log_laws.proofs.Rows.{committed}
 use Rattle.log_laws.proofs.Stays.{row-stays}
-use Rattle.log_laws.proofs.Steps.{answer-cases, answer-is, groupAfter, groupsAfter, joins, vote-entered, voted-groups}
+use Rattle.log_laws.proofs.Steps.{answer-cases, groupAfter, groupsAfter, joins, vote-entered, voted-groups}
 use Rattle.log_laws.proofs.Tests.{by-test, either, opposed}
 use Rattle.log_laws.proofs.WellFormed.{Wf}
 
@@ -65,7 +66,7 @@ module _ (l : Log) (e : Entry) (w : Wf l) (vote : e .take ≡ false) (ok : refus
 
   -- the number that a commit gives, to the row and to the count
   number : (other : ℕ) → committed after ≡ true
-      → cond (committed after) (cond (joins l (e .tx) after) (l .groups) (nextGroup l)) other ≡ cond (joins l (e .tx) after) (l .groups) (l .groups + 1)
+      → cond (committed after) (cond (joins l (e .tx) after) (l .groups) (nextGroup (l .groups))) other ≡ cond (joins l (e .tx) after) (l .groups) (l .groups + 1)
   number other h =
       by-test (λ (g : ℕ). g ≡ cond (joins l (e .tx) after) (l .groups) (l .groups + 1)) (committed after) _ _
       (λ c. ap (λ (n : ℕ). cond (joins l (e .tx) after) (l .groups) n) (next-is l e (w .sized) (w .row) (w .grouping) fine))

@@ -1,20 +1,20 @@
 -- What an entry does to the groups of a log and to what they remember.
 use Prim.Native.Nat.{ℕ, _+_, _-_, _≤_, _<_}
-use mathlib.Core.Path.{_≡_, refl, sym, ap, subst, subst₂, _∙_}
+use mathlib.Core.Path.{_≡_, refl, sym, ap, ap₂, subst, subst₂, _∙_}
 use mathlib.Core.Bool.{Bool, true, false, cond}
 use mathlib.Core.List.{List}
 use mathlib.Core.Logic.{_≢_, _⊎_, inl, inr, ⊎-elim}
 use native.Mathlib.Omega.{arith}
 use lib.Dec.{eqb}
-use lib.ListN.{getD, length}
+use lib.ListN.{getD, length, set}
 use lib.Seq.{getD-set-other, getD-set-same}
 use borrow.Author.Tests.{eqb-false, ne-eqb}
 use Rattle.log_entry.specs.declared.Entry.{Entry}
 use Rattle.log_entry.specs.Limits.{transactions}
 use Rattle.log_core.specs.declared.Log.{Log}
 use Rattle.log_votes.specs.declared.Row.{Row}
-use Rattle.log_core.specs.Enter.{enter, voted}
-use Rattle.log_core.specs.Group.{committing, nextGroup, remembered, runningSet}
+use Rattle.log_core.specs.Enter.{enter}
+use Rattle.log_core.specs.Group.{nextGroup, remembered, runningSet}
 use Rattle.log_core.specs.Log.{emptyLog, groupOf, holderOf, rowOf}
 use Rattle.log_votes.specs.Row.{inGroup, keeping, noRow}
 use Rattle.log_laws.proofs.Accepted.{VoteOk, tx-in}
@@ -23,7 +23,7 @@ use Rattle.log_laws.proofs.Grouping.{Grouping, group-room, grouping-set
 use Rattle.log_laws.proofs.RowSteps.{no-group}
 use Rattle.log_laws.proofs.Rows.{RowWf, committed}
 use Rattle.log_laws.proofs.Sizes.{Sized}
-use Rattle.log_laws.proofs.Steps.{enter-cases, groupAfter, groupsAfter, joins, voted-groups, voted-remembered, voted-rows}
+use Rattle.log_laws.proofs.Steps.{enter-cases, groupAfter, groupsAfter, joins, voted, voted-groups, voted-remembered, voted-rows}
 use Rattle.log_laws.proofs.Tests.{by-test}
 
 -- an accepted vote, and the row with it
@@ -42,7 +42,7 @@ module _ (l : Log) (e : Entry) (z : Sized l) (rows : (tx : ℕ) → RowWf (rowOf
   room = omega (arith, group-room (l .rows) (l .groups) (e .tx) w in-rows ungrouped, z .rows-size)
 
   -- so a new group has the next number
-  pub next-is : nextGroup l ≡ l .groups + 1
+  pub next-is : nextGroup (l .groups) ≡ l .groups + 1
   next-is = omega (arith, room)
 
   grown : ((groupsAfter l (e .tx) after ≡ l .groups) × (groupAfter l (e .tx) after ≤ l .groups))
@@ -50,8 +50,8 @@ module _ (l : Log) (e : Entry) (z : Sized l) (rows : (tx : ℕ) → RowWf (rowOf
   grown = split (committed after) (joins l (e .tx) after)
     where
       split : (c j : Bool)
-          → ((cond c (cond j (l .groups) (nextGroup l)) (l .groups) ≡ l .groups) × (cond c (cond j (l .groups) (nextGroup l)) (groupOf l (e .tx)) ≤ l .groups))
-          ⊎ ((cond c (cond j (l .groups) (nextGroup l)) (l .groups) ≡ l .groups + 1) × (cond c (cond j (l .groups) (nextGroup l)) (groupOf l (e .tx)) ≡ l .groups + 1))
+          → ((cond c (cond j (l .groups) (nextGroup (l .groups))) (l .groups) ≡ l .groups) × (cond c (cond j (l .groups) (nextGroup (l .groups))) (groupOf l (e .tx)) ≤ l .groups))
+          ⊎ ((cond c (cond j (l .groups) (nextGroup (l .groups))) (l .groups) ≡ l .groups + 1) × (cond c (cond j (l .groups) (nextGroup (l .groups))) (groupOf l (e .tx)) ≡ l .groups + 1))
       split true true = inl (refl, omega arith)
       split true false = inr (next-is, next-is)
       split false j = inl (refl, omega (arith, ungrouped))
@@ -87,7 +87,7 @@ module _ (l : Log) (e : Entry) (z : Sized l) (rows : (tx : ℕ) → RowWf (rowOf
           ap (λ (xs : List ℕ). getD xs (g - 1) 0) (voted-remembered l (e .tx) after)
           ∙ by-test (λ (xs : List ℕ). getD xs (g - 1) 0 ≡ getD (l .remembered) (g - 1) 0) (committed after) _ _
           (λ c. by-test (λ (xs : List ℕ). getD xs (g - 1) 0 ≡ getD (l .remembered) (g - 1) 0) (joins l (e .tx) after) _ _ (λ j. refl)
-          (λ j. getD-set-other (l .remembered) (nextGroup l - 1) (g - 1) (runningSet (l .rows)) 0 (omega (arith, next-is))))
+          (λ j. getD-set-other (l .remembered) (nextGroup (l .groups) - 1) (g - 1) (runningSet (l .rows)) 0 (omega (arith, next-is))))
           (λ c. refl)
 
       split : (b : Bool) → eqb g 0 ≡ b → cond b 0 (getD (voted l (e .tx) after .remembered) (g - 1) 0) ≡ cond b 0 (getD (l .remembered) (g - 1) 0)
@@ -97,14 +97,20 @@ module _ (l : Log) (e : Entry) (z : Sized l) (rows : (tx : ℕ) → RowWf (rowOf
   -- a group that is begun remembers the transactions that ran before
   pub remembered-begun : voted l (e .tx) after .groups ≡ l .groups + 1
       → remembered (voted l (e .tx) after) (voted l (e .tx) after .groups) ≡ runningSet (l .rows)
-  unfolding voted committing remembered
-  remembered-begun =
-      by-test (λ (x : Log). x .groups ≡ l .groups + 1 → cond (eqb (x .groups) 0) 0 (getD (x .remembered) (x .groups - 1) 0) ≡ runningSet (l .rows)) (committed after) _ _
-      (λ c. by-test (λ (x : Log). x .groups ≡ l .groups + 1 → cond (eqb (x .groups) 0) 0 (getD (x .remembered) (x .groups - 1) 0) ≡ runningSet (l .rows)) (joins l (e .tx) after) _ _
-      (λ j h. absurd (let y : ⊥ = omega arith in y))
-      (λ j h. rw (ne-eqb (nextGroup l) 0 (omega arith))
-      (getD-set-same (l .remembered) (nextGroup l - 1) (runningSet (l .rows)) 0 (omega (arith, next-is, room, z .remembered-size)))))
-      (λ c h. absurd (let y : ⊥ = omega arith in y))
+  unfolding remembered
+  remembered-begun h =
+      ap₂ (λ (xs : List ℕ) (g : ℕ). cond (eqb g 0) 0 (getD xs (g - 1) 0)) (voted-remembered l (e .tx) after) (voted-groups l (e .tx) after)
+      ∙ split (committed after) (joins l (e .tx) after) (sym (voted-groups l (e .tx) after) ∙ h)
+    where
+      split : (c j : Bool) → cond c (cond j (l .groups) (nextGroup (l .groups))) (l .groups) ≡ l .groups + 1
+          → let g = cond c (cond j (l .groups) (nextGroup (l .groups))) (l .groups) in
+          cond (eqb g 0) 0 (getD (cond c (cond j (l .remembered) (set (l .remembered) (nextGroup (l .groups) - 1) (runningSet (l .rows)))) (l .remembered)) (g - 1) 0)
+          ≡ runningSet (l .rows)
+      split true true h = absurd (let y : ⊥ = omega arith in y)
+      split true false h =
+          rw (ne-eqb (nextGroup (l .groups)) 0 (omega arith))
+          (getD-set-same (l .remembered) (nextGroup (l .groups) - 1) (runningSet (l .rows)) 0 (omega (arith, next-is, room, z .remembered-size)))
+      split false j h = absurd (let y : ⊥ = omega arith in y)
 
 pub grouping-enter : (l : Log) (e : Entry) → Sized l → ((tx : ℕ) → RowWf (rowOf l tx)) → Grouping (l .rows) (l .groups)
     → Grouping (enter l e .log .rows) (enter l e .log .groups)

@@ -21,7 +21,7 @@ use Rattle.log_laws.proofs.Places.{set-cases}
 use Rattle.log_laws.proofs.Scans.{none-here}
 use Rattle.log_laws.proofs.Sets.{with-has, with-keeps}
 use Rattle.log_laws.proofs.Sizes.{Sized}
-use Rattle.log_laws.proofs.Steps.{enter-cases, voted-holders, voted-past}
+use Rattle.log_laws.proofs.Steps.{enter-cases, voted-holders, voted-takers}
 use Rattle.log_laws.proofs.Tests.{below-or-not, neither-left, neither-right, opposed}
 
 pub record Holding (holders past : List ℕ) : Type 0 where
@@ -41,14 +41,14 @@ abbrev holdersTaken : Log → Entry → List ℕ
 holdersTaken l e = set (l .holders) (e .store) (e .process)
 
 abbrev pastTaken : Log → Entry → List ℕ
-pastTaken l e = set (l .past) (e .store) (with (getD (l .past) (e .store) 0) (e .process))
+pastTaken l e = set (l .takers) (e .store) (with (getD (l .takers) (e .store) 0) (e .process))
 
 module _ (l : Log) (e : Entry) (z : Sized l) (ok : TakeOk l e) where
   in-holders : e .store < length (l .holders)
   in-holders = subst (λ (n : ℕ). e .store < n) (sym (z .holders-size)) (store-in e (ok .in-limits))
 
-  in-past-list : e .store < length (l .past)
-  in-past-list = subst (λ (n : ℕ). e .store < n) (sym (z .past-size)) (store-in e (ok .in-limits))
+  in-past-list : e .store < length (l .takers)
+  in-past-list = subst (λ (n : ℕ). e .store < n) (sym (z .takers-size)) (store-in e (ok .in-limits))
 
   pub taker-holds-none : (s : ℕ) → getD (l .holders) s 0 ≡ e .process → ⊥
   taker-holds-none s =
@@ -60,11 +60,11 @@ module _ (l : Log) (e : Entry) (z : Sized l) (ok : TakeOk l e) where
   -- what was held before stays so
   pub past-kept : (p s : ℕ) → heldBefore l p s ≡ true → has (getD (pastTaken l e) s 0) p ≡ true
   past-kept p s h =
-      set-cases (λ (x : ℕ). has x p ≡ true) (l .past) (e .store) s _ 0 in-past-list
-      (λ k. with-keeps (getD (l .past) (e .store) 0) (e .process) p (subst (λ (n : ℕ). heldBefore l p n ≡ true) k h))
+      set-cases (λ (x : ℕ). has x p ≡ true) (l .takers) (e .store) s _ 0 in-past-list
+      (λ k. with-keeps (getD (l .takers) (e .store) 0) (e .process) p (subst (λ (n : ℕ). heldBefore l p n ≡ true) k h))
       (λ k. h)
 
-  pub holding-take : Holding (l .holders) (l .past) → Holding (holdersTaken l e) (pastTaken l e)
+  pub holding-take : Holding (l .holders) (l .takers) → Holding (holdersTaken l e) (pastTaken l e)
   holding-take w = record {
     one-store = λ p s t n.
         set-cases (λ (x : ℕ). x ≡ p → getD (holdersTaken l e) t 0 ≡ p → s ≡ t) (l .holders) (e .store) s (e .process) 0 in-holders
@@ -76,18 +76,18 @@ module _ (l : Log) (e : Entry) (z : Sized l) (ok : TakeOk l e) where
         (λ k′ q′. w .one-store p s t n q q′));
     in-past = λ p s n.
         set-cases (λ (x : ℕ). x ≡ p → has (getD (pastTaken l e) s 0) p ≡ true) (l .holders) (e .store) s (e .process) 0 in-holders
-        (λ k q. set-cases (λ (x : ℕ). has x p ≡ true) (l .past) (e .store) s _ 0 in-past-list
-        (λ k′. subst (λ (x : ℕ). has (with (getD (l .past) (e .store) 0) (e .process)) x ≡ true) q (with-has (getD (l .past) (e .store) 0) (e .process)))
+        (λ k q. set-cases (λ (x : ℕ). has x p ≡ true) (l .takers) (e .store) s _ 0 in-past-list
+        (λ k′. subst (λ (x : ℕ). has (with (getD (l .takers) (e .store) 0) (e .process)) x ≡ true) q (with-has (getD (l .takers) (e .store) 0) (e .process)))
         (λ k′. absurd (k′ k)))
         (λ k q. past-kept p s (w .in-past p s n q));
   }
 
-pub holding-enter : (l : Log) (e : Entry) → Sized l → Holding (l .holders) (l .past) → Holding (enter l e .log .holders) (enter l e .log .past)
+pub holding-enter : (l : Log) (e : Entry) → Sized l → Holding (l .holders) (l .takers) → Holding (enter l e .log .holders) (enter l e .log .takers)
 holding-enter l e z w =
-    enter-cases (λ (x : Log). Holding (x .holders) (x .past)) l e w (λ ok. holding-take l e z ok w)
-    (λ ok. subst₂ Holding (sym (voted-holders l (e .tx) (keeping (rowOf l (e .tx)) e))) (sym (voted-past l (e .tx) (keeping (rowOf l (e .tx)) e))) w)
+    enter-cases (λ (x : Log). Holding (x .holders) (x .takers)) l e w (λ ok. holding-take l e z ok w)
+    (λ ok. subst₂ Holding (sym (voted-holders l (e .tx) (keeping (rowOf l (e .tx)) e))) (sym (voted-takers l (e .tx) (keeping (rowOf l (e .tx)) e))) w)
 
-pub holding-empty : Holding (emptyLog .holders) (emptyLog .past)
+pub holding-empty : Holding (emptyLog .holders) (emptyLog .takers)
 unfolding emptyLog
 holding-empty = record { one-store = λ p s t n q q′. absurd (n (sym q ∙ no-holder s)); in-past = λ p s n q. absurd (n (sym q ∙ no-holder s)) }
   where
@@ -101,7 +101,7 @@ Lost p s l = (heldBefore l p s ≡ true) × (holderOf l s ≢ p)
 pub held-enter : (l : Log) (e : Entry) (p s : ℕ) → Sized l → heldBefore l p s ≡ true → heldBefore (enter l e .log) p s ≡ true
 held-enter l e p s z h =
     enter-cases (λ (x : Log). heldBefore x p s ≡ true) l e h (λ ok. past-kept l e z ok p s h)
-    (λ ok. subst (λ (past : List ℕ). has (getD past s 0) p ≡ true) (sym (voted-past l (e .tx) (keeping (rowOf l (e .tx)) e))) h)
+    (λ ok. subst (λ (past : List ℕ). has (getD past s 0) p ≡ true) (sym (voted-takers l (e .tx) (keeping (rowOf l (e .tx)) e))) h)
 
 pub lost-enter : (l : Log) (e : Entry) (p s : ℕ) → Sized l → Lost p s l → Lost p s (enter l e .log)
 lost-enter l e p s z h = (

@@ -30,8 +30,8 @@ votes-length es = Feed.wf-reached es .sized .votes-size
 pub holders-length : (es : List Entry) → length (reached es .holders) ≡ stores
 holders-length es = Feed.wf-reached es .sized .holders-size
 
-pub past-length : (es : List Entry) → length (reached es .past) ≡ stores
-past-length es = Feed.wf-reached es .sized .past-size
+pub takers-length : (es : List Entry) → length (reached es .takers) ≡ stores
+takers-length es = Feed.wf-reached es .sized .takers-size
 
 pub remembered-length : (es : List Entry) → length (reached es .remembered) ≡ transactions
 remembered-length es = Feed.wf-reached es .sized .remembered-size

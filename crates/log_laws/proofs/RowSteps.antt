@@ -28,7 +28,7 @@ pub joins-some : (l : Log) (tx : ℕ) (r : Row) → joins l tx r ≡ true → l 
 unfolding remembered
 joins-some l tx r j z = opposed (subst (λ (g : ℕ). has (cond (eqb g 0) 0 (getD (l .remembered) (l .groups - 1) 0)) tx ≡ true) z j) (empty-has tx)
 
-pub next-some : (l : Log) → nextGroup l ≢ 0
+pub next-some : (l : Log) → nextGroup (l .groups) ≢ 0
 next-some l = omega arith
 
 pub group-made : (l : Log) (tx : ℕ) (r : Row) → committed r ≡ true → groupAfter l tx r ≢ 0

@@ -11,14 +11,14 @@ use Rattle.log_core.specs.Enter.{enter}
 use Rattle.log_core.specs.Log.{emptyLog, rowOf}
 use Rattle.log_votes.specs.Row.{keeping, noRow, noVote, voteOfEntry}
 use Rattle.log_laws.proofs.Rows.{committed}
-use Rattle.log_laws.proofs.Steps.{enter-cases, joins, row-cases, voted-holders, voted-past, voted-remembered, voted-rows}
+use Rattle.log_laws.proofs.Steps.{enter-cases, joins, row-cases, voted-holders, voted-takers, voted-remembered, voted-rows}
 use Rattle.log_laws.proofs.Tests.{by-test}
 
 pub record Sized (l : Log) : Type 0 where
   pub rows-size : length (l .rows) ≡ transactions
   pub votes-size : (tx : ℕ) → tx < transactions → length (rowOf l tx .votes) ≡ stores
   pub holders-size : length (l .holders) ≡ stores
-  pub past-size : length (l .past) ≡ stores
+  pub takers-size : length (l .takers) ≡ stores
   pub remembered-size : length (l .remembered) ≡ transactions
 
 pub sized-empty : Sized emptyLog
@@ -27,7 +27,7 @@ sized-empty = record {
   rows-size = refl;
   votes-size = λ tx h. ap (λ (r : Row). length (r .votes)) (getD-replicate transactions tx (record { votes = replicate stores noVote; group = 0 }) noRow h);
   holders-size = refl;
-  past-size = refl;
+  takers-size = refl;
   remembered-size = refl;
 }
 
@@ -42,9 +42,9 @@ sized-enter l e w = record {
   holders-size =
       enter-cases (λ (x : Log). length (x .holders) ≡ stores) l e (w .holders-size) (λ ok. length-set (l .holders) (e .store) (e .process) ∙ w .holders-size)
       (λ ok. ap length (voted-holders l (e .tx) after) ∙ w .holders-size);
-  past-size =
-      enter-cases (λ (x : Log). length (x .past) ≡ stores) l e (w .past-size) (λ ok. length-set (l .past) (e .store) _ ∙ w .past-size)
-      (λ ok. ap length (voted-past l (e .tx) after) ∙ w .past-size);
+  takers-size =
+      enter-cases (λ (x : Log). length (x .takers) ≡ stores) l e (w .takers-size) (λ ok. length-set (l .takers) (e .store) _ ∙ w .takers-size)
+      (λ ok. ap length (voted-takers l (e .tx) after) ∙ w .takers-size);
   remembered-size =
       enter-cases (λ (x : Log). length (x .remembered) ≡ transactions) l e (w .remembered-size) (λ ok. w .remembered-size)
       (λ ok. ap length (voted-remembered l (e .tx) after)

@@ -10,6 +10,7 @@ use Rattle.log_votes.specs.declared.Outcome.{Outcome}
 use Rattle.log_votes.specs.declared.Outcome.the-variants.{Open, Commit, Abort}
 use Rattle.log_votes.specs.declared.Row.{Row}
 use Rattle.log_votes.specs.declared.Vote.{Vote}
+use Rattle.log_core.proofs.EnterLaws.{answer-is}
 use Rattle.log_core.specs.Enter.{enter, feed}
 use Rattle.log_core.specs.Log.{emptyLog, holderOf, rowOf, voteAt, outcomeOf}
 use Rattle.log_votes.specs.Outcome.{isAbort, isCommitted, outcomeOfVotes}
@@ -20,7 +21,7 @@ use Rattle.log_laws.proofs.Accepted.{vote-ok}
 use Rattle.log_laws.proofs.Feed.{feed-append, later, wf-reached}
 use Rattle.log_laws.proofs.Outcomes.{aborted-by, aborted-of}
 use Rattle.log_laws.proofs.Rows.{committed-refuses, kept-cases}
-use Rattle.log_laws.proofs.Steps.{answer-is, row-cases}
+use Rattle.log_laws.proofs.Steps.{row-cases}
 use Rattle.log_laws.proofs.Tests.{and-left, both, opposed}
 use Rattle.log_laws.proofs.WellFormed.{Wf, feed-keeps}
 

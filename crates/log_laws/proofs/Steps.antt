@@ -1,67 +1,44 @@
 -- An entry leaves the log as it was, or it is an accepted take or an accepted vote: what stands
 -- where after each.
 use Prim.Native.Nat.{ℕ, _-_}
-use mathlib.Core.Path.{_≡_, refl, sym, subst, _∙_}
-use mathlib.Core.Bool.{Bool, true, false, cond}
+use mathlib.Core.Path.{_≡_, ap, refl, sym, subst, _∙_}
+use mathlib.Core.Bool.{Bool, true, false, _&&_, not, cond}
 use mathlib.Core.List.{List}
 use lib.Dec.{eqb}
 use lib.ListN.{getD, set}
-use borrow.Author.Tests.{eq-eqb, eqb-true}
+use borrow.Author.Tests.{eqb-true}
 use Rattle.log_entry.specs.declared.Entry.{Entry}
 use Rattle.log_entry.specs.Bits.{has}
 use Rattle.log_entry.specs.Refusal.{accepted}
 use Rattle.log_core.specs.declared.Entered.{Entered}
 use Rattle.log_core.specs.declared.Log.{Log}
 use Rattle.log_votes.specs.declared.Row.{Row}
-use Rattle.log_core.specs.Enter.{afterEntry, enter, refusalOf, voted}
-use Rattle.log_core.specs.Group.{committing, nextGroup, remembered, runningSet}
-use Rattle.log_core.specs.Log.{holderOf, rowOf, withHolder}
+use Rattle.log_core.specs.Decide.{effectOf, partsOf}
+use Rattle.log_core.specs.Enter.{enter, entered, stored}
+use Rattle.log_core.specs.Group.{nextGroup, remembered, runningSet}
+use Rattle.log_core.specs.Log.{holderOf, rowOf, withGroup, withHolder, withRow}
+use Rattle.log_core.proofs.EnterLaws.{enter-accepted, refusalOf, stored-holder}
 use Rattle.log_votes.specs.Row.{inGroup, keeping, noRow}
 use Rattle.log_laws.proofs.Accepted.{TakeOk, VoteOk, take-ok, vote-ok}
 use Rattle.log_laws.proofs.Places.{set-either}
 use Rattle.log_laws.proofs.Rows.{committed}
-use Rattle.log_laws.proofs.Tests.{by-test, opposed}
+use Rattle.log_laws.proofs.Tests.{by-test}
 
-pub answer-is : (l : Log) (e : Entry) → enter l e .answer ≡ refusalOf l e
-unfolding enter
-answer-is l e =
-    by-test (λ (x : Entered). x .answer ≡ refusalOf l e) (eqb (refusalOf l e) accepted) _ _
-    (λ h. sym (eqb-true (refusalOf l e) accepted h))
-    (λ h. refl)
+-- what holds of both arms
+either-way : {A : Type 0} (f : Log → A) (b : Bool) (x y : Log) → f x ≡ f y → f (cond b x y) ≡ f y
+either-way f true x y h = h
+either-way f false x y h = refl
 
--- refused, an accepted take, an accepted vote
-pub answer-cases : (P : Log → Type 0) (l : Log) (e : Entry) → P l
-    → (refusalOf l e ≡ accepted → e .take ≡ true → P (withHolder l (e .process) (e .store)))
-    → (refusalOf l e ≡ accepted → e .take ≡ false → P (voted l (e .tx) (keeping (rowOf l (e .tx)) e)))
-    → P (enter l e .log)
-unfolding enter afterEntry
-answer-cases P l e old take vote =
-    by-test (λ (x : Entered). P (x .log)) (eqb (refusalOf l e) accepted) _ _
-    (λ h. let ok = eqb-true (refusalOf l e) accepted h in by-test P (e .take) _ _ (take ok) (vote ok))
-    (λ h. old)
+in-arms : {A : Type 0} (f : Log → A) (b : Bool) (x y : Log) → f (cond b x y) ≡ cond b (f x) (f y)
+in-arms f true x y = refl
+in-arms f false x y = refl
 
-pub enter-cases : (P : Log → Type 0) (l : Log) (e : Entry) → P l → (TakeOk l e → P (withHolder l (e .process) (e .store)))
-    → (VoteOk (rowOf l (e .tx)) (holderOf l (e .by)) e → P (voted l (e .tx) (keeping (rowOf l (e .tx)) e))) → P (enter l e .log)
-enter-cases P l e old take vote = answer-cases P l e old (λ ok t. take (take-ok l e t ok)) (λ ok t. vote (vote-ok l e t ok))
-
--- the log after an accepted vote
-pub vote-entered : (l : Log) (e : Entry) → refusalOf l e ≡ accepted → e .take ≡ false → enter l e .log ≡ voted l (e .tx) (keeping (rowOf l (e .tx)) e)
-unfolding enter afterEntry
-vote-entered l e ok t =
-    by-test (λ (x : Entered). x .log ≡ voted l (e .tx) (keeping (rowOf l (e .tx)) e)) (eqb (refusalOf l e) accepted) _ _
-    (λ h. by-test (λ (x : Log). x ≡ voted l (e .tx) (keeping (rowOf l (e .tx)) e)) (e .take) _ _ (λ k. absurd (opposed k t)) (λ k. refl))
-    (λ h. absurd (opposed (eq-eqb (refusalOf l e) accepted ok) h))
-
-choice : {A B : Type 0} (f : A → B) (c j : Bool) (x y z : A)
-    → f (cond c (cond j x y) z) ≡ cond c (cond j (f x) (f y)) (f z)
-choice f true true x y z = refl
-choice f true false x y z = refl
-choice f false j x y z = refl
-
-no-choice : {A : Type 0} (c j : Bool) (x : A) → cond c (cond j x x) x ≡ x
-no-choice true true x = refl
-no-choice true false x = refl
-no-choice false j x = refl
+-- c: it commits; j: it joins the last of g groups, and else begins group n
+begun : {A : Type 0} (f : ℕ → A) (old : A) (c j : Bool) (g n r : ℕ)
+    → cond (c && not j) (f (cond c (cond j g n) r)) old ≡ cond c (cond j old (f n)) old
+begun f old true true g n r = refl
+begun f old true false g n r = refl
+begun f old false j g n r = refl
 
 -- the parts of a log after a vote: r is the row with the vote
 module _ (l : Log) (tx : ℕ) (r : Row) where
@@ -70,33 +47,68 @@ module _ (l : Log) (tx : ℕ) (r : Row) where
   joins = has (remembered l (l .groups)) tx
 
   abbrev pub groupAfter : ℕ
-  groupAfter = cond (committed r) (cond joins (l .groups) (nextGroup l)) (r .group)
+  groupAfter = cond (committed r) (cond joins (l .groups) (nextGroup (l .groups))) (r .group)
 
   abbrev pub groupsAfter : ℕ
-  groupsAfter = cond (committed r) (cond joins (l .groups) (nextGroup l)) (l .groups)
+  groupsAfter = cond (committed r) (cond joins (l .groups) (nextGroup (l .groups))) (l .groups)
 
-  pub voted-rows : voted l tx r .rows ≡ set (l .rows) tx (inGroup r groupAfter)
-  unfolding voted committing
-  voted-rows =
-      choice (λ (x : Log). x .rows) (committed r) joins _ _ _
-      ∙ sym (choice (λ (g : ℕ). set (l .rows) tx (inGroup r g)) (committed r) joins (l .groups) (nextGroup l) (r .group))
+  unfoldable pub voted : Log
+  voted =
+      cond (committed r && not joins)
+      (withGroup (withRow l tx (inGroup r groupAfter)) groupAfter (runningSet (l .rows)))
+      (withRow l tx (inGroup r groupAfter))
 
-  pub voted-groups : voted l tx r .groups ≡ groupsAfter
-  unfolding voted committing
-  voted-groups = choice (λ (x : Log). x .groups) (committed r) joins _ _ _
+  pub voted-rows : voted .rows ≡ set (l .rows) tx (inGroup r groupAfter)
+  unfolding voted
+  voted-rows = either-way (λ (x : Log). x .rows) (committed r && not joins) _ _ refl
 
-  pub voted-remembered : voted l tx r .remembered
-      ≡ cond (committed r) (cond joins (l .remembered) (set (l .remembered) (nextGroup l - 1) (runningSet (l .rows)))) (l .remembered)
-  unfolding voted committing
-  voted-remembered = choice (λ (x : Log). x .remembered) (committed r) joins _ _ _
+  pub voted-groups : voted .groups ≡ groupsAfter
+  unfolding voted
+  voted-groups =
+      in-arms (λ (x : Log). x .groups) (committed r && not joins) _ _
+      ∙ begun (λ (g : ℕ). g) (l .groups) (committed r) joins (l .groups) (nextGroup (l .groups)) (r .group)
 
-  pub voted-holders : voted l tx r .holders ≡ l .holders
-  unfolding voted committing
-  voted-holders = choice (λ (x : Log). x .holders) (committed r) joins _ _ _ ∙ no-choice (committed r) joins (l .holders)
+  pub voted-remembered : voted .remembered
+      ≡ cond (committed r) (cond joins (l .remembered) (set (l .remembered) (nextGroup (l .groups) - 1) (runningSet (l .rows)))) (l .remembered)
+  unfolding voted
+  voted-remembered =
+      in-arms (λ (x : Log). x .remembered) (committed r && not joins) _ _
+      ∙ begun (λ (g : ℕ). set (l .remembered) (g - 1) (runningSet (l .rows))) (l .remembered) (committed r) joins (l .groups) (nextGroup (l .groups)) (r .group)
 
-  pub voted-past : voted l tx r .past ≡ l .past
-  unfolding voted committing
-  voted-past = choice (λ (x : Log). x .past) (committed r) joins _ _ _ ∙ no-choice (committed r) joins (l .past)
+  pub voted-holders : voted .holders ≡ l .holders
+  unfolding voted
+  voted-holders = either-way (λ (x : Log). x .holders) (committed r && not joins) _ _ refl
+
+  pub voted-takers : voted .takers ≡ l .takers
+  unfolding voted
+  voted-takers = either-way (λ (x : Log). x .takers) (committed r && not joins) _ _ refl
+
+-- the effect of an accepted vote
+vote-stored : (l : Log) (e : Entry) → e .take ≡ false → refusalOf l e ≡ accepted
+    → stored l e (effectOf (partsOf l e) e) ≡ voted l (e .tx) (keeping (rowOf l (e .tx)) e)
+unfolding stored effectOf voted
+vote-stored l e t ok = rw (ok, t)
+
+-- refused, an accepted take, an accepted vote
+pub answer-cases : (P : Log → Type 0) (l : Log) (e : Entry) → P l
+    → (refusalOf l e ≡ accepted → e .take ≡ true → P (withHolder l (e .process) (e .store)))
+    → (refusalOf l e ≡ accepted → e .take ≡ false → P (voted l (e .tx) (keeping (rowOf l (e .tx)) e)))
+    → P (enter l e .log)
+unfolding enter entered effectOf
+answer-cases P l e old take vote =
+    by-test P (eqb (refusalOf l e) accepted) _ _ (λ h. by-kind (e .take) refl (eqb-true (refusalOf l e) accepted h)) (λ h. old)
+  where
+    by-kind : (t : Bool) → e .take ≡ t → refusalOf l e ≡ accepted → P (stored l e (effectOf (partsOf l e) e))
+    by-kind true k ok = subst P (stored-holder l e (effectOf (partsOf l e) e) k) (take ok k)
+    by-kind false k ok = subst P (sym (vote-stored l e k ok)) (vote ok k)
+
+pub enter-cases : (P : Log → Type 0) (l : Log) (e : Entry) → P l → (TakeOk l e → P (withHolder l (e .process) (e .store)))
+    → (VoteOk (rowOf l (e .tx)) (holderOf l (e .by)) e → P (voted l (e .tx) (keeping (rowOf l (e .tx)) e))) → P (enter l e .log)
+enter-cases P l e old take vote = answer-cases P l e old (λ ok t. take (take-ok l e t ok)) (λ ok t. vote (vote-ok l e t ok))
+
+-- the log after an accepted vote
+pub vote-entered : (l : Log) (e : Entry) → refusalOf l e ≡ accepted → e .take ≡ false → enter l e .log ≡ voted l (e .tx) (keeping (rowOf l (e .tx)) e)
+vote-entered l e ok t = ap (λ (x : Entered). x .log) (sym (enter-accepted l e ok)) ∙ vote-stored l e t ok
 
 -- a row of the log after an entry: as it was, or with the entry's vote
 pub row-cases : (P : Row → Type 0) (l : Log) (e : Entry) (tx : ℕ) → P (rowOf l tx)

@@ -11,10 +11,10 @@ use Rattle.log_entry.specs.Bits.{has}
 use Rattle.log_entry.specs.Limits.{stores}
 use Rattle.log_entry.specs.Refusal.{accepted}
 use Rattle.log_votes.specs.Row.{keeping}
-use Rattle.log_core.proofs.EnterLaws.{take-entered}
+use Rattle.log_core.proofs.EnterLaws.{answer-is, refusalOf, take-entered}
 use Rattle.log_core.specs.declared.Entered.{Entered}
 use Rattle.log_core.specs.declared.Log.{Log}
-use Rattle.log_core.specs.Enter.{enter, feed, refusalOf}
+use Rattle.log_core.specs.Enter.{enter, feed}
 use Rattle.log_core.specs.Log.{emptyLog, heldBefore, rowOf}
 use Rattle.log_laws.specs.Conditions.{HeldBeforeExactly, TookFrom}
 use Rattle.log_laws.specs.Reached.{reached}
@@ -24,7 +24,7 @@ use Rattle.log_laws.proofs.Feed.{feed-append, wf-reached}
 use Rattle.log_laws.proofs.Holding.{held-enter}
 use Rattle.log_laws.proofs.Places.{set-either}
 use Rattle.log_laws.proofs.Sets.{empty-has, in-with, with-has}
-use Rattle.log_laws.proofs.Steps.{answer-cases, answer-is, voted-past}
+use Rattle.log_laws.proofs.Steps.{answer-cases, voted-takers}
 use Rattle.log_laws.proofs.Tests.{opposed}
 use Rattle.log_laws.proofs.WellFormed.{Wf, feed-keeps, wf-enter}
 
@@ -41,13 +41,13 @@ by-entry : (l : Log) (e : Entry) (p s : ℕ) → heldBefore (enter l e .log) p s
 by-entry l e p s =
     answer-cases (λ (x : Log). heldBefore x p s ≡ true → (heldBefore l p s ≡ true) ⊎ Takes l e p s) l e
     (λ h. inl h)
-    (λ ok t. set-either (λ (x : ℕ). has x p ≡ true → (heldBefore l p s ≡ true) ⊎ Takes l e p s) (l .past) (e .store) s _ 0
+    (λ ok t. set-either (λ (x : ℕ). has x p ≡ true → (heldBefore l p s ≡ true) ⊎ Takes l e p s) (l .takers) (e .store) s _ 0
     (λ k h. ⊎-elim
     (λ (i : p ≡ e .process). inr (record { is-take = t; taker = sym i; taken = sym k; is-accepted = answer-is l e ∙ ok }))
     (λ i. inl (subst (λ (n : ℕ). heldBefore l p n ≡ true) (sym k) i))
-    (in-with (getD (l .past) (e .store) 0) (e .process) p h))
+    (in-with (getD (l .takers) (e .store) 0) (e .process) p h))
     (λ h. inl h))
-    (λ ok t h. inl (subst (λ (past : List ℕ). has (getD past s 0) p ≡ true) (voted-past l (e .tx) (keeping (rowOf l (e .tx)) e)) h))
+    (λ ok t h. inl (subst (λ (past : List ℕ). has (getD past s 0) p ≡ true) (voted-takers l (e .tx) (keeping (rowOf l (e .tx)) e)) h))
 
 took-or-before : (l : Log) (es : List Entry) (p s : ℕ) → heldBefore (feed l es) p s ≡ true → (heldBefore l p s ≡ true) ⊎ TookFrom l es p s
 unfolding feed
@@ -84,14 +84,14 @@ took-or-before l (e ∷ es) p s h = go (took-or-before (enter l e .log) es p s h
 took-held : (l : Log) (e : Entry) → Wf l → e .take ≡ true → enter l e .answer ≡ accepted → heldBefore (enter l e .log) (e .process) (e .store) ≡ true
 took-held l e w t a =
     subst (λ (x : Entered). heldBefore (x .log) (e .process) (e .store) ≡ true) (take-entered l e t is)
-    (subst (λ (x : ℕ). has x (e .process) ≡ true) (sym (getD-set-same (l .past) (e .store) _ 0 in-past))
-    (with-has (getD (l .past) (e .store) 0) (e .process)))
+    (subst (λ (x : ℕ). has x (e .process) ≡ true) (sym (getD-set-same (l .takers) (e .store) _ 0 in-past))
+    (with-has (getD (l .takers) (e .store) 0) (e .process)))
   where
     is : refusalOf l e ≡ accepted
     is = sym (answer-is l e) ∙ a
 
-    in-past : e .store < length (l .past)
-    in-past = subst (λ (n : ℕ). e .store < n) (sym (w .sized .past-size)) (store-in e (take-ok l e t is .in-limits))
+    in-past : e .store < length (l .takers)
+    in-past = subst (λ (n : ℕ). e .store < n) (sym (w .sized .takers-size)) (store-in e (take-ok l e t is .in-limits))
 
 held-since : (es : List Entry) (p s : ℕ) → TookFrom emptyLog es p s → heldBefore (reached es) p s ≡ true
 unfolding feed

@@ -15,7 +15,7 @@ use Rattle.log_laws.proofs.Sizes.{Sized, sized-empty, sized-enter}
 pub record Wf (l : Log) : Type 0 where
   pub sized : Sized l
   pub row : (tx : ℕ) → RowWf (rowOf l tx)
-  pub holding : Holding (l .holders) (l .past)
+  pub holding : Holding (l .holders) (l .takers)
   pub grouping : Grouping (l .rows) (l .groups)
 
 pub wf-empty : Wf emptyLog

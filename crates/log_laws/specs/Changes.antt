@@ -24,7 +24,7 @@ TakeChangesOnly = (es : List Entry) (e : Entry) → e .take ≡ true → OnlyHol
 -- a vote: the store's vote on that tx, and its group; `Groups` says what becomes of the groups
 pub record OnlyVoteChanges (l m : Log) (tx store : ℕ) : Type 0 where
   pub holders : m .holders ≡ l .holders
-  pub past : m .past ≡ l .past
+  pub takers : m .takers ≡ l .takers
   pub other-stores : (s : ℕ) → s ≢ store → voteAt m tx s ≡ voteAt l tx s
   pub other-votes : (t s : ℕ) → t ≢ tx → voteAt m t s ≡ voteAt l t s
   pub other-groups : (t : ℕ) → t ≢ tx → groupOf m t ≡ groupOf l t

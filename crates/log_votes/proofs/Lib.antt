@@ -5,3 +5,4 @@ pub mod InvolvementCases
 pub mod Lengths
 pub mod RefusalLaws
 pub mod ScanLaws
+pub mod SetLaws

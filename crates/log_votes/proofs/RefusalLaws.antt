@@ -4,8 +4,8 @@ use mathlib.Core.Bool.{Bool, cond, false, false≢true, true, true≢false}
 use mathlib.Core.Path.{_≡_, refl}
 use borrow.Author.Tests.{eq-eqb, ne-eqb}
 use Rattle.log_entry.specs.declared.Entry.{Entry}
-use Rattle.log_entry.specs.Entry.{illFormed, outside}
-use Rattle.log_entry.specs.Refusal.{accepted, firstRefusal, illFormedVote, keptAlready, notHolder, otherList, outsideLimits}
+use Rattle.log_entry.specs.Entry.{illFormed}
+use Rattle.log_entry.specs.Refusal.{accepted, firstRefusal, illFormedVote, keptAlready, notHolder, otherList}
 use Rattle.log_votes.specs.declared.Row.{Row}
 use Rattle.log_votes.specs.Refusal.{anyClash, voteRefusal}
 use Rattle.log_votes.specs.Row.{voteOfStore}
@@ -19,30 +19,25 @@ cond-false true x y h = absurd (true≢false h)
 cond-false false x y h = refl
 
 module _ (r : Row) (holder : ℕ) (e : Entry) where
-  pub vote-outside : outside e ≡ true → outsideLimits ≡ voteRefusal r holder e
+  pub vote-ill-formed : illFormed e ≡ true → illFormedVote ≡ voteRefusal r holder e
   unfolding voteRefusal firstRefusal
-  vote-outside h = rw h
+  vote-ill-formed h = rw h
 
-  module _ (inside : outside e ≡ false) where
-    pub vote-ill-formed : illFormed e ≡ true → illFormedVote ≡ voteRefusal r holder e
+  module _ (formed : illFormed e ≡ false) where
+    pub vote-not-holder : (holder ≡ e .process → ⊥) → notHolder ≡ voteRefusal r holder e
     unfolding voteRefusal firstRefusal
-    vote-ill-formed h = rw (inside, h)
+    vote-not-holder h = rw (formed, ne-eqb holder (e .process) h)
 
-    module _ (formed : illFormed e ≡ false) where
-      pub vote-not-holder : (holder ≡ e .process → ⊥) → notHolder ≡ voteRefusal r holder e
+    module _ (holds : holder ≡ e .process) where
+      pub vote-other-list : anyClash e (r .votes) ≡ true → otherList ≡ voteRefusal r holder e
       unfolding voteRefusal firstRefusal
-      vote-not-holder h = rw (inside, formed, ne-eqb holder (e .process) h)
+      vote-other-list h = rw (formed, eq-eqb holder (e .process) holds, h)
 
-      module _ (holds : holder ≡ e .process) where
-        pub vote-other-list : anyClash e (r .votes) ≡ true → otherList ≡ voteRefusal r holder e
+      module _ (agrees : anyClash e (r .votes) ≡ false) where
+        pub vote-kept-already : voteOfStore (e .store) r .kept ≡ true → keptAlready ≡ voteRefusal r holder e
         unfolding voteRefusal firstRefusal
-        vote-other-list h = rw (inside, formed, eq-eqb holder (e .process) holds, h)
+        vote-kept-already h = rw (formed, eq-eqb holder (e .process) holds, agrees, h)
 
-        module _ (agrees : anyClash e (r .votes) ≡ false) where
-          pub vote-kept-already : voteOfStore (e .store) r .kept ≡ true → keptAlready ≡ voteRefusal r holder e
-          unfolding voteRefusal firstRefusal
-          vote-kept-already h = rw (inside, formed, eq-eqb holder (e .process) holds, agrees, h)
-
-          pub vote-accepted : voteOfStore (e .store) r .kept ≡ false → accepted ≡ voteRefusal r holder e
-          unfolding voteRefusal firstRefusal
-          vote-accepted h = rw (inside, formed, eq-eqb holder (e .process) holds, agrees, h)
+        pub vote-accepted : voteOfStore (e .store) r .kept ≡ false → accepted ≡ voteRefusal r holder e
+        unfolding voteRefusal firstRefusal
+        vote-accepted h = rw (formed, eq-eqb holder (e .process) holds, agrees, h)

@@ -1,4 +1,5 @@
--- "Involvement: yes if the store is in the list of any kept vote of that tx; else no if a commit vote is kept; else unknown."
+-- "Involvement: yes if the store is in the list of any kept vote of that tx; else no if a commit
+-- vote is kept; else unknown."
 use Prim.Native.Nat.{ℕ}
 use mathlib.Core.Bool.{Bool, _&&_, cond}
 use mathlib.Core.List.{List}

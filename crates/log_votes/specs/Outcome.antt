@@ -1,4 +1,5 @@
--- "Outcome: abort if an abort vote is kept; else commit if all stores of a kept vote's list have kept commit votes; else open."
+-- "Outcome: abort if an abort vote is kept; else commit if all stores of a kept vote's list have
+-- kept commit votes; else open."
 use Prim.Native.Nat.{ℕ}
 use mathlib.Core.Bool.{Bool, true, false, _&&_, _||_, not, cond}
 use mathlib.Core.List.{List}
@@ -7,7 +8,7 @@ use Rattle.log_votes.specs.declared.Row.{Row}
 use Rattle.log_votes.specs.declared.Vote.{Vote}
 use Rattle.log_votes.specs.declared.Outcome.{Outcome}
 use Rattle.log_votes.specs.declared.Outcome.the-variants.{Open, Commit, Abort}
-use Rattle.log_votes.specs.Scan.{anyFrom, allFrom}
+use Rattle.log_votes.specs.Scan.{anyFrom, allFrom, setOf}
 
 abbrev pub isKept : ℕ → Vote → Bool
 isKept s v = v .kept
@@ -17,6 +18,14 @@ isCommit s v = v .kept && v .commit
 
 abbrev pub isAbort : ℕ → Vote → Bool
 isAbort s v = v .kept && not (v .commit)
+
+-- the stores with kept votes, bit s for store s
+abbrev pub keptSet : List Vote → ℕ
+keptSet votes = setOf (λ (v : Vote). v .kept) votes
+
+-- the stores with kept commit votes, bit s for store s
+abbrev pub commitSet : List Vote → ℕ
+commitSet votes = setOf (λ (v : Vote). v .kept && v .commit) votes
 
 -- store s is not in the list, or its vote v is a kept commit vote
 abbrev pub meets : ℕ → ℕ → Vote → Bool

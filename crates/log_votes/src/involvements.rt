@@ -1,26 +1,11 @@
 // Whether a store is involved in the transaction.
 ghost use mathlib.Core.Path.{_≡_};
-ghost use Rattle.log_votes.specs.Involvement.{anyCommit, anyListing, involvementNumber, involvementOfVotes};
+ghost use Rattle.log_votes.specs.Involvement.{anyListing, involvementNumber, involvementOfVotes};
 use crate::Involvement;
 use crate::Row;
 use log_entry::limits::STORE_PLACES;
 
 impl Row {
-    // Whether a commit vote is kept.
-    pub fn any_commit(self) -> bool
-        ensures { λ r. ⌜ r ≡ anyCommit (self .votes) ⌝ }
-    {
-        let mut i: usize = 0;
-        while i < STORE_PLACES {
-            let v = self.votes[i];
-            if v.is_commit() {
-                return true;
-            }
-            i += 1;
-        }
-        false
-    }
-
     // Whether a kept vote lists the store.
     pub fn any_listing(self, store: u8) -> bool
         ensures { λ r. ⌜ r ≡ anyListing store (self .votes) ⌝ }
@@ -42,7 +27,7 @@ impl Row {
         if self.any_listing(store) {
             return Involvement::Yes;
         }
-        if self.any_commit() {
+        if self.commit_set() != 0 {
             return Involvement::No;
         }
         Involvement::Unknown

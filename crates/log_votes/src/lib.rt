@@ -1,7 +1,9 @@
 // One transaction: its row of votes, by store, and what they come to.
 ghost use mathlib.Core.Path.{_≡_};
-ghost use Rattle.log_votes.specs.Row.{emptyRow};
+ghost use Rattle.log_votes.specs.Row.{emptyRow, keeping, noVote, voteOfStore};
+use log_entry::Entry;
 use log_entry::limits::STORE_PLACES;
+use log_entry::limits::STORES;
 
 mod involvements;
 mod outcomes;
@@ -37,22 +39,52 @@ pub enum Involvement {
     Unknown,
 }
 
-impl Row {
-    // The row without votes.
-    pub fn none() -> Row
-        ensures { λ r. ⌜ r ≡ emptyRow ⌝ }
+impl Vote {
+    // The place of a vote that is not kept.
+    pub fn none() -> Vote
+        ensures { λ r. ⌜ r ≡ noVote ⌝ }
     {
-        let vote = Vote {
+        Vote {
             kept: false,
             commit: false,
             participants: 0,
             process: 0,
             by: 0,
             update: 0,
-        };
+        }
+    }
+}
+
+impl Row {
+    // The row without votes.
+    pub fn none() -> Row
+        ensures { λ r. ⌜ r ≡ emptyRow ⌝ }
+    {
+        let vote = Vote::none();
         Row {
             votes: [vote; STORE_PLACES],
             group: 0,
         }
+    }
+
+    // The store's vote.
+    pub fn vote_of(self, store: u8) -> Vote
+        ensures { λ r. ⌜ r ≡ voteOfStore store self ⌝ }
+    {
+        if STORES <= store {
+            return Vote::none();
+        }
+        self.votes[store as usize]
+    }
+
+    // The row with the vote kept.
+    pub fn keeping(mut self, e: Entry) -> Row
+        ensures { λ r. ⌜ r ≡ keeping self e ⌝ }
+    {
+        if STORES <= e.store {
+            return self;
+        }
+        self.votes[e.store as usize] = Vote::of(e);
+        self
     }
 }

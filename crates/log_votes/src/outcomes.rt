@@ -1,63 +1,59 @@
 // What a transaction's votes come to.
 ghost use mathlib.Core.Path.{_≡_};
-ghost use Prim.Native.Nat.{ℕ, _<_};
-ghost use Rattle.log_entry.specs.Bits.{within};
-ghost use Rattle.log_entry.specs.Limits.{lists};
-ghost use Rattle.log_votes.specs.Outcome.{anyAbort, anyCovered, covered, isCommitted, isKept, isOpen, outcomeNumber, outcomeOfVotes, running};
+ghost use mathlib.Core.Bool.{cond};
+ghost use Rattle.log_votes.specs.Outcome.{anyCovered, commitSet, isCommitted, isKept, isOpen, keptSet, outcomeNumber, outcomeOfVotes, running};
 ghost use Rattle.log_votes.specs.Scan.{anyFrom};
 use crate::Outcome;
 use crate::Row;
 use log_entry::limits::STORE_PLACES;
 
+fn digit(b: bool) -> u8
+    ensures { λ r. ⌜ r ≡ cond b 1 0 ⌝ }
+{
+    if b { 1 } else { 0 }
+}
+
 impl Row {
-    // Whether any vote is kept.
-    pub fn any_kept(self) -> bool
-        ensures { λ r. ⌜ r ≡ anyFrom isKept 0 (self .votes) ⌝ }
-    {
-        let mut i: usize = 0;
-        while i < STORE_PLACES {
-            let v = self.votes[i];
-            if v.kept {
-                return true;
-            }
-            i += 1;
-        }
-        false
-    }
-
-    // Whether an abort vote is kept.
-    pub fn any_abort(self) -> bool
-        ensures { λ r. ⌜ r ≡ anyAbort (self .votes) ⌝ }
-    {
-        let mut i: usize = 0;
-        while i < STORE_PLACES {
-            let v = self.votes[i];
-            if v.is_abort() {
-                return true;
-            }
-            i += 1;
-        }
-        false
-    }
-
-    // The stores whose commit votes are kept, bit s for store s: the lists within it are covered.
-    pub fn commit_set(self) -> u8
-        ensures { λ r. ⌜ ((list : ℕ) → list < lists → within list r ≡ covered list (self .votes)) ⌝ }
+    // The stores with kept votes, bit s for store s.
+    pub fn kept_set(self) -> u8
+        ensures { λ r. ⌜ r ≡ keptSet (self .votes) ⌝ }
     {
         let mut set: u8 = 0;
         let mut i: usize = STORE_PLACES;
         while 0 < i {
             let v = self.votes[i - 1];
-            set = v.commit_digit() + 2 * set;
+            set = digit(v.kept) + 2 * set;
             i -= 1;
         }
         set
     }
 
-    pub fn any_covered(self) -> bool
+    // The stores with kept commit votes, bit s for store s.
+    pub fn commit_set(self) -> u8
+        ensures { λ r. ⌜ r ≡ commitSet (self .votes) ⌝ }
+    {
+        let mut set: u8 = 0;
+        let mut i: usize = STORE_PLACES;
+        while 0 < i {
+            let v = self.votes[i - 1];
+            set = digit(v.is_commit()) + 2 * set;
+            i -= 1;
+        }
+        set
+    }
+
+    // Whether any vote is kept.
+    pub fn any_kept(self) -> bool
+        ensures { λ r. ⌜ r ≡ anyFrom isKept 0 (self .votes) ⌝ }
+    {
+        self.kept_set() != 0
+    }
+
+    // Whether all stores of a kept vote's list are among those with kept commit votes.
+    fn any_covered(self, commits: u8) -> bool
+        requires { ⌜ commits ≡ commitSet (self .votes) ⌝ }
         ensures { λ r. ⌜ r ≡ anyCovered (self .votes) ⌝ }
     {
-        let commits = self.commit_set();
         let mut i: usize = 0;
         while i < STORE_PLACES {
             let v = self.votes[i];
@@ -69,13 +65,15 @@ impl Row {
         false
     }
 
+    // A kept vote that is no commit vote is an abort vote.
     pub fn outcome(self) -> Outcome
         ensures { λ r. ⌜ r ≡ outcomeOfVotes (self .votes) ⌝ }
     {
-        if self.any_abort() {
+        let commits = self.commit_set();
+        if self.kept_set() != commits {
             return Outcome::Abort;
         }
-        if self.any_covered() {
+        if self.any_covered(commits) {
             return Outcome::Commit;
         }
         Outcome::Open

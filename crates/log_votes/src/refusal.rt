@@ -22,13 +22,11 @@ impl Row {
         false
     }
 
-    // The answer to a vote on the transaction, where `holder` holds the store in `by`.
+    // The answer to a vote within its limits on the transaction, where `holder` holds the store in
+    // `by`.
     pub fn vote_refusal(self, holder: u8, e: Entry) -> u8
         ensures { λ r. ⌜ r ≡ voteRefusal self holder e ⌝ }
     {
-        if e.outside() {
-            return refusal::OUTSIDE_LIMITS;
-        }
         if e.ill_formed() {
             return refusal::ILL_FORMED_VOTE;
         }
@@ -38,9 +36,7 @@ impl Row {
         if self.any_clash(e) {
             return refusal::OTHER_LIST;
         }
-        let store = e.store as usize;
-        let v = self.votes[store];
-        if v.kept {
+        if self.vote_of(e.store).kept {
             return refusal::KEPT_ALREADY;
         }
         refusal::ACCEPTED

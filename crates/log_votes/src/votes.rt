@@ -1,6 +1,6 @@
 // Tests of one kept vote.
 ghost use mathlib.Core.Path.{_≡_};
-ghost use mathlib.Core.Bool.{_&&_, cond, not};
+ghost use mathlib.Core.Bool.{_&&_};
 ghost use Rattle.log_entry.specs.Bits.{has, within};
 ghost use Rattle.log_votes.specs.Row.{voteOfEntry};
 ghost use Rattle.log_votes.specs.Refusal.{clashes};
@@ -32,15 +32,6 @@ impl Vote {
         false
     }
 
-    pub fn is_abort(self) -> bool
-        ensures { λ r. ⌜ r ≡ (self .kept && not (self .commit)) ⌝ }
-    {
-        if self.kept {
-            return !self.commit;
-        }
-        false
-    }
-
     // Whether the vote is kept and lists the store.
     pub fn lists(self, store: u8) -> bool
         ensures { λ r. ⌜ r ≡ (self .kept && has (self .participants) store) ⌝ }
@@ -49,16 +40,6 @@ impl Vote {
             return sets::has8(self.participants, store);
         }
         false
-    }
-
-    // 1 for a kept commit vote.
-    pub fn commit_digit(self) -> u8
-        ensures { λ r. ⌜ r ≡ cond (self .kept && self .commit) 1 0 ⌝ }
-    {
-        if self.is_commit() {
-            return 1;
-        }
-        0
     }
 
     // Whether the vote is kept and its list within the set.

@@ -3,12 +3,13 @@ use mathlib.Core.List.{List}
 use lib.Count.{ones, onesIn}
 use Rattle.log_entry.specs.Entry.{illFormed, outside, sameEntry}
 use Rattle.log_entry.specs.Refusal.{firstRefusal}
-use Rattle.log_core.specs.Enter.{afterEntry, enter, feed, refusalOf, voted}
-use Rattle.log_core.specs.Group.{committing, remembered, runningSet}
+use Rattle.log_core.specs.Decide.{effectOf, refusal}
+use Rattle.log_core.specs.Enter.{enter, entered, feed, stored}
+use Rattle.log_core.specs.Group.{remembered}
 use Rattle.log_core.specs.Log.{emptyLog}
 use Rattle.log_votes.specs.Outcome.{outcomeOfVotes, running}
 use Rattle.log_core.specs.Replay.{groupReplay, replayFrom, replayOf}
-use Rattle.log_votes.specs.Scan.{allFrom, anyFrom}
+use Rattle.log_votes.specs.Scan.{allFrom, anyFrom, setOf}
 use Rattle.model_steps.specs.declared.Step.{Step}
 use Rattle.model_steps.specs.Limits.{outsideStep}
 use Rattle.model_protocol.specs.declared.World.{World}
@@ -24,5 +25,5 @@ use Rattle.model_protocol.specs.World.{allUp, freshCoordinator, freshPro
 
 -- the world after a list of steps from the fresh world
 unfoldable pub computed : List Step → World
-unfolding run stepOf placesOf stepRefusal stepChecks changeOf messageFor heldFrom deliveryChange firstRefusal outsideStep outside illFormed sendToAll copyOf promiseHeard learning joining batchToPropose firstBatch batchOf isIn sameEntry leftBy queueOf without freshWorld freshCoordinator freshProcess allUp noBatch noReplay emptyLog feed enter refusalOf afterEntry voted committing remembered runningSet outcomeOfVotes running replayOf replayFrom groupReplay anyFrom allFrom ones onesIn
+unfolding run stepOf placesOf stepRefusal stepChecks changeOf messageFor heldFrom deliveryChange firstRefusal outsideStep outside illFormed sendToAll copyOf promiseHeard learning joining batchToPropose firstBatch batchOf isIn sameEntry leftBy queueOf without freshWorld freshCoordinator freshProcess allUp noBatch noReplay emptyLog feed enter entered stored effectOf refusal remembered setOf outcomeOfVotes running replayOf replayFrom groupReplay anyFrom allFrom ones onesIn
 computed steps = run freshWorld steps

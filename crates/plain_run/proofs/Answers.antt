@@ -3,17 +3,19 @@
 use Prim.Native.Nat.{ℕ, _≤_}
 use native.Mathlib.Omega.{arith}
 use mathlib.Core.Bool.{Bool, true, false, _||_, not, cond}
-use mathlib.Core.List.{List}
+use mathlib.Core.List.{List, _∷_}
 use mathlib.Core.Option.{Option}
 use mathlib.Core.Path.{_≡_, refl, sym, _∙_, ap}
 use lib.Dec.{eqb, ltb}
 use lib.ListN.{getD, length}
-use borrow.Author.Tests.{eqb-true, le-ltb, lt-ltb}
+use borrow.Author.Tests.{le-ltb, lt-ltb}
 use Rattle.log_entry.specs.declared.Entry.{Entry}
 use Rattle.log_entry.specs.Entry.{illFormed, outside}
-use Rattle.log_entry.specs.Refusal.{accepted, firstRefusal, holdsOrHeld, illFormedVote, keptAlready, notHolder, otherList, outsideLimits, unreadable}
+use Rattle.log_entry.specs.Refusal.{accepted, check, firstRefusal, holdsOrHeld, illFormedVote, keptAlready, notHolder, otherList, outsideLimits, unreadable}
 use Rattle.log_core.specs.declared.Log.{Log}
-use Rattle.log_core.specs.Enter.{afterEntry, answered, enter, refusalOf}
+use Rattle.log_core.specs.Decide.{refusal}
+use Rattle.log_core.specs.Enter.{answered, enter}
+use Rattle.log_core.proofs.EnterLaws.{answer-is, enter-outside as entered-outside, refusalOf}
 use Rattle.log_core.specs.Log.{heldBefore, holderOf, rowOf}
 use Rattle.log_core.specs.Refusal.{holdsAny, takeChecks}
 use Rattle.log_votes.specs.Row.{noVote}
@@ -28,18 +30,8 @@ use Rattle.text_lines.specs.Lines.{maxLineBytes}
 use Rattle.plain_run.specs.Claims.{Answered2IsOutside, LongLineIsUnreadable, OtherLineIsUnreadable, TextIsEntered, TextOutsideLimits}
 use Rattle.plain_run.specs.Plain.{enterLine, entering}
 
--- an entry outside its limits is refused 2
-outside-refused : (l : Log) (e : Entry) → outside e ≡ true → refusalOf l e ≡ outsideLimits
-unfolding refusalOf firstRefusal
-outside-refused l e h = go (e .take)
-  where
-    go : (t : Bool) → firstRefusal (cond t (takeChecks l e) (voteChecks (rowOf l (e .tx)) (holderOf l (e .by)) e)) ≡ outsideLimits
-    go true = rw h
-    go false = rw h
-
 enter-outside : (l : Log) (e : Entry) → outside e ≡ true → enter l e ≡ answered l outsideLimits
-unfolding enter
-enter-outside l e h = rw (outside-refused l e h)
+enter-outside l e h = sym (entered-outside l e h)
 
 short-line : (l : Log) (s : List ℕ) → length s ≤ maxLineBytes → enterLine l s ≡ entering l (reading s)
 unfolding enterLine
@@ -83,10 +75,15 @@ vote-not-2 false false false true h = omega arith
 vote-not-2 false false false false h = omega arith
 
 refused-2 : (l : Log) (e : Entry) → refusalOf l e ≡ outsideLimits → outside e ≡ true
-unfolding refusalOf firstRefusal
+unfolding refusal firstRefusal
 refused-2 l e h = go (outside e) refl
   where
-    never : outside e ≡ false → (t : Bool) → firstRefusal (cond t (takeChecks l e) (voteChecks (rowOf l (e .tx)) (holderOf l (e .by)) e)) ≡ outsideLimits → ⊥
+    never : outside e ≡ false → (t : Bool)
+        → firstRefusal
+        (check outsideLimits (outside e)
+        ∷ cond t (takeChecks (l .holders) (getD (l .takers) (e .store) 0) e) (voteChecks (rowOf l (e .tx)) (holderOf l (e .by)) e))
+        ≡ outsideLimits
+        → ⊥
     never k true h = take-not-2 (holdsAny (l .holders) (e .process) || heldBefore l (e .process) (e .store)) (rw k at h)
     never k false h =
         vote-not-2 (illFormed e) (not (eqb (holderOf l (e .by)) (e .process))) (anyClash e (rowOf l (e .tx) .votes)) (getD (rowOf l (e .tx) .votes) (e .store) noVote .kept) (rw k at h)
@@ -95,20 +92,12 @@ refused-2 l e h = go (outside e) refl
     go true k = refl
     go false k = absurd (never k (e .take) h)
 
-answer-is-refusal : (l : Log) (e : Entry) → enter l e .answer ≡ refusalOf l e
-unfolding enter
-answer-is-refusal l e = go (eqb (refusalOf l e) accepted) refl
-  where
-    go : (b : Bool) → eqb (refusalOf l e) accepted ≡ b → cond b (answered (afterEntry l e) accepted) (answered l (refusalOf l e)) .answer ≡ refusalOf l e
-    go true k = sym (eqb-true (refusalOf l e) accepted k)
-    go false k = refl
-
 pub answered-2-is-outside : Answered2IsOutside
 unfolding enterLine
 answered-2-is-outside l s h = go (ltb maxLineBytes (length s)) (reading s) refl h
   where
     go : (b : Bool) (r : Reading) → reading s ≡ r → cond b (answered l unreadable) (entering l r) .answer ≡ outsideLimits → (e : Entry) × IsText s e × (outside e ≡ true)
     go true r k h = absurd (let z : ⊥ = omega arith in z)
-    go false (Read e) k h = (e, read-line-is-text s e k, refused-2 l e (sym (answer-is-refusal l e) ∙ h))
+    go false (Read e) k h = (e, read-line-is-text s e k, refused-2 l e (sym (answer-is l e) ∙ h))
     go false Outside k h = outside-line-is-text s k
     go false Unreadable k h = absurd (let z : ⊥ = omega arith in z)

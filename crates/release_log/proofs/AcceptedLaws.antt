@@ -14,7 +14,7 @@ use Rattle.host_records.specs.declared.Reading.{Reading}
 use Rattle.host_records.specs.declared.Reading.the-variants.{Of, Refused}
 use Rattle.host_records.specs.Numbers.{entryOf, readNumbers}
 use Rattle.release_log.specs.Add.{passing}
-use Rattle.release_log.specs.Behind.{enterReading}
+use Rattle.host_lent.specs.Lent.{enterReading}
 
 pub record Passed (a b : ℕ) (c : Bool) : Type 0 where
   pub records : a ≡ accepted

@@ -20,7 +20,7 @@ use Rattle.host_records.specs.declared.Reading.the-variants.{Of, Refused}
 use Rattle.host_records.specs.Numbers.{readNumbers}
 use Rattle.host_records.specs.Record.{recordOf, recordSize}
 use Rattle.release_log.specs.Add.{addAnswer, addBytes}
-use Rattle.release_log.specs.Behind.{enterReading, logAfterLent, logBehind}
+use Rattle.host_lent.specs.Lent.{enterReading, lentLog}
 use Rattle.release_log.specs.Parts.{entryAnswer, entryBytes}
 
 module _ (bytes : List ℕ) (count : ℕ) (l : Log) (e : Entry) {t : Entered} (said : t ≡ enter l e) where
@@ -43,31 +43,31 @@ module _ (bytes : List ℕ) (count : ℕ) (l : Log) (e : Entry) {t : Entered} (s
       (rw (← said, h, le-ltb (length bytes) (suc count * recordSize) (omega arith)), rw (← said, h, le-ltb (length bytes) (suc count * recordSize) (omega arith), a, r))
 
 module _ (bytes : List ℕ) (count : ℕ) where
-  pub count-fits : logBehind bytes count .answer ≡ accepted → count * recordSize ≤ length bytes
-  unfolding logAfterLent
+  pub count-fits : lentLog bytes count .answer ≡ accepted → count * recordSize ≤ length bytes
+  unfolding lentLog
   count-fits h = split (ltb (length bytes) (count * recordSize)) refl
     where
       split : (t : Bool) → ltb (length bytes) (count * recordSize) ≡ t → count * recordSize ≤ length bytes
       split false e = ltb-false (length bytes) (count * recordSize) e
       split true e = absurd (let z : _≡_ {A = ℕ} outsideLimits accepted = (rw e at h) in let y : ⊥ = omega arith in y)
 
-  module _ (n : Numbers) {t : Entered} (behind : t ≡ logBehind bytes count) where
+  module _ (n : Numbers) {t : Entered} (lent : t ≡ lentLog bytes count) where
     abbrev Added-so : ℕ → List ℕ → Type 0
     Added-so r after = (r ≡ addAnswer bytes count n) × (after ≡ addBytes bytes count n)
 
     pub records-refused : (t .answer ≡ accepted → ⊥) → Added-so (t .answer) bytes
     unfolding addAnswer addBytes firstRefusal
-    records-refused h = (rw (← behind, ne-eqb (t .answer) accepted h), rw (← behind, ne-eqb (t .answer) accepted h, ne-eqb (t .answer) accepted h))
+    records-refused h = (rw (← lent, ne-eqb (t .answer) accepted h), rw (← lent, ne-eqb (t .answer) accepted h, ne-eqb (t .answer) accepted h))
 
     module _ (accept : t .answer ≡ accepted) where
       pub numbers-refused : {r : Reading} {k : ℕ} → r ≡ readNumbers n → r ≡ Refused k → Added-so k bytes
       unfolding addAnswer addBytes firstRefusal enterReading
       numbers-refused {r} {k} read h =
           let z : k ≡ accepted → ⊥ = refusal-read n (sym read ∙ h) in
-          (rw (← behind, accept, ← read, h, ne-eqb k accepted z), rw (← behind, accept, ← read, h, ne-eqb k accepted z, ne-eqb k accepted z))
+          (rw (← lent, accept, ← read, h, ne-eqb k accepted z), rw (← lent, accept, ← read, h, ne-eqb k accepted z, ne-eqb k accepted z))
 
       pub entry-added : {r : Reading} {e : Entry} → r ≡ readNumbers n → r ≡ Of e → {k : ℕ} {after : List ℕ}
           → k ≡ entryAnswer bytes count (t .log) e → after ≡ entryBytes bytes count (t .log) e → Added-so k after
       unfolding addAnswer addBytes entryAnswer entryBytes firstRefusal enterReading
       entry-added read h a b =
-          (a ∙ rw (← behind, accept, ← read, h), b ∙ rw (← behind, accept, ← read, h, entry-read n (sym read ∙ h)))
+          (a ∙ rw (← lent, accept, ← read, h), b ∙ rw (← lent, accept, ← read, h, entry-read n (sym read ∙ h)))

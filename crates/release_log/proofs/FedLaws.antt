@@ -13,7 +13,7 @@ use Rattle.host_records.proofs.RecordReadings.{record-entry, record-refusal}
 use Rattle.host_records.specs.declared.Reading.{Reading}
 use Rattle.host_records.specs.declared.Reading.the-variants.{Of, Refused}
 use Rattle.host_records.specs.Record.{entryIn, readRecord}
-use Rattle.release_log.specs.Behind.{enterReading, logAfter}
+use Rattle.host_lent.specs.Lent.{enterReading, logAfter}
 
 -- an accepted record is its entry entered
 module _ (l : Log) (bytes : List ℕ) (h : enterReading l (readRecord bytes) .answer ≡ accepted) where

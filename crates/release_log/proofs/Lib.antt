@@ -1,8 +1,6 @@
 pub mod AcceptedLaws
 pub mod AddLaws
-pub mod BehindLaws
 pub mod FedLaws
-pub mod InPlaceLaws
 pub mod QueryLaws
 pub mod RecordsLaws
 pub mod RowsLaws

@@ -21,21 +21,21 @@ module _ (value out : List ℕ) where
   unfolding placeAnswer placeBytes
   place h = (rw (le-ltb (length out) (length value) h), rw (le-ltb (length out) (length value) h))
 
-module _ (q : Query) (out : List ℕ) {t : Entered} (behind : t ≡ q .behind) where
+module _ (q : Query) (out : List ℕ) {t : Entered} (lent : t ≡ q .lent) where
   pub records-refused : (t .answer ≡ accepted → ⊥) → (t .answer ≡ answerTo q out) × (out ≡ bytesAfter q out)
   unfolding answerTo bytesAfter firstRefusal
-  records-refused h = (rw (← behind, ne-eqb (t .answer) accepted h), rw (← behind, ne-eqb (t .answer) accepted h, ne-eqb (t .answer) accepted h))
+  records-refused h = (rw (← lent, ne-eqb (t .answer) accepted h), rw (← lent, ne-eqb (t .answer) accepted h, ne-eqb (t .answer) accepted h))
 
   module _ (accept : t .answer ≡ accepted) where
     pub numbers-outside : q .outside ≡ true → (outsideLimits ≡ answerTo q out) × (out ≡ bytesAfter q out)
     unfolding answerTo bytesAfter firstRefusal
-    numbers-outside h = (rw (← behind, accept, h), rw (← behind, accept, h))
+    numbers-outside h = (rw (← lent, accept, h), rw (← lent, accept, h))
 
     pub value-placed : q .outside ≡ false → {value : List ℕ} → value ≡ q .value → {r : ℕ} {after : List ℕ}
         → (r ≡ placeAnswer value out) × (after ≡ placeBytes value out) → (r ≡ answerTo q out) × (after ≡ bytesAfter q out)
     unfolding answerTo bytesAfter firstRefusal placeAnswer placeBytes
-    value-placed h {value} v p = (p .0 ∙ rw (← behind, accept, h, ← v), p .1 ∙ split (ltb (length out) (length value)) refl)
+    value-placed h {value} v p = (p .0 ∙ rw (← lent, accept, h, ← v), p .1 ∙ split (ltb (length out) (length value)) refl)
       where
         split : (t : Bool) → ltb (length out) (length value) ≡ t → placeBytes value out ≡ bytesAfter q out
-        split false e = rw (← behind, accept, h, ← v, e)
-        split true e = rw (← behind, accept, h, ← v, e)
+        split false e = rw (← lent, accept, h, ← v, e)
+        split true e = rw (← lent, accept, h, ← v, e)

@@ -1,4 +1,4 @@
--- The records in a buffer after one more is stored behind them.
+-- The records in a buffer after one more is stored after them.
 use Prim.Native.Nat.{ℕ, zero, suc, _+_, _*_, _≤_}
 use mathlib.Core.List.{List, [], _∷_, _++_}
 use mathlib.Core.Path.{_≡_, ap, refl, _∙_}
@@ -7,7 +7,7 @@ use native.Mathlib.Omega.{arith}
 use lib.ListN.{drop, length, length-drop, set, take}
 use lib.Seq.{drop-set-add, sets, sets-eq, take-at, take-set-le}
 use Rattle.host_records.specs.Record.{recordSize}
-use Rattle.release_log.specs.Behind.{recordsIn}
+use Rattle.host_lent.specs.Lent.{recordsIn}
 
 take-sets : (n : ℕ) (vs l : List ℕ) (i : ℕ) → n ≤ i → take n (sets l i vs) ≡ take n l
 take-sets n [] l i h = refl

@@ -22,23 +22,23 @@ use Rattle.release_log.proofs.AddLaws.{count-fits}
 use Rattle.release_log.proofs.FedLaws.{logAfter-more, records-fed}
 use Rattle.release_log.proofs.RecordsLaws.{records-stored}
 use Rattle.release_log.specs.Add.{addAnswer, addBytes}
-use Rattle.release_log.specs.Behind.{enterReading, logAfter, logAfterLent, logBehind, recordsIn}
+use Rattle.host_lent.specs.Lent.{enterReading, lentLog, logAfter, recordsIn}
 use Rattle.release_log.specs.Filled.{Filled, added, empty, entriesIn}
 
 -- a count within the buffer leaves the records to be tried
-behind-after : (bytes : List ℕ) (count : ℕ) → count * recordSize ≤ length bytes → logBehind bytes count ≡ logAfter emptyLog (recordsIn bytes count)
-unfolding logAfterLent
-behind-after bytes count h = rw (le-ltb (length bytes) (count * recordSize) h)
+lent-after : (bytes : List ℕ) (count : ℕ) → count * recordSize ≤ length bytes → lentLog bytes count ≡ logAfter emptyLog (recordsIn bytes count)
+unfolding lentLog
+lent-after bytes count h = rw (le-ltb (length bytes) (count * recordSize) h)
 
-none-behind : (bytes : List ℕ) → logAfter emptyLog (recordsIn bytes 0) ≡ answered emptyLog accepted
+none-lent : (bytes : List ℕ) → logAfter emptyLog (recordsIn bytes 0) ≡ answered emptyLog accepted
 unfolding logAfter recordsIn
-none-behind bytes = refl
+none-lent bytes = refl
 
--- the log behind a buffer is the plain log fed its entries
-pub log-behind-is-fed : (bytes : List ℕ) (count : ℕ) → logBehind bytes count .answer ≡ accepted
-    → logBehind bytes count .log ≡ feed emptyLog (entriesIn bytes count)
-log-behind-is-fed bytes count h =
-    let e = behind-after bytes count (count-fits bytes count h) in
+-- the log after a buffer is the plain log fed its entries
+pub lent-log-is-fed : (bytes : List ℕ) (count : ℕ) → lentLog bytes count .answer ≡ accepted
+    → lentLog bytes count .log ≡ feed emptyLog (entriesIn bytes count)
+lent-log-is-fed bytes count h =
+    let e = lent-after bytes count (count-fits bytes count h) in
     ap (λ (t : Entered). t .log) e ∙ records-fed emptyLog (recordsIn bytes count) (ap (λ (t : Entered). t .answer) (sym e) ∙ h)
 
 -- one more record, of an entry that the log accepts
@@ -48,12 +48,12 @@ unfolding logAfter
 one-more l r e h = rw (e, eq-eqb _ accepted h)
 
 module _ (bytes : List ℕ) (count : ℕ) (n : Numbers) (h : addAnswer bytes count n ≡ accepted) where
-  parts : Passed (logBehind bytes count .answer) (enterReading (logBehind bytes count .log) (readNumbers n) .answer) (ltb (length bytes) (suc count * recordSize))
+  parts : Passed (lentLog bytes count .answer) (enterReading (lentLog bytes count .log) (readNumbers n) .answer) (ltb (length bytes) (suc count * recordSize))
   unfolding addAnswer
   parts = passed _ _ _ h
 
   read : readNumbers n ≡ Of (entryOf n)
-  read = numbers-accepted (logBehind bytes count .log) n (parts .entry)
+  read = numbers-accepted (lentLog bytes count .log) n (parts .entry)
 
   stored : addBytes bytes count n ≡ sets bytes (count * recordSize) (recordOf (entryOf n))
   unfolding addBytes
@@ -65,30 +65,31 @@ module _ (bytes : List ℕ) (count : ℕ) (n : Numbers) (h : addAnswer bytes cou
   room : suc count * recordSize ≤ length bytes
   room = ltb-false (length bytes) (suc count * recordSize) (parts .place)
 
-  reads-back : enterReading (logBehind bytes count .log) (readRecord (recordOf (entryOf n))) ≡ enter (logBehind bytes count .log) (entryOf n)
+  reads-back : enterReading (lentLog bytes count .log) (readRecord (recordOf (entryOf n))) ≡ enter (lentLog bytes count .log) (entryOf n)
   unfolding enterReading
   reads-back = rw (record-reads-back (entryOf n) (read-is-proper n read))
 
-  entry-accepted : enter (logBehind bytes count .log) (entryOf n) .answer ≡ accepted
+  entry-accepted : enter (lentLog bytes count .log) (entryOf n) .answer ≡ accepted
   unfolding enterReading
   entry-accepted = rw read at (parts .entry)
 
-  -- after an accepted add the log behind the buffer, one more counted, is the log before with the entry entered
-  pub added-entry-is-entered : logBehind (addBytes bytes count n) (suc count) ≡ answered (enter (logBehind bytes count .log) (entryOf n) .log) accepted
+  -- after an accepted add the log after the buffer, one more counted, is the log before with the
+  -- entry entered
+  pub added-entry-is-entered : lentLog (addBytes bytes count n) (suc count) ≡ answered (enter (lentLog bytes count .log) (entryOf n) .log) accepted
   unfolding recordOf
   added-entry-is-entered =
       let r = recordOf (entryOf n) in
-      let before = behind-after bytes count within in
+      let before = lent-after bytes count within in
       let more = sets bytes (count * recordSize) r in
       let more-room : suc count * recordSize ≤ length more = rw length-sets room in
-      ap (λ (b : List ℕ). logBehind b (suc count)) stored
-      ∙ behind-after more (suc count) more-room
+      ap (λ (b : List ℕ). lentLog b (suc count)) stored
+      ∙ lent-after more (suc count) more-room
       ∙ ap (λ (rs : List (List ℕ)). logAfter emptyLog rs) (records-stored count bytes r refl room)
       ∙ logAfter-more emptyLog (recordsIn bytes count) r (ap (λ (t : Entered). t .answer) (sym before) ∙ parts .records)
       ∙ ap (λ (t : Entered). logAfter (t .log) (r ∷ [])) (sym before)
-      ∙ one-more (logBehind bytes count .log) r reads-back entry-accepted
+      ∙ one-more (lentLog bytes count .log) r reads-back entry-accepted
 
 -- a buffer that was filled only by accepted adds, from empty, is never refused as records
-pub filled-is-accepted : {bytes : List ℕ} {count : ℕ} → Filled bytes count → logBehind bytes count .answer ≡ accepted
-filled-is-accepted (empty {bytes}) = ap (λ (t : Entered). t .answer) (behind-after bytes 0 (omega arith) ∙ none-behind bytes)
+pub filled-is-accepted : {bytes : List ℕ} {count : ℕ} → Filled bytes count → lentLog bytes count .answer ≡ accepted
+filled-is-accepted (empty {bytes}) = ap (λ (t : Entered). t .answer) (lent-after bytes 0 (omega arith) ∙ none-lent bytes)
 filled-is-accepted (added {bytes} {count} n f h) = ap (λ (t : Entered). t .answer) (added-entry-is-entered bytes count n h)

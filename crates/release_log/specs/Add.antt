@@ -1,4 +1,5 @@
--- Document 01, "Hosts in C": "the count is tried first, the new entry last, and if accepted it is stored behind the others."
+-- Document 01, "Hosts in C": "the count is tried first, the new entry last, and if accepted it is
+-- stored behind the others."
 use Prim.Native.Nat.{ℕ, suc, _*_}
 use mathlib.Core.Bool.{cond, not}
 use mathlib.Core.List.{List, [], _∷_}
@@ -9,7 +10,7 @@ use Rattle.log_entry.specs.Refusal.{Check, accepted, check, firstRefusal, noPla
 use Rattle.host_records.specs.declared.Numbers.{Numbers}
 use Rattle.host_records.specs.Numbers.{entryOf, readNumbers}
 use Rattle.host_records.specs.Record.{recordOf, recordSize}
-use Rattle.release_log.specs.Behind.{enterReading, logBehind}
+use Rattle.host_lent.specs.Lent.{enterReading, lentLog}
 
 -- an answer that refuses is passed on
 abbrev pub passing : ℕ → Check
@@ -19,12 +20,12 @@ passing n = check n (not (eqb n accepted))
 unfoldable pub addAnswer : List ℕ → ℕ → Numbers → ℕ
 addAnswer bytes count n =
     firstRefusal
-    (passing (logBehind bytes count .answer)
-    ∷ passing (enterReading (logBehind bytes count .log) (readNumbers n) .answer)
+    (passing (lentLog bytes count .answer)
+    ∷ passing (enterReading (lentLog bytes count .log) (readNumbers n) .answer)
     ∷ check noPlace (ltb (length bytes) (suc count * recordSize))
     ∷ [])
 
--- the lent buffer afterwards: the new record behind the others, or all as it was
+-- the lent buffer afterwards: the new record after the others, or all as it was
 unfoldable pub addBytes : List ℕ → ℕ → Numbers → List ℕ
 addBytes bytes count n =
     cond (eqb (addAnswer bytes count n) accepted) (sets bytes (count * recordSize) (recordOf (entryOf n))) bytes

@@ -1,4 +1,5 @@
--- The buffers that hosts come to, and the entries in a buffer: what the theorems of `proofs/Theorems.antt` speak of.
+-- The buffers that hosts come to, and the entries in a buffer: what the theorems of
+-- `proofs/Theorems.antt` speak of.
 use Prim.Native.Nat.{ℕ, suc}
 use mathlib.Core.List.{List, map}
 use mathlib.Core.Path.{_≡_}
@@ -7,7 +8,7 @@ use Rattle.log_entry.specs.Refusal.{accepted}
 use Rattle.host_records.specs.declared.Numbers.{Numbers}
 use Rattle.host_records.specs.Record.{entryIn}
 use Rattle.release_log.specs.Add.{addAnswer, addBytes}
-use Rattle.release_log.specs.Behind.{recordsIn}
+use Rattle.host_lent.specs.Lent.{recordsIn}
 
 -- a buffer that was filled only by accepted adds, from empty, and the count of its records
 pub data Filled : List ℕ → ℕ → Type 0 where

@@ -1,4 +1,5 @@
--- The last parts of a call, for the contracts of the functions that do them; `specs/Add.antt` and `specs/Query.antt` say the whole.
+-- The last parts of a call, for the contracts of the functions that do them; `specs/Add.antt` and
+-- `specs/Query.antt` say the whole.
 use Prim.Native.Nat.{ℕ, suc, _*_}
 use mathlib.Core.Bool.{cond}
 use mathlib.Core.List.{List, [], _∷_}
@@ -12,7 +13,7 @@ use Rattle.log_core.specs.Enter.{enter}
 use Rattle.host_records.specs.Record.{recordOf, recordSize}
 use Rattle.release_log.specs.Add.{passing}
 
--- the answer to an entry for the log l behind `count` records: what the log says, then its place
+-- the answer to an entry for the log l after `count` records: what the log says, then its place
 unfoldable pub entryAnswer : List ℕ → ℕ → Log → Entry → ℕ
 entryAnswer bytes count l e =
     firstRefusal

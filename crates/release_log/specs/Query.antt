@@ -5,7 +5,7 @@ use mathlib.Core.List.{List, [], _∷_, _++_}
 use lib.Dec.{eqb, leb, ltb}
 use lib.ListN.{length}
 use lib.Seq.{sets}
-use Rattle.log_entry.specs.Limits.{stores, transactions}
+use Rattle.log_entry.specs.Limits.{stores, transactions, updateBytes}
 use Rattle.log_entry.specs.Refusal.{accepted, check, firstRefusal, outsideLimits, noPlace}
 use Rattle.log_core.specs.declared.Entered.{Entered}
 use Rattle.log_core.specs.declared.Replayed.{Replayed}
@@ -13,13 +13,14 @@ use Rattle.log_votes.specs.Involvement.{involvementNumber}
 use Rattle.log_core.specs.Log.{involvementOf, outcomeOf}
 use Rattle.log_votes.specs.Outcome.{outcomeNumber}
 use Rattle.log_core.specs.Replay.{replayRows}
-use Rattle.host_records.specs.Record.{lowFirst, updateSize}
+use Rattle.host_records.specs.Record.{lowFirst}
 use Rattle.release_log.specs.Add.{passing}
-use Rattle.release_log.specs.Behind.{logBehind}
+use Rattle.host_lent.specs.Lent.{lentLog}
 
--- the records' log and answer, whether the query's own numbers are outside their limits, and the value
+-- the records' log and answer, whether the query's own numbers are outside their limits, and the
+-- value
 pub record Query : Type 0 where
-  pub behind : Entered
+  pub lent : Entered
   pub outside : Bool
   pub value : List ℕ
 
@@ -27,7 +28,7 @@ pub record Query : Type 0 where
 unfoldable pub answerTo : Query → List ℕ → ℕ
 answerTo q out =
     firstRefusal
-    (passing (q .behind .answer)
+    (passing (q .lent .answer)
     ∷ check outsideLimits (q .outside)
     ∷ check noPlace (ltb (length out) (length (q .value)))
     ∷ [])
@@ -39,25 +40,25 @@ bytesAfter q out = cond (eqb (answerTo q out) accepted) (sets out 0 (q .value)) 
 -- "a byte for outcome (0 open, 1 commit, 2 abort)"
 abbrev pub outcomeQuery : List ℕ → ℕ → ℕ → Query
 outcomeQuery bytes count tx = record {
-  behind = logBehind bytes count;
+  lent = lentLog bytes count;
   outside = leb transactions tx;
-  value = outcomeNumber (outcomeOf (logBehind bytes count .log) tx) ∷ [];
+  value = outcomeNumber (outcomeOf (lentLog bytes count .log) tx) ∷ [];
 }
 
 -- "or involvement (0 no, 1 yes, 2 unknown)"
 abbrev pub involvementQuery : List ℕ → ℕ → ℕ → ℕ → Query
 involvementQuery bytes count tx store = record {
-  behind = logBehind bytes count;
+  lent = lentLog bytes count;
   outside = leb transactions tx || leb stores store;
-  value = involvementNumber (involvementOf (logBehind bytes count .log) tx store) ∷ [];
+  value = involvementNumber (involvementOf (lentLog bytes count .log) tx store) ∷ [];
 }
 
 -- "six bytes a row: group, tx, update"
 abbrev pub rowSize : ℕ
-rowSize = 2 + updateSize
+rowSize = 2 + updateBytes
 
 abbrev pub rowBytes : Replayed → List ℕ
-rowBytes r = r .group ∷ r .tx ∷ lowFirst updateSize (r .update)
+rowBytes r = r .group ∷ r .tx ∷ lowFirst updateBytes (r .update)
 
 unfoldable pub rowsBytes : List Replayed → List ℕ
 rowsBytes [] = []
@@ -69,7 +70,7 @@ replayValue rows = length rows ∷ rowsBytes rows
 
 abbrev pub replayQuery : List ℕ → ℕ → ℕ → Query
 replayQuery bytes count store = record {
-  behind = logBehind bytes count;
+  lent = lentLog bytes count;
   outside = leb stores store;
-  value = replayValue (replayRows (logBehind bytes count .log) store);
+  value = replayValue (replayRows (lentLog bytes count .log) store);
 }

@@ -1,4 +1,5 @@
-// The library for hosts in C: the log behind the records that a host lends. Document 01, "Hosts in C".
+// The library for hosts in C: the log after the records that a host lends. Document 01, "Hosts in
+// C".
 ghost use mathlib.Core.Path.{_≡_};
 ghost use Prim.Native.Nat.{_*_, _≤_};
 ghost use lib.ListN.{length};
@@ -7,8 +8,8 @@ ghost use Rattle.host_records.specs.Record.{recordSize};
 ghost use Rattle.release_log.specs.Add.{addAnswer, addBytes};
 ghost use Rattle.release_log.specs.Parts.{entryAnswer, entryBytes};
 ghost use Rattle.release_log.specs.Query.{answerTo, bytesAfter, involvementQuery, outcomeQuery, replayQuery};
-use behind::log_behind;
 use bytes::NO_PLACE;
+use host_lent::lent_log;
 use host_records::Numbers;
 use host_records::RECORD_SIZE;
 use host_records::Reading;
@@ -18,13 +19,11 @@ use log_entry::limits::STORES;
 use log_entry::limits::TRANSACTIONS;
 use log_entry::refusal::ACCEPTED;
 use log_entry::refusal::OUTSIDE_LIMITS;
-use log_votes::Row;
 
-mod behind;
 mod bytes;
 mod values;
 
-// The new entry behind the records, whose log is `log`.
+// The new entry after the records, whose log is `log`.
 fn add_entry(records: &mut [u8], count: usize, log: Log, e: Entry) -> u32
     requires { ⌜ count * recordSize ≤ length (now records) ⌝ }
     ensures { λ r. ⌜ r ≡ entryAnswer (now (records .entry)) count log e ⌝ }
@@ -43,7 +42,7 @@ fn add_entry(records: &mut [u8], count: usize, log: Log, e: Entry) -> u32
     ACCEPTED as u32
 }
 
-// A new entry: its record is stored behind the lent ones.
+// A new entry: its record is stored after the lent ones.
 #[no_mangle]
 pub extern "C" fn release_log_add(
     records: &mut [u8],
@@ -61,7 +60,7 @@ pub extern "C" fn release_log_add(
     ensures { λ r. ⌜ now (records .exit) ≡ addBytes (now (records .entry)) count (numbers kind process by store tx list say update) ⌝ }
 {
     let mut answer: u8 = ACCEPTED;
-    let log = log_behind(Row::none(), &records[..], count, &mut answer);
+    let log = lent_log(&records[..], count, &mut answer);
     if answer != ACCEPTED {
         return answer as u32;
     }
@@ -88,7 +87,7 @@ pub extern "C" fn release_log_outcome(records: &[u8], count: usize, tx: u32, out
     ensures { λ r. ⌜ now (out .exit) ≡ bytesAfter (outcomeQuery (now (records .entry)) count tx) (now (out .entry)) ⌝ }
 {
     let mut answer: u8 = ACCEPTED;
-    let log = log_behind(Row::none(), records, count, &mut answer);
+    let log = lent_log(records, count, &mut answer);
     if answer != ACCEPTED {
         return answer as u32;
     }
@@ -113,7 +112,7 @@ pub extern "C" fn release_log_involvement(
     ensures { λ r. ⌜ now (out .exit) ≡ bytesAfter (involvementQuery (now (records .entry)) count tx store) (now (out .entry)) ⌝ }
 {
     let mut answer: u8 = ACCEPTED;
-    let log = log_behind(Row::none(), records, count, &mut answer);
+    let log = lent_log(records, count, &mut answer);
     if answer != ACCEPTED {
         return answer as u32;
     }
@@ -140,7 +139,7 @@ pub extern "C" fn release_log_replay(
     ensures { λ r. ⌜ now (out .exit) ≡ bytesAfter (replayQuery (now (records .entry)) count store) (now (out .entry)) ⌝ }
 {
     let mut answer: u8 = ACCEPTED;
-    let log = log_behind(Row::none(), records, count, &mut answer);
+    let log = lent_log(records, count, &mut answer);
     if answer != ACCEPTED {
         return answer as u32;
     }

@@ -10,10 +10,11 @@ use crate::bytes::NO_PLACE;
 use crate::bytes::store;
 use log_core::Replay;
 use log_core::Replayed;
+use log_entry::limits::UPDATE_BYTES;
 use log_entry::refusal::ACCEPTED;
 
-// The bytes of a row. `specs/Query.antt` has the same number for the contracts.
-const ROW_SIZE: usize = 6;
+// The bytes of a row: its group, its transaction and its update.
+const ROW_SIZE: usize = 2 + UPDATE_BYTES;
 
 // A value of one byte.
 pub(crate) fn answer_byte(out: &mut [u8], value: u8) -> u32

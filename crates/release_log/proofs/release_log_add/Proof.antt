@@ -1,21 +1,18 @@
 use borrow.Author.Needs.{needs}
 use mathlib.Core.Path.{sym, _∙_}
 use Rattle.release_log.proofs.AddLaws.{count-fits, entry-added, numbers-refused, records-refused}
-use Rattle.release_log.proofs.BehindLaws.{whole-of}
+use Rattle.host_lent.proofs.LentLaws.{whole-of}
 use Rattle.release_log.proofs.release_log_add.Statement.{statement}
 use Rattle.release_log.proofs.release_log_add.Tie as tie
 
-none-requires : tie.Need-none-requires
-none-requires c κs = search needs
-
-log-behind-requires : tie.Need-log-behind-requires
-log-behind-requires c κs = c .before .before .none .ensures
+lent-log-requires : tie.Need-lent-log-requires
+lent-log-requires c κs = search needs
 
 same-length : tie.Need-same-length
 same-length c = search needs
 
 returns : tie.Need-returns
-returns c = let a = c .before .before .before .before .before .before .before .args in records-refused (a .records .now) (a .count) _ (whole-of (c .before .before .log-behind .ensures .0) (c .before .before .log-behind .ensures .1)) (c .before .if1 .taken)
+returns c = let a = c .before .before .before .before .before .before .args in records-refused (a .records .now) (a .count) _ (whole-of (c .before .before .lent-log .ensures .0) (c .before .before .lent-log .ensures .1)) (c .before .if1 .taken)
 
 read-requires : tie.Need-read-requires
 read-requires c κs = search needs
@@ -31,28 +28,28 @@ enum-known-e c = search needs
 
 add-entry-requires : tie.Need-add-entry-requires
 add-entry-requires c κs =
-    let a = c .before .before .before .before .before .before .before .before .before .before .before .args in
-    count-fits (a .records .now) (a .count) (sym (c .before .before .before .before .before .before .log-behind .ensures .1) ∙ c .before .before .before .before .before .if1 .left)
+    let a = c .before .before .before .before .before .before .before .before .before .before .args in
+    count-fits (a .records .now) (a .count) (sym (c .before .before .before .before .before .before .lent-log .ensures .1) ∙ c .before .before .before .before .before .if1 .left)
 
 same-length-2 : tie.Need-same-length-2
 same-length-2 c = search needs
 
 returns-2 : tie.Need-returns-2
 returns-2 c =
-    let a = c .before .before .before .before .before .before .before .before .before .before .args in
-    numbers-refused (a .records .now) (a .count) _ (whole-of (c .before .before .before .before .before .log-behind .ensures .0) (c .before .before .before .before .before .log-behind .ensures .1)) (c .before .before .before .before .if1 .left) (c .before .before .before .read .ensures) (c .before .n .given .1)
+    let a = c .before .before .before .before .before .before .before .before .before .args in
+    numbers-refused (a .records .now) (a .count) _ (whole-of (c .before .before .before .before .before .lent-log .ensures .0) (c .before .before .before .before .before .lent-log .ensures .1)) (c .before .before .before .before .if1 .left) (c .before .before .before .read .ensures) (c .before .n .given .1)
 
 same-length-3 : tie.Need-same-length-3
 same-length-3 c = search needs
 
 returns-3 : tie.Need-returns-3
 returns-3 c =
-    let a = c .before .before .before .before .before .before .before .before .before .before .before .before .before .before .args in
+    let a = c .before .before .before .before .before .before .before .before .before .before .before .before .before .args in
     entry-added
     (a .records .now)
     (a .count)
     _
-    (whole-of (c .before .before .before .before .before .before .before .before .before .log-behind .ensures .0) (c .before .before .before .before .before .before .before .before .before .log-behind .ensures .1))
+    (whole-of (c .before .before .before .before .before .before .before .before .before .lent-log .ensures .0) (c .before .before .before .before .before .before .before .before .before .lent-log .ensures .1))
     (c .before .before .before .before .before .before .before .before .if1 .left)
     (c .before .before .before .before .before .before .before .read .ensures)
     (c .before .before .before .before .before .e .given .1)
@@ -63,8 +60,7 @@ pub release-log-add-spec : {M : Type 1} → statement M
 release-log-add-spec =
     tie.close
     (tie.spec
-    none-requires
-    log-behind-requires
+    lent-log-requires
     same-length
     returns
     read-requires

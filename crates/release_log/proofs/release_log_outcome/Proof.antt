@@ -7,19 +7,16 @@ use Rattle.log_entry.specs.Limits.{transactions}
 use Rattle.log_core.specs.declared.Log.{Log}
 use Rattle.log_votes.specs.Outcome.{outcomeNumber}
 use Rattle.log_core.specs.Log.{outcomeOf}
-use Rattle.release_log.proofs.BehindLaws.{whole-of}
+use Rattle.host_lent.proofs.LentLaws.{whole-of}
 use Rattle.release_log.proofs.QueryLaws.{numbers-outside, records-refused, value-placed}
 use Rattle.release_log.proofs.release_log_outcome.Statement.{statement}
 use Rattle.release_log.proofs.release_log_outcome.Tie as tie
 
-none-requires : tie.Need-none-requires
-none-requires c κs = search needs
-
-log-behind-requires : tie.Need-log-behind-requires
-log-behind-requires c κs = c .before .none .ensures
+lent-log-requires : tie.Need-lent-log-requires
+lent-log-requires c κs = search needs
 
 returns : tie.Need-returns
-returns c = records-refused _ _ (whole-of (c .before .before .log-behind .ensures .0) (c .before .before .log-behind .ensures .1)) (c .before .if1 .taken)
+returns c = records-refused _ _ (whole-of (c .before .before .lent-log .ensures .0) (c .before .before .lent-log .ensures .1)) (c .before .if1 .taken)
 
 cast-if2 : tie.Need-cast-if2
 cast-if2 c = search needs
@@ -28,7 +25,7 @@ cast-result : tie.Need-cast-result
 cast-result c = search needs
 
 returns-2 : tie.Need-returns-2
-returns-2 c = numbers-outside _ _ (whole-of (c .before .before .log-behind .ensures .0) (c .before .before .log-behind .ensures .1)) (c .before .if1 .left) (le-leb transactions (c .before .before .before .before .before .before .before .args .tx) (c .if2 .taken))
+returns-2 c = numbers-outside _ _ (whole-of (c .before .before .lent-log .ensures .0) (c .before .before .lent-log .ensures .1)) (c .before .if1 .left) (le-leb transactions (c .before .before .before .before .before .before .args .tx) (c .if2 .taken))
 
 mul-row : tie.Need-mul-row
 mul-row c = search needs
@@ -50,25 +47,24 @@ same-length c = search needs
 
 returns-3 : tie.Need-returns-3
 returns-3 c =
-    let a = c .before .before .before .before .before .before .before .before .before .before .before .before .before .before .args in
+    let a = c .before .before .before .before .before .before .before .before .before .before .before .before .before .args in
     value-placed
     _
     _
-    (whole-of (c .before .before .before .before .before .before .before .before .before .log-behind .ensures .0) (c .before .before .before .before .before .before .before .before .before .log-behind .ensures .1))
+    (whole-of (c .before .before .before .before .before .before .before .before .before .lent-log .ensures .0) (c .before .before .before .before .before .before .before .before .before .lent-log .ensures .1))
     (c .before .before .before .before .before .before .before .before .if1 .left)
     (lt-leb transactions (a .tx) (c .before .before .before .before .before .before .before .if2 .left))
     (ap (λ (n : ℕ). n ∷ [])
     (c .before .before .before .number .ensures
     ∙ ap outcomeNumber (c .before .before .before .before .outcome .ensures)
-    ∙ ap (λ (l : Log). outcomeNumber (outcomeOf l (a .tx))) (c .before .before .before .before .before .before .before .before .before .log-behind .ensures .0)))
+    ∙ ap (λ (l : Log). outcomeNumber (outcomeOf l (a .tx))) (c .before .before .before .before .before .before .before .before .before .lent-log .ensures .0)))
     (c .before .before .answer-byte .ensures)
 
 pub release-log-outcome-spec : {M : Type 1} → statement M
 release-log-outcome-spec =
     tie.close
     (tie.spec
-    none-requires
-    log-behind-requires
+    lent-log-requires
     returns
     cast-if2
     cast-result

@@ -12,28 +12,25 @@ use Rattle.log_core.specs.declared.Log.{Log}
 use Rattle.log_core.specs.declared.Replayed.{Replayed}
 use Rattle.log_core.specs.Replay.{replayRows}
 use Rattle.release_log.specs.Query.{replayValue}
-use Rattle.release_log.proofs.BehindLaws.{whole-of}
+use Rattle.host_lent.proofs.LentLaws.{whole-of}
 use Rattle.release_log.proofs.QueryLaws.{numbers-outside, records-refused, value-placed}
 use Rattle.log_core.proofs.ReplayedRows.{replay-count, replay-taken}
 use Rattle.release_log.proofs.release_log_replay.Statement.{statement}
 use Rattle.release_log.proofs.release_log_replay.Tie as tie
 
 -- no more rows than transactions
-few : (c : tie.After-replay) → length (replayRows (c .before .before .before .before .log-behind .result) (c .before .before .before .before .before .before .before .before .before .args .store)) ≤ transactions
+few : (c : tie.After-replay) → length (replayRows (c .before .before .before .before .lent-log .result) (c .before .before .before .before .before .before .before .before .args .store)) ≤ transactions
 few c =
-    let t = c .before .before .before .before .log-behind in
-    let h = replay-length (t .result) (c .before .before .before .before .before .before .before .before .before .args .store) in
+    let t = c .before .before .before .before .lent-log in
+    let h = replay-length (t .result) (c .before .before .before .before .before .before .before .before .args .store) in
     let k = rows-length (t .result) _ (t .ok) in
     omega arith
 
-none-requires : tie.Need-none-requires
-none-requires c κs = search needs
-
-log-behind-requires : tie.Need-log-behind-requires
-log-behind-requires c κs = c .before .none .ensures
+lent-log-requires : tie.Need-lent-log-requires
+lent-log-requires c κs = search needs
 
 returns : tie.Need-returns
-returns c = records-refused _ _ (whole-of (c .before .before .log-behind .ensures .0) (c .before .before .log-behind .ensures .1)) (c .before .if1 .taken)
+returns c = records-refused _ _ (whole-of (c .before .before .lent-log .ensures .0) (c .before .before .lent-log .ensures .1)) (c .before .if1 .taken)
 
 cast-if2 : tie.Need-cast-if2
 cast-if2 c = search needs
@@ -42,7 +39,7 @@ cast-result : tie.Need-cast-result
 cast-result c = search needs
 
 returns-2 : tie.Need-returns-2
-returns-2 c = numbers-outside _ _ (whole-of (c .before .before .log-behind .ensures .0) (c .before .before .log-behind .ensures .1)) (c .before .if1 .left) (le-leb stores (c .before .before .before .before .before .before .before .args .store) (c .if2 .taken))
+returns-2 c = numbers-outside _ _ (whole-of (c .before .before .lent-log .ensures .0) (c .before .before .lent-log .ensures .1)) (c .before .if1 .left) (le-leb stores (c .before .before .before .before .before .before .args .store) (c .if2 .taken))
 
 cast-replay : tie.Need-cast-replay
 cast-replay c = search needs
@@ -52,7 +49,7 @@ replay-requires c κs = search needs
 
 answer-rows-requires : tie.Need-answer-rows-requires
 answer-rows-requires c κs =
-    let h = replay-count (c .before .before .before .before .log-behind .result) (c .before .before .before .before .before .before .before .before .before .args .store) (c .replay .ensures) in
+    let h = replay-count (c .before .before .before .before .lent-log .result) (c .before .before .before .before .before .before .before .before .args .store) (c .replay .ensures) in
     let k = few c in
     omega arith
 
@@ -61,24 +58,23 @@ same-length c = search needs
 
 returns-3 : tie.Need-returns-3
 returns-3 c =
-    let a = c .before .before .before .before .before .before .before .before .before .before .before .before .args in
+    let a = c .before .before .before .before .before .before .before .before .before .before .before .args in
     value-placed
     _
     _
-    (whole-of (c .before .before .before .before .before .before .before .log-behind .ensures .0) (c .before .before .before .before .before .before .before .log-behind .ensures .1))
+    (whole-of (c .before .before .before .before .before .before .before .lent-log .ensures .0) (c .before .before .before .before .before .before .before .lent-log .ensures .1))
     (c .before .before .before .before .before .before .if1 .left)
     (lt-leb stores (a .store) (c .before .before .before .before .before .if2 .left))
     (ap (λ (rs : List Replayed). replayValue rs)
-    (replay-taken (c .before .before .before .before .before .before .before .log-behind .result) (a .store) (c .before .before .before .replay .ensures) (few (c .before .before .before))
-    ∙ ap (λ (l : Log). replayRows l (a .store)) (c .before .before .before .before .before .before .before .log-behind .ensures .0)))
+    (replay-taken (c .before .before .before .before .before .before .before .lent-log .result) (a .store) (c .before .before .before .replay .ensures) (few (c .before .before .before))
+    ∙ ap (λ (l : Log). replayRows l (a .store)) (c .before .before .before .before .before .before .before .lent-log .ensures .0)))
     (c .before .before .answer-rows .ensures)
 
 pub release-log-replay-spec : {M : Type 1} → statement M
 release-log-replay-spec =
     tie.close
     (tie.spec
-    none-requires
-    log-behind-requires
+    lent-log-requires
     returns
     cast-if2
     cast-result

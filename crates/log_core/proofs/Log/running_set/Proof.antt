@@ -6,21 +6,23 @@ use mathlib.Core.Bool.{cond}
 use native.Mathlib.Omega.{arith}
 use Prim.Native.Nat.{ℕ}
 use lib.ListN.{drop, length}
+use Rattle.log_entry.specs.Limits.{transactions}
+use Rattle.log_votes.specs.Outcome.{running}
+use Rattle.log_votes.specs.Row.{noRow}
+use Rattle.log_votes.proofs.SetLaws.{digit-small, set-none, set-room, set-step}
 use Rattle.log_core.specs.Group.{runningSet}
 use Rattle.log_core.proofs.Lengths.{rows-length}
-use Rattle.log_votes.proofs.CommitSetLaws.{digit-small}
-use Rattle.log_core.proofs.GroupLaws.{running-none, running-room, running-step}
 use Rattle.log_core.proofs.Log.running_set.Statement.{statement}
 use Rattle.log_core.proofs.Log.running_set.Tie as tie
 
 abbrev Inv-loop : tie.InvT-loop
-Inv-loop self set₀ t₀ set t = (t ≤ 32) × (set ≡ runningSet (drop t (self .rows)))
+Inv-loop self set₀ t₀ set t = (t ≤ transactions) × (set ≡ runningSet (drop t (self .rows)))
 
 abbrev μ-loop : tie.MeasureT-loop
 μ-loop self set₀ t₀ set t = t
 
 loop-holds : tie.Need-loop-holds Inv-loop μ-loop
-loop-holds c = let s = c in let n : length (s .args .t1 .rows) ≡ 32 = rows-length (s .args .t1) _ (s .good .0) in (omega arith, running-none (s .args .t1 .rows) 32 (omega arith))
+loop-holds c = let s = c in let n : length (s .args .t1 .rows) ≡ transactions = rows-length (s .args .t1) _ (s .good .0) in (omega arith, set-none running (s .args .t1 .rows) transactions (omega arith))
 
 sub-row : tie.Need-sub-row Inv-loop μ-loop
 sub-row c = omega arith
@@ -38,12 +40,12 @@ digit-requires : tie.Need-digit-requires Inv-loop μ-loop
 digit-requires c κs = search needs
 
 mul-set : tie.Need-mul-set Inv-loop μ-loop
-mul-set c = let s = c .before .before .before .before .before in let n : length (s .args .t1 .rows) ≡ 32 = rows-length (s .args .t1) _ (s .good .0) in
-    let l = c .before .before .before .before .loop in let room : l .set < 2 ^ 31 = rw (l .inv .1) (running-room (s .args .t1 .rows) (l .t) n (c .before .before .before .loop-test .taken)) in omega arith
+mul-set c = let s = c .before .before .before .before .before in let n : length (s .args .t1 .rows) ≡ transactions = rows-length (s .args .t1) _ (s .good .0) in
+    let l = c .before .before .before .before .loop in let room : l .set < 2 ^ 31 = rw (l .inv .1) (set-room running (s .args .t1 .rows) 31 (l .t) n (c .before .before .before .loop-test .taken)) in omega arith
 
 add-set : tie.Need-add-set Inv-loop μ-loop
-add-set c = let s = c .before .before .before .before .before in let n : length (s .args .t1 .rows) ≡ 32 = rows-length (s .args .t1) _ (s .good .0) in
-    let l = c .before .before .before .before .loop in let room : l .set < 2 ^ 31 = rw (l .inv .1) (running-room (s .args .t1 .rows) (l .t) n (c .before .before .before .loop-test .taken)) in omega (arith, c .digit .ensures, digit-small (c .before .running .result))
+add-set c = let s = c .before .before .before .before .before in let n : length (s .args .t1 .rows) ≡ transactions = rows-length (s .args .t1) _ (s .good .0) in
+    let l = c .before .before .before .before .loop in let room : l .set < 2 ^ 31 = rw (l .inv .1) (set-room running (s .args .t1 .rows) 31 (l .t) n (c .before .before .before .loop-test .taken)) in omega (arith, c .digit .ensures, digit-small (c .before .running .result))
 
 sub-t : tie.Need-sub-t Inv-loop μ-loop
 sub-t c = omega arith
@@ -52,8 +54,8 @@ loop-less : tie.Need-loop-less Inv-loop μ-loop
 loop-less c = omega arith
 
 loop-again : tie.Need-loop-again Inv-loop μ-loop
-loop-again c = let s = c .before .before .before .before .before in let n : length (s .args .t1 .rows) ≡ 32 = rows-length (s .args .t1) _ (s .good .0) in
-    let l = c .before .before .before .before .loop in (omega arith, ap₂ (λ (d m : ℕ). d + 2 * m) (c .digit .ensures ∙ ap (λ b. cond b 1 0) (c .before .running .ensures)) (l .inv .1) ∙ running-step (s .args .t1 .rows) (l .t) (c .before .before .before .loop-test .taken) (omega arith))
+loop-again c = let s = c .before .before .before .before .before in let n : length (s .args .t1 .rows) ≡ transactions = rows-length (s .args .t1) _ (s .good .0) in
+    let l = c .before .before .before .before .loop in (omega arith, ap₂ (λ (d m : ℕ). d + 2 * m) (c .digit .ensures ∙ ap (λ b. cond b 1 0) (c .before .running .ensures)) (l .inv .1) ∙ set-step running (s .args .t1 .rows) noRow (l .t) (c .before .before .before .loop-test .taken) (omega arith))
 
 returns : tie.Need-returns Inv-loop μ-loop
 returns c = let l = c .before .loop in let z : l .t ≡ 0 = omega arith in l .inv .1 ∙ ap (λ (k : ℕ). runningSet (drop k (c .before .before .args .t1 .rows))) z

@@ -8,11 +8,11 @@ use Rattle.log_core.proofs.Log.vote.Tie as tie
 vote-of-requires : tie.Need-vote-of-requires
 vote-of-requires c κs = search needs
 
-vote-entry-requires : tie.Need-vote-entry-requires
-vote-entry-requires c κs = ap (λ (e : Entry). e .take) (c .vote-of .ensures)
+enter-requires : tie.Need-enter-requires
+enter-requires c κs = search needs
 
 returns : tie.Need-returns
-returns c = c .vote-entry .ensures ∙ ap (λ (e : Entry). enter (c .before .before .args .self) e) (c .before .vote-of .ensures)
+returns c = c .enter .ensures ∙ ap (λ (e : Entry). enter (c .before .before .args .self) e) (c .before .vote-of .ensures)
 
 pub vote-spec : {M : Type 1} → statement M
-vote-spec = tie.close (tie.spec vote-of-requires vote-entry-requires returns)
+vote-spec = tie.close (tie.spec vote-of-requires enter-requires returns)

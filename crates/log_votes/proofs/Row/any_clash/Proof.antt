@@ -4,6 +4,7 @@ use mathlib.Core.Path.{_≡_, refl, sym, _∙_}
 use native.Mathlib.Omega.{arith}
 use borrow.Author.Needs.{needs}
 use lib.ListN.{drop, length}
+use Rattle.log_entry.specs.Limits.{stores}
 use Rattle.log_votes.specs.Row.{noVote}
 use Rattle.log_votes.specs.Refusal.{isClash}
 use Rattle.log_votes.specs.Scan.{anyFrom}
@@ -13,10 +14,10 @@ use Rattle.log_votes.proofs.Row.any_clash.Statement.{statement}
 use Rattle.log_votes.proofs.Row.any_clash.Tie as tie
 
 abbrev Inv-loop : tie.InvT-loop
-Inv-loop e self i₀ i = (i ≤ 8) × (anyFrom (isClash e) 0 (self .votes) ≡ anyFrom (isClash e) i (drop i (self .votes)))
+Inv-loop e self i₀ i = (i ≤ stores) × (anyFrom (isClash e) 0 (self .votes) ≡ anyFrom (isClash e) i (drop i (self .votes)))
 
 abbrev μ-loop : tie.MeasureT-loop
-μ-loop e self i₀ i = 8 - i
+μ-loop e self i₀ i = stores - i
 
 loop-holds : tie.Need-loop-holds Inv-loop μ-loop
 loop-holds c = (omega arith, refl)
@@ -34,7 +35,7 @@ returns : tie.Need-returns Inv-loop μ-loop
 returns c =
     let s = c .before .before .before .before .before in
     let l = c .before .before .before .before .loop in
-    let n : length (s .args .t1 .votes) ≡ 8 = votes-length (s .args .t1) _ (s .good .0) in
+    let n : length (s .args .t1 .votes) ≡ stores = votes-length (s .args .t1) _ (s .good .0) in
     sym (l .inv .1 ∙ any-hit (isClash (s .args .e)) (s .args .t1 .votes) noVote (l .i) (omega arith) (sym (c .before .clashes .ensures) ∙ c .if1 .taken))
 
 add-i : tie.Need-add-i Inv-loop μ-loop
@@ -47,14 +48,14 @@ loop-again : tie.Need-loop-again Inv-loop μ-loop
 loop-again c =
     let s = c .before .before .before .before .before in
     let l = c .before .before .before .before .loop in
-    let n : length (s .args .t1 .votes) ≡ 8 = votes-length (s .args .t1) _ (s .good .0) in
+    let n : length (s .args .t1 .votes) ≡ stores = votes-length (s .args .t1) _ (s .good .0) in
     (omega arith, l .inv .1 ∙ any-miss (isClash (s .args .e)) (s .args .t1 .votes) noVote (l .i) (omega arith) (sym (c .before .clashes .ensures) ∙ c .if1 .left))
 
 returns-2 : tie.Need-returns-2 Inv-loop μ-loop
 returns-2 c =
     let s = c .before .before in
     let l = c .before .loop in
-    let n : length (s .args .t1 .votes) ≡ 8 = votes-length (s .args .t1) _ (s .good .0) in
+    let n : length (s .args .t1 .votes) ≡ stores = votes-length (s .args .t1) _ (s .good .0) in
     sym (l .inv .1 ∙ any-end (isClash (s .args .e)) (s .args .t1 .votes) noVote (l .i) (omega arith))
 
 pub any-clash-spec : {M : Type 1} → statement M

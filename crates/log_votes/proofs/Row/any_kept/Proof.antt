@@ -1,60 +1,18 @@
--- What is left to scan decides.
-use Prim.Native.Nat.{_-_, _≤_}
-use mathlib.Core.Path.{_≡_, refl, sym, _∙_}
-use native.Mathlib.Omega.{arith}
 use borrow.Author.Needs.{needs}
-use lib.ListN.{drop, length}
-use Rattle.log_votes.specs.Row.{noVote}
-use Rattle.log_votes.specs.Outcome.{isKept}
-use Rattle.log_votes.specs.Scan.{anyFrom}
-use Rattle.log_votes.proofs.Lengths.{votes-length}
-use Rattle.log_votes.proofs.ScanLaws.{any-end, any-hit, any-miss}
+use Prim.Native.Nat.{ℕ}
+use mathlib.Core.Bool.{not}
+use mathlib.Core.Path.{ap, _∙_}
+use lib.Dec.{eqb}
+use Rattle.log_votes.specs.declared.Vote.{Vote}
+use Rattle.log_votes.proofs.SetLaws.{any-in-set}
 use Rattle.log_votes.proofs.Row.any_kept.Statement.{statement}
 use Rattle.log_votes.proofs.Row.any_kept.Tie as tie
 
-abbrev Inv-loop : tie.InvT-loop
-Inv-loop self i₀ i = (i ≤ 8) × (anyFrom isKept 0 (self .votes) ≡ anyFrom isKept i (drop i (self .votes)))
+kept-set-requires : tie.Need-kept-set-requires
+kept-set-requires c κs = search needs
 
-abbrev μ-loop : tie.MeasureT-loop
-μ-loop self i₀ i = 8 - i
-
-loop-holds : tie.Need-loop-holds Inv-loop μ-loop
-loop-holds c = (omega arith, refl)
-
-mul-v : tie.Need-mul-v Inv-loop μ-loop
-mul-v c = omega arith
-
-element-copy-out-v : tie.Need-element-copy-out-v Inv-loop μ-loop
-element-copy-out-v c = omega arith
-
-returns : tie.Need-returns Inv-loop μ-loop
-returns c =
-    let s = c .before .before .before .before in
-    let l = c .before .before .before .loop in
-    let n : length (s .args .t1 .votes) ≡ 8 = votes-length (s .args .t1) _ (s .good .0) in
-    sym (l .inv .1 ∙ any-hit isKept (s .args .t1 .votes) noVote (l .i) (omega arith) (c .if1 .taken))
-
-add-i : tie.Need-add-i Inv-loop μ-loop
-add-i c = omega arith
-
-loop-less : tie.Need-loop-less Inv-loop μ-loop
-loop-less c = omega arith
-
-loop-again : tie.Need-loop-again Inv-loop μ-loop
-loop-again c =
-    let s = c .before .before .before .before in
-    let l = c .before .before .before .loop in
-    let n : length (s .args .t1 .votes) ≡ 8 = votes-length (s .args .t1) _ (s .good .0) in
-    (omega arith, l .inv .1 ∙ any-miss isKept (s .args .t1 .votes) noVote (l .i) (omega arith) (c .if1 .left))
-
-returns-2 : tie.Need-returns-2 Inv-loop μ-loop
-returns-2 c =
-    let s = c .before .before in
-    let l = c .before .loop in
-    let n : length (s .args .t1 .votes) ≡ 8 = votes-length (s .args .t1) _ (s .good .0) in
-    sym (l .inv .1 ∙ any-end isKept (s .args .t1 .votes) noVote (l .i) (omega arith))
+returns : tie.Need-returns
+returns c = ap (λ (k : ℕ). not (eqb k 0)) (c .kept-set .ensures) ∙ any-in-set (λ (v : Vote). v .kept) 0 (c .before .args .self .votes)
 
 pub any-kept-spec : {M : Type 1} → statement M
-any-kept-spec =
-    tie.close
-    (tie.spec Inv-loop μ-loop loop-holds mul-v element-copy-out-v returns add-i loop-less loop-again returns-2)
+any-kept-spec = tie.close (tie.spec kept-set-requires returns)

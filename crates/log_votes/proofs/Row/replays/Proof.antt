@@ -1,31 +1,24 @@
 use borrow.Author.Needs.{needs}
-use mathlib.Core.Path.{ap, sym, _∙_}
-use mathlib.Core.Bool.{and-false, _&&_}
+use mathlib.Core.Bool.{_&&_}
+use mathlib.Core.Path.{ap, _∙_}
 use borrow.Author.Tests.{eq-eqb, ne-eqb}
-use lib.Dec.{eqb}
 use Rattle.log_votes.specs.declared.Vote.{Vote}
-use Rattle.log_votes.proofs.Absent.{no-vote}
 use Rattle.log_votes.proofs.Row.replays.Statement.{statement}
 use Rattle.log_votes.proofs.Row.replays.Tie as tie
 
 returns : tie.Need-returns
-returns c = let a = c .before .args in rw (ne-eqb (a .t1 .group) (a .g) (c .if1 .taken))
+returns c = let a = c .before .before .args in rw (ne-eqb (a .self .group) (a .g) (c .if1 .taken))
 
-returns-2 : tie.Need-returns-2
-returns-2 c = let a = c .before .before in rw (eq-eqb (a .args .t1 .group) (a .args .g) (c .before .if1 .left)) (ap (λ (v : Vote). v .kept && v .commit) (no-vote (a .args .t1) _ (a .good .0) (a .args .store) (c .if2 .taken)))
-
-mul-v : tie.Need-mul-v
-mul-v c = search needs
-
-element-copy-out-v : tie.Need-element-copy-out-v
-element-copy-out-v c = search needs
+vote-of-requires : tie.Need-vote-of-requires
+vote-of-requires c κs = search needs
 
 is-commit-requires : tie.Need-is-commit-requires
 is-commit-requires c κs = search needs
 
-returns-3 : tie.Need-returns-3
-returns-3 c = let a = c .before .before .before .before in rw (eq-eqb (a .args .t1 .group) (a .args .g) (c .before .before .before .if1 .left)) (c .is-commit .ensures)
+returns-2 : tie.Need-returns-2
+returns-2 c =
+    let a = c .before .before .before .before .args in
+    rw (eq-eqb (a .self .group) (a .g) (c .before .before .if1 .left)) (c .is-commit .ensures ∙ ap (λ (v : Vote). v .kept && v .commit) (c .before .vote-of .ensures))
 
 pub replays-spec : {M : Type 1} → statement M
-replays-spec =
-    tie.close (tie.spec returns returns-2 mul-v element-copy-out-v is-commit-requires returns-3)
+replays-spec = tie.close (tie.spec returns vote-of-requires is-commit-requires returns-2)

@@ -1,0 +1,48 @@
+-- Document 01, "Hosts in C": the log after the records that a host lends.
+use Prim.Native.Nat.{ℕ, zero, suc, _*_}
+use mathlib.Core.Bool.{cond}
+use mathlib.Core.List.{List, [], _∷_}
+use lib.Dec.{eqb, ltb}
+use lib.ListN.{drop, length, take}
+use Rattle.log_entry.specs.Refusal.{accepted, outsideLimits}
+use Rattle.log_core.specs.declared.Entered.{Entered}
+use Rattle.log_core.specs.declared.Log.{Log}
+use Rattle.log_core.specs.Enter.{answered, enter}
+use Rattle.log_core.specs.Log.{emptyLog}
+use Rattle.host_records.specs.declared.Reading.{Reading}
+use Rattle.host_records.specs.declared.Reading.the-variants.{Of, Refused}
+use Rattle.host_records.specs.Record.{readRecord, recordSize}
+
+-- "A host lends the accepted entries so far, oldest first, and their count."
+unfoldable pub recordsIn : List ℕ → ℕ → List (List ℕ)
+recordsIn bytes zero = []
+recordsIn bytes (suc n) = take recordSize bytes ∷ recordsIn (drop recordSize bytes) n
+
+-- the number of a refusal that was read, 0 if none
+abbrev pub refusalIn : Reading → ℕ
+refusalIn (Of e) = accepted
+refusalIn (Refused n) = n
+
+-- what was read goes to the plain log: 1 or 2, or what the log says
+unfoldable pub enterReading : Log → Reading → Entered
+enterReading l (Of e) = enter l e
+enterReading l (Refused n) = answered l n
+
+-- "A lent record which the plain log refuses gives that record's refusal, the first one found"
+unfoldable pub logAfter : Log → List (List ℕ) → Entered
+logAfter l [] = answered l accepted
+logAfter l (r ∷ rs) =
+    cond (eqb (enterReading l (readRecord r) .answer) accepted)
+    (logAfter (enterReading l (readRecord r) .log) rs)
+    (enterReading l (readRecord r))
+
+-- the first `count` records of a buffer, entered into the empty log
+abbrev pub recordsEntered : List ℕ → ℕ → Entered
+recordsEntered bytes count = logAfter emptyLog (recordsIn bytes count)
+
+-- "the count is tried first", "a count beyond the buffer 2"
+unfoldable pub lentLog : List ℕ → ℕ → Entered
+lentLog bytes count =
+    cond (ltb (length bytes) (count * recordSize))
+    (answered emptyLog outsideLimits)
+    (recordsEntered bytes count)

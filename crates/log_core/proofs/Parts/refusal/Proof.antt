@@ -1,0 +1,52 @@
+use borrow.Author.Needs.{needs}
+use mathlib.Core.Bool.{false}
+use mathlib.Core.Path.{_≡_, sym, _∙_}
+use Rattle.log_entry.specs.Entry.{outside}
+use Rattle.log_entry.proofs.InsideLaws.{inside-vote}
+use Rattle.log_core.proofs.DecideLaws.{answer-held, answer-outside, answer-taken, answer-vote}
+use Rattle.log_core.proofs.Parts.refusal.Statement.{statement}
+use Rattle.log_core.proofs.Parts.refusal.Tie as tie
+
+inside : (c : tie.Else1) → outside (c .before .before .args .e) ≡ false
+inside c = sym (c .before .outside .ensures) ∙ c .if1 .left
+
+outside-requires : tie.Need-outside-requires
+outside-requires c κs = search needs
+
+returns : tie.Need-returns
+returns c = answer-outside (c .before .before .args .self) (c .before .before .args .e) (sym (c .before .outside .ensures) ∙ c .if1 .taken)
+
+holds-or-held-requires : tie.Need-holds-or-held-requires
+holds-or-held-requires c κs = search needs
+
+returns-2 : tie.Need-returns-2
+returns-2 c = answer-held (c .before .before .before .before .before .before .args .self) (c .before .before .before .before .before .before .args .e) (sym (c .before .before .before .before .before .outside .ensures) ∙ c .before .before .before .before .if1 .left) (c .before .before .if2 .taken) (sym (c .before .holds-or-held .ensures) ∙ c .if3 .taken)
+
+returns-3 : tie.Need-returns-3
+returns-3 c = answer-taken (c .before .before .before .before .before .before .args .self) (c .before .before .before .before .before .before .args .e) (sym (c .before .before .before .before .before .outside .ensures) ∙ c .before .before .before .before .if1 .left) (c .before .before .if2 .taken) (sym (c .before .holds-or-held .ensures) ∙ c .if3 .left)
+
+cast-vote-refusal : tie.Need-cast-vote-refusal
+cast-vote-refusal c = search needs
+
+array-read-vote-refusal : tie.Need-array-read-vote-refusal
+array-read-vote-refusal c = inside-vote (c .before .before .before .before .before .args .e) (sym (c .before .before .before .before .outside .ensures) ∙ c .before .before .before .if1 .left) (c .before .if2 .left) .by
+
+vote-refusal-requires : tie.Need-vote-refusal-requires
+vote-refusal-requires c κs = search needs
+
+returns-4 : tie.Need-returns-4
+returns-4 c = c .vote-refusal .ensures ∙ answer-vote (c .before .before .before .before .before .before .args .self) (c .before .before .before .before .before .before .args .e) (sym (c .before .before .before .before .before .outside .ensures) ∙ c .before .before .before .before .if1 .left) (c .before .before .if2 .left)
+
+pub refusal-spec : {M : Type 1} → statement M
+refusal-spec =
+    tie.close
+    (tie.spec
+    outside-requires
+    returns
+    holds-or-held-requires
+    returns-2
+    returns-3
+    cast-vote-refusal
+    array-read-vote-refusal
+    vote-refusal-requires
+    returns-4)

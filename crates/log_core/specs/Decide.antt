@@ -1,0 +1,63 @@
+-- An entry is decided on the few parts of the log that it concerns: what it is answered, and what
+-- it changes.
+use Prim.Native.Nat.{ℕ}
+use mathlib.Core.Bool.{Bool, _&&_, not, cond}
+use mathlib.Core.List.{_∷_}
+use lib.Dec.{eqb}
+use lib.ListN.{getD}
+use Rattle.log_entry.specs.declared.Entry.{Entry}
+use Rattle.log_entry.specs.Bits.{has}
+use Rattle.log_entry.specs.Entry.{outside}
+use Rattle.log_entry.specs.Refusal.{accepted, check, firstRefusal, outsideLimits}
+use Rattle.log_votes.specs.declared.Row.{Row}
+use Rattle.log_votes.specs.Outcome.{isCommitted, outcomeOfVotes}
+use Rattle.log_votes.specs.Refusal.{voteChecks}
+use Rattle.log_votes.specs.Row.{inGroup, keeping}
+use Rattle.log_core.specs.declared.Effect.{Effect}
+use Rattle.log_core.specs.declared.Log.{Log}
+use Rattle.log_core.specs.declared.Parts.{Parts}
+use Rattle.log_core.specs.Group.{nextGroup, remembered}
+use Rattle.log_core.specs.Log.{rowOf}
+use Rattle.log_core.specs.Refusal.{takeChecks}
+
+-- the parts of the log that an entry is decided on
+abbrev pub partsOf : Log → Entry → Parts
+partsOf l e = record {
+  row = rowOf l (e .tx);
+  holders = l .holders;
+  takers = getD (l .takers) (e .store) 0;
+  groups = l .groups;
+  remembered = remembered l (l .groups);
+}
+
+-- the answer to an entry: 2, then 11 of a take, and 7 to 10 of a vote
+unfoldable pub refusal : Parts → Entry → ℕ
+refusal p e =
+    firstRefusal
+    (check outsideLimits (outside e)
+    ∷ cond (e .take) (takeChecks (p .holders) (p .takers) e) (voteChecks (p .row) (getD (p .holders) (e .by) 0) e))
+
+-- "An accepted vote is kept for good."
+abbrev pub keeps : Parts → Entry → Bool
+keeps p e = eqb (refusal p e) accepted && not (e .take)
+
+-- the outcome is commit with the vote
+abbrev pub commits : Parts → Entry → Bool
+commits p e = isCommitted (outcomeOfVotes (keeping (p .row) e .votes))
+
+-- "the transaction was running when the last group was begun"
+abbrev pub joins : Parts → Entry → Bool
+joins p e = has (p .remembered) (e .tx)
+
+-- the row with the vote: "At a commit: .. it joins that group; else it begins a new group"
+abbrev pub rowAfter : Parts → Entry → Row
+rowAfter p e =
+    inGroup (keeping (p .row) e)
+    (cond (commits p e) (cond (joins p e) (p .groups) (nextGroup (p .groups))) (p .row .group))
+
+unfoldable pub effectOf : Parts → Entry → Effect
+effectOf p e = record {
+  answer = refusal p e;
+  row = cond (keeps p e) (rowAfter p e) (p .row);
+  begins = keeps p e && commits p e && not (joins p e);
+}
