@@ -1,4 +1,5 @@
--- Lists of steps at whose end two coordinators have applied one instance: their logs say the same, each time for another reason.
+-- Lists of steps at whose end two coordinators have applied one instance: their logs say the same,
+-- each time for another reason.
 use Prim.Native.Nat.{ℕ}
 use mathlib.Core.Path.{_≡_, refl}
 use mathlib.Core.List.{List, [], _∷_}
@@ -12,7 +13,8 @@ use Rattle.model_protocol.proofs.Compute.{computed}
 abbrev holdersBy : ℕ → List ℕ
 holdersBy p = p ∷ 0 ∷ 0 ∷ 0 ∷ 0 ∷ 0 ∷ 0 ∷ 0 ∷ []
 
--- j and k have applied one instance, and by the logs of both process p holds store 0, and nobody another one
+-- j and k have applied one instance, and by the logs of both process p holds store 0, and nobody
+-- another one
 abbrev Agree : World → ℕ → ℕ → ℕ → Type 0
 Agree w j k p =
     (coordinatorOf w j .applied ≡ 1)
@@ -50,8 +52,9 @@ highest =
     -- acceptors 2, 3 and 4 accept that of 1 under ballot 4
     ∷ Open 1 0 4 ∷ Deliver 19 ∷ Deliver 20 ∷ Deliver 21 ∷ Deliver 22 ∷ Deliver 23 ∷ Deliver 24 ∷ Propose 1 0 4 ∷ Deliver 27 ∷ Deliver 28
     ∷ Deliver 29 ∷ Deliver 30 ∷ Deliver 31 ∷ Deliver 32
-    -- 2 hears the promises of 0, 1 and 2 under ballot 5: two of three carry the batch of ballot 3
-    ∷ Open 2 0 5 ∷ Deliver 33 ∷ Deliver 34 ∷ Deliver 35 ∷ Deliver 38 ∷ Deliver 39 ∷ Deliver 40 ∷ Propose 2 0 5 ∷ Deliver 41 ∷ Deliver 42
+    -- 2 hears the promises of 0, 2 and 1 under ballot 5: the first and the last carry the batch of
+    -- ballot 3
+    ∷ Open 2 0 5 ∷ Deliver 33 ∷ Deliver 34 ∷ Deliver 35 ∷ Deliver 38 ∷ Deliver 40 ∷ Deliver 39 ∷ Propose 2 0 5 ∷ Deliver 41 ∷ Deliver 42
     ∷ Deliver 43 ∷ Deliver 46 ∷ Deliver 47 ∷ Deliver 48
     ∷ []
 

@@ -10,7 +10,7 @@ use Rattle.log_core.specs.declared.Replayed.{Replayed}
 use Rattle.model_protocol.specs.declared.Message.{Message}
 use Rattle.model_protocol.specs.declared.World.{World}
 use Rattle.model_protocol.specs.Queue.{queued}
-use Rattle.model_protocol.specs.Tables.{Holds, Tried, acceptPromises, answersTheDown, asDefined, ballotsOfOne, beforeSetup, downAndBelief, fullQueue, learnsAnothers, numbersUsed, ofFive, opensWithThree, proposesWithThree, restoredOnce, stepsOf, takenOver, threeLeft, told}
+use Rattle.model_protocol.specs.Tables.{Holds, Tried, acceptPromises, answersTheDown, asDefined, ballotsOfOne, beforeSetup, downAndBelief, fullQueue, learnsAnothers, numbersUsed, ofFive, opensWithThree, otherInstance, proposesWithThree, receiversDown, restoredOnce, stepsOf, takenOver, threeLeft, told}
 use Rattle.model_protocol.specs.World.{coordinatorOf, logOf, messageOf, processOf, slotOf}
 use Rattle.model_protocol.proofs.Compute.{computed}
 
@@ -46,6 +46,10 @@ pub full-queue : Holds fullQueue
 unfolding computed asDefined fullQueue
 full-queue = refl
 
+pub other-instance : Holds (restoredOnce ++ otherInstance)
+unfolding computed asDefined restoredOnce otherInstance
+other-instance = refl
+
 pub learns-anothers : Holds learnsAnothers
 unfolding computed asDefined learnsAnothers
 learns-anothers = refl
@@ -61,6 +65,10 @@ answers-the-down = refl
 pub told-answers : Holds (restoredOnce ++ told)
 unfolding computed asDefined restoredOnce told
 told-answers = refl
+
+pub receivers-down : Holds (restoredOnce ++ told ++ receiversDown)
+unfolding computed asDefined restoredOnce told receiversDown
+receivers-down = refl
 
 pub taken-over-answers : Holds (restoredOnce ++ takenOver)
 unfolding computed asDefined restoredOnce takenOver

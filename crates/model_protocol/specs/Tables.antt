@@ -129,41 +129,42 @@ downAndBelief =
 
 -- ---- 6: fewer message numbers left than the step sends; 5 before 6 before 7
 
--- after that a take is queued, and coordinator 0 opens 36 ballots of instance 1. Acceptors 0 and 1
--- promise the last one. Of 128 numbers 125 are used
+-- after that a take is queued, acceptor 2 promises ballot 4 of instance 0, and coordinator 0 opens
+-- 35 ballots of instance 1. Acceptors 0 and 1 promise the last one. Of 128 numbers 125 are used
 unfoldable pub threeLeft : List Tried
 threeLeft =
-    (Request (takeEntry 2 1) 0 gives 0) ∷ (Deliver 12 gives 0)
+    (Request (takeEntry 2 1) 0 gives 0) ∷ (Deliver 12 gives 0) ∷ (Open 1 0 4 gives 0) ∷ (Deliver 15 gives 0)
     ∷ (Open 0 1 3 gives 0) ∷ (Open 0 1 6 gives 0) ∷ (Open 0 1 9 gives 0) ∷ (Open 0 1 12 gives 0) ∷ (Open 0 1 15 gives 0) ∷ (Open 0 1 18 gives 0)
     ∷ (Open 0 1 21 gives 0) ∷ (Open 0 1 24 gives 0) ∷ (Open 0 1 27 gives 0) ∷ (Open 0 1 30 gives 0) ∷ (Open 0 1 33 gives 0) ∷ (Open 0 1 36 gives 0)
     ∷ (Open 0 1 39 gives 0) ∷ (Open 0 1 42 gives 0) ∷ (Open 0 1 45 gives 0) ∷ (Open 0 1 48 gives 0) ∷ (Open 0 1 51 gives 0) ∷ (Open 0 1 54 gives 0)
     ∷ (Open 0 1 57 gives 0) ∷ (Open 0 1 60 gives 0) ∷ (Open 0 1 63 gives 0) ∷ (Open 0 1 66 gives 0) ∷ (Open 0 1 69 gives 0) ∷ (Open 0 1 72 gives 0)
     ∷ (Open 0 1 75 gives 0) ∷ (Open 0 1 78 gives 0) ∷ (Open 0 1 81 gives 0) ∷ (Open 0 1 84 gives 0) ∷ (Open 0 1 87 gives 0) ∷ (Open 0 1 90 gives 0)
-    ∷ (Open 0 1 93 gives 0) ∷ (Open 0 1 96 gives 0) ∷ (Open 0 1 99 gives 0) ∷ (Open 0 1 102 gives 0) ∷ (Open 0 1 105 gives 0) ∷ (Open 0 1 108 gives 0)
-    ∷ (Deliver 118 gives 0) ∷ (Deliver 119 gives 0) ∷ (Deliver 121 gives 0) ∷ (Deliver 122 gives 0)
-    ∷ (Request (takeEntry 3 2) 0 gives 0) ∷ (Request (takeEntry 4 3) 0 gives 0)
+    ∷ (Open 0 1 93 gives 0) ∷ (Open 0 1 96 gives 0) ∷ (Open 0 1 99 gives 0) ∷ (Open 0 1 102 gives 0) ∷ (Open 0 1 105 gives 0)
+    ∷ (Deliver 119 gives 0) ∷ (Deliver 120 gives 0) ∷ (Deliver 122 gives 0) ∷ (Deliver 123 gives 0) ∷ (Request (takeEntry 3 2) 0 gives 0)
     ∷ []
 
 -- three are enough to propose
 unfoldable pub proposesWithThree : List Tried
-proposesWithThree = (Propose 0 1 108 gives 0) ∷ (Request (takeEntry 5 4) 0 gives 6) ∷ []
+proposesWithThree = (Propose 0 1 105 gives 0) ∷ (Request (takeEntry 5 4) 0 gives 6) ∷ []
 
 -- and to open
 unfoldable pub opensWithThree : List Tried
-opensWithThree = (Open 0 1 111 gives 0) ∷ (Request (takeEntry 5 4) 0 gives 6) ∷ []
+opensWithThree = (Open 0 1 108 gives 0) ∷ (Request (takeEntry 5 4) 0 gives 6) ∷ []
 
 unfoldable pub numbersUsed : List Tried
 numbersUsed =
     -- two are left
     (Request (takeEntry 5 4) 0 gives 0)
-    ∷ (Open 0 1 111 gives 6) ∷ (Propose 0 1 108 gives 6) ∷ (Open 0 1 112 gives 5) ∷ (Propose 0 1 111 gives 5)
+    ∷ (Open 0 1 108 gives 6) ∷ (Propose 0 1 105 gives 6) ∷ (Open 0 1 109 gives 5) ∷ (Propose 0 1 108 gives 5)
     ∷ (Request (takeEntry 6 5) 0 gives 0) ∷ (Request (takeEntry 7 6) 0 gives 0)
     -- none is left
     ∷ (Request (takeEntry 8 7) 0 gives 6) ∷ (Request (voteEntry 1 0 0 4 0x02 true 10) 0 gives 6) ∷ (Request (voteEntry 1 1 0 4 0x02 true 10) 0 gives 5)
     ∷ (Restore 0 1 gives 6) ∷ (Restore 0 2 gives 5) ∷ (Tell 0 1 4 gives 5)
-    -- a promise and an acceptance need one; a prepare that does nothing and the other messages none
-    ∷ (Deliver 120 gives 6) ∷ (Deliver 6 gives 6) ∷ (Deliver 1 gives 0) ∷ (Deliver 9 gives 0) ∷ (Deliver 4 gives 0) ∷ (Deliver 11 gives 0)
-    ∷ (Deliver 123 gives 0) ∷ (Crash Acceptor 2 gives 0) ∷ (Deliver 120 gives 3) ∷ (Crash Proc 1 gives 0) ∷ (Restore 0 1 gives 3)
+    -- a promise and an acceptance need one; a prepare or an accept that does nothing and the other
+    -- messages need none
+    ∷ (Deliver 121 gives 6) ∷ (Deliver 6 gives 6) ∷ (Deliver 1 gives 0) ∷ (Deliver 8 gives 0) ∷ (Deliver 9 gives 0) ∷ (Deliver 4 gives 0)
+    ∷ (Deliver 11 gives 0) ∷ (Deliver 124 gives 0) ∷ (Crash Acceptor 2 gives 0) ∷ (Deliver 121 gives 3) ∷ (Crash Proc 1 gives 0)
+    ∷ (Restore 0 1 gives 3)
     ∷ []
 
 -- ---- 6: a full queue for a new entry
@@ -182,6 +183,15 @@ fullQueue =
     -- the first four are proposed and learned, and then there is place
     ∷ (Open 0 0 3 gives 0) ∷ (Deliver 10 gives 0) ∷ (Deliver 11 gives 0) ∷ (Deliver 13 gives 0) ∷ (Deliver 14 gives 0) ∷ (Propose 0 0 3 gives 0)
     ∷ (Deliver 15 gives 0) ∷ (Deliver 16 gives 0) ∷ (Deliver 18 gives 0) ∷ (Deliver 8 gives 6) ∷ (Deliver 19 gives 0) ∷ (Deliver 8 gives 0)
+    ∷ []
+
+-- ---- promises and acceptances for another instance, under the same ballot, are passed over
+
+unfoldable pub otherInstance : List Tried
+otherInstance =
+    (Request (takeEntry 2 1) 0 gives 0) ∷ (Deliver 12 gives 0) ∷ (Open 0 1 3 gives 0) ∷ (Deliver 4 gives 0) ∷ (Deliver 5 gives 0)
+    ∷ (Propose 0 1 3 gives 5) ∷ (Deliver 13 gives 0) ∷ (Deliver 14 gives 0) ∷ (Deliver 16 gives 0) ∷ (Deliver 17 gives 0)
+    ∷ (Propose 0 1 3 gives 0) ∷ (Deliver 9 gives 0) ∷ (Deliver 10 gives 0) ∷ (Open 0 2 3 gives 5) ∷ (Open 0 1 6 gives 0)
     ∷ []
 
 -- ---- a batch that another coordinator proposed is learned: its entries leave the queue of coordinator 1
@@ -236,6 +246,18 @@ told =
     ∷ (Tell 0 1 4 gives 0) ∷ (Tell 0 2 5 gives 0) ∷ (Tell 0 1 6 gives 0) ∷ (Deliver 26 gives 0) ∷ (Deliver 27 gives 0) ∷ (Deliver 28 gives 0)
     -- the store is restored again, and the older restore comes once more
     ∷ (Restore 0 1 gives 0) ∷ (Deliver 29 gives 0) ∷ (Deliver 11 gives 0)
+    ∷ []
+
+-- ---- after that: 3 looks at the receiver alone, and not at the sender
+
+unfoldable pub receiversDown : List Tried
+receiversDown =
+    -- acceptor 0: a prepare and an accept to it; its promise and its acceptance
+    (Crash Acceptor 0 gives 0) ∷ (Deliver 16 gives 3) ∷ (Deliver 21 gives 3) ∷ (Deliver 19 gives 0) ∷ (Deliver 24 gives 0)
+    -- process 1: a tell and a restore to it, a tell to another; its request
+    ∷ (Deliver 26 gives 0) ∷ (Crash Proc 1 gives 0) ∷ (Deliver 26 gives 3) ∷ (Deliver 29 gives 3) ∷ (Deliver 27 gives 0) ∷ (Deliver 12 gives 0)
+    -- coordinator 0: a request, a promise and an acceptance to it; its tell
+    ∷ (Crash Coord 0 gives 0) ∷ (Deliver 12 gives 3) ∷ (Deliver 19 gives 3) ∷ (Deliver 24 gives 3) ∷ (Deliver 27 gives 0)
     ∷ []
 
 -- ---- after a restore: process 2 takes the store over, and process 1 takes another
