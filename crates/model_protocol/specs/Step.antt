@@ -76,7 +76,8 @@ cannotPropose n k i b =
 -- the refusals after 2, by the parts that the step touches. A message that was not sent has no receiver, so 4 is tried before 3
 unfoldable pub stepChecks : Parts → Step → List Check
 stepChecks p (Setup n) = check notMet (not (notSetUp p)) ∷ []
--- "A sent vote meets 1, 2, 3, 5, 6, 7": of those, 5 and 7 are no matter of a take
+-- "A sent vote meets 1, 2, 3, 5, 6, 7". A sent take meets 5 too, where there was no setup, but not
+-- 7, and nobody asks what its process believes
 stepChecks p (Request e to) =
     check partyDown (isDown (p .down) Proc (e .process) || isDown (p .down) Coord to)
     ∷ check notMet (notSetUp p || voterNotHolder e (p .process))
