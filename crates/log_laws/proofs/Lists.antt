@@ -35,7 +35,7 @@ module _ {A : Type 0} where
   in-at d x (y ∷ xs) (inl e) = (0, omega arith, sym e)
   in-at d x (y ∷ xs) (inr h) = let r = in-at d x xs h in (suc (r .0), omega (arith, r .1), r .2)
 
-  -- each element stands before those behind it
+  -- each element stands before those after it
   module _ (Before : A → A → Type 0) where
     abbrev pub Sorted : List A → Type 0
     Sorted [] = Unit {0}

@@ -1,4 +1,4 @@
--- A transaction's row: what holds of each row of a log that entries lead to, and that an accepted
+-- A transaction's row: what holds of each row of a reachable log, and that an accepted
 -- vote keeps it so.
 use Prim.Native.Nat.{ℕ, _<_}
 use mathlib.Core.Path.{_≡_, refl, sym, subst, _∙_}

@@ -1,4 +1,4 @@
--- What holds of every log that entries lead to.
+-- What holds of every reachable log.
 use Prim.Native.Nat.{ℕ}
 use mathlib.Core.List.{List, [], _∷_}
 use Rattle.log_entry.specs.declared.Entry.{Entry}

@@ -1,5 +1,5 @@
--- The logs of these theorems: every log that a list of entries leads to from the empty one, refused
--- entries skipped.
+-- The logs of these theorems: every reachable log, which is the empty one fed a list of entries,
+-- refused ones skipped.
 use mathlib.Core.List.{List}
 use Rattle.log_entry.specs.declared.Entry.{Entry}
 use Rattle.log_core.specs.declared.Log.{Log}

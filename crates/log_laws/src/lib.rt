@@ -1,1 +1,1 @@
-// No code: the theorems about the definitions of commit_log.
+// No code: the theorems about the definitions of the log.

@@ -23,7 +23,7 @@ module _ {A : Type 0} where
       go f (inl p) = List·Memᴰ·head p
       go f (inr s) = List·Memᴰ·tail (f s)
 
-  -- one more is stored behind the first n
+  -- one more is stored after the first n
   pub in-stored : {e : A} (n : ℕ) (l : List A) (x : A) → List·Memᴰ e (take (suc n) (set l n x)) → List·Memᴰ e (take n l) ⊎ (e ≡ x)
   in-stored zero [] x s = absurd (List·Memᴰ·not-nil s)
   in-stored zero (y ∷ l) x s = go (List·Memᴰ·cases-cons s)

@@ -25,7 +25,7 @@ use Rattle.model_agreement.specs.Content.{Content, contentOf, paxos, req
 -- ---- "Opened, sent and delivered mean by a step answered 0."
 
 pub data Event : Type 0 where
-  -- there are so many acceptors
+  -- the number of acceptors
   setup : ℕ → Event
   -- an entry was sent by a `take` or `vote`
   asked : Entry → Event
