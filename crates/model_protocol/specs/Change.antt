@@ -42,7 +42,7 @@ processNow p h = parts (p .acceptors) (p .sent) (p .down) (p .coordinator) (p .s
 abbrev pub withoutMessages : Parts → ℕ → Change
 withoutMessages p answer = record { answer = answer; parts = p; count = 0; message = noMessage; learned = noBatch }
 
--- the step is accepted, the parts are these, and so many messages are sent
+-- the step is accepted, the parts are these, and n messages are sent
 abbrev pub sending : Parts → ℕ → Message → Change
 sending p n m = record { answer = accepted; parts = p; count = n; message = m; learned = noBatch }
 

@@ -76,7 +76,7 @@ counting r a = record {
 }
 
 -- "When a majority accepted, the batch is applied": one instance more; the batch is for its log. "Queue entries equal to an entry of the
--- learned batch leave". Instances end at 15, so the least of the two is the first one in every world that steps lead to.
+-- learned batch leave". In every reachable world there are fewer than 16 here, so the cap never applies.
 unfoldable pub learning : Coordinator → Coordinator
 learning c = record {
   applied = min (c .applied + 1) instances;

@@ -11,7 +11,7 @@ use Rattle.model_protocol.specs.World.{withMessage}
 abbrev pub lacksNumbers : ℕ → ℕ → Bool
 lacksNumbers sent n = ltb (messages - sent) n
 
--- so many messages, by their number among them
+-- n messages, by their number among them
 unfoldable pub sendToAll : World → ℕ → (ℕ → Message) → World
 sendToAll w ℕ.zero message = w
 sendToAll w (suc n) message = withMessage (sendToAll w n message) (message n)

@@ -43,7 +43,7 @@ noParty acceptors Acceptor id = leb acceptors id
 noParty acceptors Coord id = noCoordinator id
 noParty acceptors Proc id = noProcess id
 
--- 2: a number of the step is outside its limits, where so many acceptors count
+-- 2: a number of the step is outside its limits, where this many acceptors count
 unfoldable pub outsideStep : ℕ → Step → Bool
 outsideStep acceptors (Setup n) = not (eqb n fewestAcceptors || eqb n mostAcceptors)
 outsideStep acceptors (Request e to) = outside e || noCoordinator to

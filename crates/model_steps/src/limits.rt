@@ -87,7 +87,7 @@ fn no_party(acceptors: u8, role: Role, id: u8) -> bool
     }
 }
 
-// Refusal 2, where so many acceptors count.
+// Refusal 2, where this many acceptors count.
 pub fn outside(acceptors: u8, s: Step) -> bool
     ensures { λ r. ⌜ r ≡ outsideStep acceptors s ⌝ }
 {

@@ -96,7 +96,7 @@ unfolding readHex
 hex-end s ℕ.zero n h = refl
 hex-end s (suc left) n h = absurd (omega arith)
 
--- one digit more after so many; with eight, the number fits 32 bits
+-- one digit more after n of them; with eight, the number fits 32 bits
 pub hex-grown : (done n d : ℕ) → n < 16 ^ done → d < 16 → n * 16 + d < 16 ^ (done + 1)
 hex-grown done n d h k = rw (add-one, pow-suc) (omega arith)
 

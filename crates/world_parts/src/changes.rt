@@ -21,7 +21,7 @@ pub fn without_messages(p: Parts, answer: u8) -> Change
     }
 }
 
-// The parts are these now, and so many messages are sent.
+// The parts are these now, and `count` messages are sent.
 pub fn sending(p: Parts, count: u8, m: Message) -> Change
     ensures { λ r. ⌜ r ≡ sending p count m ⌝ }
 {

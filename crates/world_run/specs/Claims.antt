@@ -44,7 +44,7 @@ lineTaken w line = carriedOut w (commandOf line)
 abbrev pub FewCount : World → Type 0
 FewCount w = acceptorsCounted (w .acceptors) ≤ byteNumbers
 
--- It is so in every world that steps lead to.
+-- It is so in every reachable world.
 abbrev pub FewCounted : Type 0
 FewCounted = (steps : List Step) → FewCount (run freshWorld steps)
 
