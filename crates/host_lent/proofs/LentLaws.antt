@@ -10,6 +10,8 @@ use lib.ListN.{drop, length, take}
 use lib.Seq.{drop-drop}
 use Rattle.log_entry.specs.declared.Entry.{Entry}
 use Rattle.log_entry.specs.Refusal.{accepted, outsideLimits}
+use Rattle.log_votes.specs.declared.Row.{Row}
+use Rattle.log_votes.specs.Row.{inGroup, keeping}
 use Rattle.log_core.proofs.EnterLaws.{stored-group, stored-row}
 use Rattle.log_core.specs.declared.Effect.{Effect}
 use Rattle.log_core.specs.declared.Entered.{Entered}
@@ -19,7 +21,7 @@ use Rattle.log_core.specs.Group.{runningSet}
 use Rattle.host_records.specs.declared.Reading.{Reading}
 use Rattle.host_records.specs.declared.Reading.the-variants.{Of, Refused}
 use Rattle.host_records.specs.Record.{readRecord, recordSize}
-use Rattle.log_core.specs.Log.{emptyLog, withGroup, withRow}
+use Rattle.log_core.specs.Log.{emptyLog, rowOf, withGroup, withRow}
 use Rattle.host_lent.specs.Lent.{enterReading, lentLog, logAfter, recordsEntered, recordsIn}
 
 module _ (l : Log) {r : Reading} where
@@ -38,18 +40,23 @@ parts h = (ap (λ (t : Entered). t .log) h, ap (λ (t : Entered). t .answer) h)
 pub whole-of : {l : Log} {n : ℕ} {t : Entered} → l ≡ t .log → n ≡ t .answer → answered l n ≡ t
 whole-of h k = λ i. record { log = h i; answer = k i }
 
--- the effect of an accepted vote, stored at the place of its row
+-- the effect of an accepted vote, stored at the place of its row; r is the row with the vote kept
 module _ (l : Log) (e : Entry) (f : Effect) (vote : e .take ≡ false) {at : ℕ} (place : at ≡ cond (e .take) 0 (e .tx)) where
-  own-place : at ≡ e .tx
+  pub own-place : at ≡ e .tx
   own-place = place ∙ ap (λ (b : Bool). cond b 0 (e .tx)) vote
 
-  pub row-stored : f .begins ≡ false → withRow l at (f .row) ≡ stored l e f
-  row-stored h = ap (λ (t : ℕ). withRow l t (f .row)) own-place ∙ stored-row l e f vote h
+  module _ {r : Row} (is : r ≡ keeping (rowOf l at) e) where
+    own-row : r ≡ keeping (rowOf l (e .tx)) e
+    own-row = is ∙ ap (λ (t : ℕ). keeping (rowOf l t) e) own-place
 
-  pub group-stored : f .begins ≡ true → (running : ℕ) → running ≡ runningSet (l .rows)
-      → withGroup (withRow l at (f .row)) (f .row .group) running ≡ stored l e f
-  group-stored h running is =
-      ap (λ (t : ℕ). withGroup (withRow l t (f .row)) (f .row .group) running) own-place ∙ stored-group l e f vote h running is
+    pub row-stored : f .begins ≡ false → withRow l at (inGroup r (f .group)) ≡ stored l e f
+    row-stored h = ap (λ (t : ℕ). withRow l t (inGroup r (f .group))) own-place ∙ stored-row l e f vote own-row h
+
+    pub group-stored : f .begins ≡ true → (running : ℕ) → running ≡ runningSet (l .rows)
+        → withGroup (withRow l at (inGroup r (f .group))) (f .group) running ≡ stored l e f
+    group-stored h running runs =
+        ap (λ (t : ℕ). withGroup (withRow l t (inGroup r (f .group))) (f .group) running) own-place
+        ∙ stored-group l e f vote own-row h running runs
 
 module _ (bytes : List ℕ) (count : ℕ) where
   pub count-beyond : length bytes / recordSize < count → answered emptyLog outsideLimits ≡ lentLog bytes count

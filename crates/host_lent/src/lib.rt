@@ -1,7 +1,10 @@
 // The log after the records that a host lends. Document 01, "Hosts in C".
+ghost use mathlib.Core.Bool.{cond};
 ghost use mathlib.Core.Path.{_≡_};
-ghost use Prim.Native.Nat.{_*_, _≤_};
+ghost use Prim.Native.Nat.{_*_, _+_, _-_, _<_, _^_, _≤_};
 ghost use lib.ListN.{length};
+ghost use Rattle.log_entry.specs.Bits.{has};
+ghost use Rattle.log_entry.specs.Limits.{transactions};
 ghost use Rattle.log_votes.specs.Row.{emptyRow};
 ghost use Rattle.host_records.specs.Record.{recordSize};
 ghost use Rattle.host_lent.specs.Lent.{lentLog, recordsEntered, refusalIn};
@@ -15,6 +18,7 @@ use log_entry::limits::STORE_PLACES;
 use log_entry::limits::TRANSACTION_PLACES;
 use log_entry::refusal::ACCEPTED;
 use log_entry::refusal::OUTSIDE_LIMITS;
+use log_entry::sets;
 use log_votes::Row;
 
 // The number of a refusal that was read.
@@ -27,9 +31,30 @@ fn refusal_in(reading: Reading) -> u8
     }
 }
 
+// The set of running transactions, with this one in it if it runs, and else without.
+fn noted(running: u32, tx: u8, runs: bool) -> u32
+    requires { ⌜ tx < transactions ⌝ }
+    requires { ⌜ cond (has running tx) (2 ^ tx) 0 ≤ running ⌝ }
+    requires { ⌜ running - cond (has running tx) (2 ^ tx) 0 + cond runs (2 ^ tx) 0 < 2 ^ 32 ⌝ }
+    ensures { λ r. ⌜ r ≡ running - cond (has running tx) (2 ^ tx) 0 + cond runs (2 ^ tx) 0 ⌝ }
+{
+    let bit = 1u32 << tx;
+    if sets::has32(running, tx) {
+        if runs {
+            return running;
+        }
+        return running - bit;
+    }
+    if runs {
+        return running + bit;
+    }
+    running
+}
+
 // The log after records that are within the buffer, and the answer. Each effect is stored in place,
-// so that no record copies the log. The row without votes is a parameter, so that the compiler
-// copies it as one piece.
+// so that no record copies the log; `running` is the set of the running transactions, so that a
+// group that is begun need not look for them. The row without votes is a parameter, so that the
+// compiler copies it as one piece.
 fn entered(none: Row, lent: &[u8], count: usize, answer: &mut u8) -> Log
     requires { ⌜ none ≡ emptyRow ⌝ }
     requires { ⌜ count * recordSize ≤ length (now lent) ⌝ }
@@ -43,6 +68,7 @@ fn entered(none: Row, lent: &[u8], count: usize, answer: &mut u8) -> Log
         groups: 0,
         remembered: [0; TRANSACTION_PLACES],
     };
+    let mut running: u32 = 0;
     let mut at: usize = 0;
     let mut left = count;
     while 0 < left {
@@ -74,17 +100,19 @@ fn entered(none: Row, lent: &[u8], count: usize, answer: &mut u8) -> Log
             log.takers[store] = log.takers[store] | (1u16 << e.process);
             continue;
         }
-        let row = f.row;
+        let old = log.rows[tx];
+        let mut row = old.keeping(e);
+        row.group = f.group;
+        let after = noted(running, e.tx, row.running());
+        log.rows[tx] = row;
         if !f.begins {
-            log.rows[tx] = row;
+            running = after;
             continue;
         }
-        let running = log.running_set();
-        let g = row.group;
-        log.rows[tx] = row;
-        log.groups = g;
-        let i = g - 1;
+        log.groups = f.group;
+        let i = f.group - 1;
         log.remembered[i as usize] = running;
+        running = after;
     }
     *answer = ACCEPTED;
     log

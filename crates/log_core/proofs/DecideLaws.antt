@@ -11,10 +11,7 @@ use Rattle.log_entry.specs.Bits.{has}
 use Rattle.log_entry.specs.Entry.{outside}
 use Rattle.log_entry.specs.Limits.{transactions}
 use Rattle.log_entry.specs.Refusal.{accepted, firstRefusal, holdsOrHeld, outsideLimits}
-use Rattle.log_votes.specs.declared.Row.{Row}
-use Rattle.log_votes.specs.Outcome.{isCommitted, outcomeOfVotes}
 use Rattle.log_votes.specs.Refusal.{voteRefusal}
-use Rattle.log_votes.specs.Row.{inGroup, keeping}
 use Rattle.log_core.specs.declared.Effect.{Effect}
 use Rattle.log_core.specs.declared.Parts.{Parts}
 use Rattle.log_core.specs.Decide.{commits, effectOf, joins, refusal}
@@ -41,45 +38,42 @@ module _ (p : Parts) (e : Entry) where
     answer-vote vote = rw (inside, vote)
 
 -- the effect
-abbrev pub effect : ℕ → Row → Bool → Effect
-effect answer r begins = record { answer = answer; row = r; begins = begins }
+abbrev pub effect : ℕ → ℕ → Bool → Effect
+effect answer group begins = record { answer = answer; group = group; begins = begins }
 
 module _ (p : Parts) (e : Entry) where
-  pub effect-refused : (n : ℕ) → n ≡ refusal p e → (n ≡ accepted → ⊥) → effect n (p .row) false ≡ effectOf p e
+  pub effect-refused : (n : ℕ) → n ≡ refusal p e → (n ≡ accepted → ⊥) → effect n (p .row .group) false ≡ effectOf p e
   unfolding effectOf
   effect-refused n is wrong = rw (is, ne-eqb (refusal p e) accepted (λ k. wrong (is ∙ k)))
 
   module _ (ok : refusal p e ≡ accepted) where
-    pub effect-taken : e .take ≡ true → effect accepted (p .row) false ≡ effectOf p e
+    pub effect-taken : e .take ≡ true → effect accepted (p .row .group) false ≡ effectOf p e
     unfolding effectOf
     effect-taken take = rw (ok, take)
 
-    module _ (vote : e .take ≡ false) (r : Row) (is : r ≡ keeping (p .row) e) where
-      same-outcome : commits p e ≡ isCommitted (outcomeOfVotes (r .votes))
-      same-outcome = ap (λ (r : Row). isCommitted (outcomeOfVotes (r .votes))) (sym is)
-
-      pub effect-kept : isCommitted (outcomeOfVotes (r .votes)) ≡ false → effect accepted r false ≡ effectOf p e
+    module _ (vote : e .take ≡ false) where
+      pub effect-kept : commits p e ≡ false → effect accepted (p .row .group) false ≡ effectOf p e
       unfolding effectOf
-      effect-kept h = ap (λ (r : Row). effect accepted r false) is ∙ rw (ok, vote, same-outcome ∙ h)
+      effect-kept h = rw (ok, vote, h)
 
-      pub effect-committed : (g : ℕ) (j : Bool) → isCommitted (outcomeOfVotes (r .votes)) ≡ true → j ≡ joins p e
-          → g ≡ cond j (p .groups) (nextGroup (p .groups)) → effect accepted (inGroup r g) (not j) ≡ effectOf p e
+      pub effect-committed : (g : ℕ) (j : Bool) → commits p e ≡ true → j ≡ joins p e
+          → g ≡ cond j (p .groups) (nextGroup (p .groups)) → effect accepted g (not j) ≡ effectOf p e
       unfolding effectOf
-      effect-committed g j h k m =
-          ap (λ (r : Row). effect accepted (inGroup r g) (not j)) is ∙ rw (ok, vote, same-outcome ∙ h, m, k)
+      effect-committed g j h k m = rw (ok, vote, h, m, k)
 
 -- the number of a group that is begun
-begun-group : (k c j : Bool) (groups : ℕ) (r old : Row) → (k && c && not j) ≡ true
-    → let g = cond k (inGroup r (cond c (cond j groups (nextGroup groups)) (old .group))) old .group in (0 < g) × (g ≤ transactions)
-begun-group true true true groups r old h = absurd (false≢true h)
-begun-group true true false groups r old h = (omega arith, omega arith)
-begun-group true false j groups r old h = absurd (false≢true h)
-begun-group false c j groups r old h = absurd (false≢true h)
+begun-group : (k c j : Bool) (groups old : ℕ) → (k && c && not j) ≡ true
+    → let g = cond k (cond c (cond j groups (nextGroup groups)) old) old in (0 < g) × (g ≤ transactions)
+begun-group true true true groups old h = absurd (false≢true h)
+begun-group true true false groups old h = (omega arith, omega arith)
+begun-group true false j groups old h = absurd (false≢true h)
+begun-group false c j groups old h = absurd (false≢true h)
 
-pub begins-group : (p : Parts) (e : Entry) (f : Effect) → f ≡ effectOf p e → f .begins ≡ true → (0 < f .row .group) × (f .row .group ≤ transactions)
+pub begins-group : (p : Parts) (e : Entry) (f : Effect) → f ≡ effectOf p e → f .begins ≡ true → (0 < f .group) × (f .group ≤ transactions)
 unfolding effectOf
 begins-group p e f is h =
-    let g = begun-group (eqb (refusal p e) accepted && not (e .take)) (commits p e) (joins p e) (p .groups) (keeping (p .row) e) (p .row)
+    let g =
+    begun-group (eqb (refusal p e) accepted && not (e .take)) (commits p e) (joins p e) (p .groups) (p .row .group)
     (sym (ap (λ (f : Effect). f .begins) is) ∙ h) in
-    let same : f .row .group ≡ effectOf p e .row .group = ap (λ (f : Effect). f .row .group) is in
+    let same : f .group ≡ effectOf p e .group = ap (λ (f : Effect). f .group) is in
     (omega (arith, g .0, same), omega (arith, g .1, same))

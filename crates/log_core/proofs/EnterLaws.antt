@@ -14,6 +14,8 @@ use Rattle.log_entry.specs.Entry.{outside}
 use Rattle.log_entry.specs.Limits.{transactions}
 use Rattle.log_entry.specs.Refusal.{accepted, firstRefusal, outsideLimits}
 use Rattle.log_entry.proofs.InsideLaws.{inside-vote}
+use Rattle.log_votes.specs.declared.Row.{Row}
+use Rattle.log_votes.specs.Row.{inGroup, keeping}
 use Rattle.log_core.specs.declared.Effect.{Effect}
 use Rattle.log_core.specs.declared.Entered.{Entered}
 use Rattle.log_core.specs.declared.Log.{Log}
@@ -48,14 +50,17 @@ module _ (l : Log) (e : Entry) (f : Effect) where
   unfolding stored
   stored-holder take = rw take
 
-  pub stored-row : e .take ≡ false → f .begins ≡ false → withRow l (e .tx) (f .row) ≡ stored l e f
-  unfolding stored
-  stored-row vote h = rw (vote, h)
+  -- r is the row with the vote kept
+  module _ (vote : e .take ≡ false) {r : Row} (is : r ≡ keeping (rowOf l (e .tx)) e) where
+    pub stored-row : f .begins ≡ false → withRow l (e .tx) (inGroup r (f .group)) ≡ stored l e f
+    unfolding stored
+    stored-row h = ap (λ (r : Row). withRow l (e .tx) (inGroup r (f .group))) is ∙ rw (vote, h)
 
-  pub stored-group : e .take ≡ false → f .begins ≡ true → (running : ℕ) → running ≡ runningSet (l .rows)
-      → withGroup (withRow l (e .tx) (f .row)) (f .row .group) running ≡ stored l e f
-  unfolding stored
-  stored-group vote h running is = ap (λ (n : ℕ). withGroup (withRow l (e .tx) (f .row)) (f .row .group) n) is ∙ rw (vote, h)
+    pub stored-group : f .begins ≡ true → (running : ℕ) → running ≡ runningSet (l .rows)
+        → withGroup (withRow l (e .tx) (inGroup r (f .group))) (f .group) running ≡ stored l e f
+    unfolding stored
+    stored-group h running runs =
+        ap₂ (λ (r : Row) (n : ℕ). withGroup (withRow l (e .tx) (inGroup r (f .group))) (f .group) n) is runs ∙ rw (vote, h)
 
   entered-accepted : f .answer ≡ accepted → answered (stored l e f) accepted ≡ entered l e f
   unfolding entered

@@ -9,10 +9,9 @@ use Rattle.log_entry.specs.declared.Entry.{Entry}
 use Rattle.log_entry.specs.Bits.{has}
 use Rattle.log_entry.specs.Entry.{outside}
 use Rattle.log_entry.specs.Refusal.{accepted, check, firstRefusal, outsideLimits}
-use Rattle.log_votes.specs.declared.Row.{Row}
 use Rattle.log_votes.specs.Outcome.{isCommitted, outcomeOfVotes}
 use Rattle.log_votes.specs.Refusal.{voteChecks}
-use Rattle.log_votes.specs.Row.{inGroup, keeping}
+use Rattle.log_votes.specs.Row.{keeping}
 use Rattle.log_core.specs.declared.Effect.{Effect}
 use Rattle.log_core.specs.declared.Log.{Log}
 use Rattle.log_core.specs.declared.Parts.{Parts}
@@ -49,15 +48,13 @@ commits p e = isCommitted (outcomeOfVotes (keeping (p .row) e .votes))
 abbrev pub joins : Parts → Entry → Bool
 joins p e = has (p .remembered) (e .tx)
 
--- the row with the vote: "At a commit: .. it joins that group; else it begins a new group"
-abbrev pub rowAfter : Parts → Entry → Row
-rowAfter p e =
-    inGroup (keeping (p .row) e)
-    (cond (commits p e) (cond (joins p e) (p .groups) (nextGroup (p .groups))) (p .row .group))
+-- "At a commit: .. it joins that group; else it begins a new group, numbered from 1."
+abbrev pub groupAfter : Parts → Entry → ℕ
+groupAfter p e = cond (commits p e) (cond (joins p e) (p .groups) (nextGroup (p .groups))) (p .row .group)
 
 unfoldable pub effectOf : Parts → Entry → Effect
 effectOf p e = record {
   answer = refusal p e;
-  row = cond (keeps p e) (rowAfter p e) (p .row);
+  group = cond (keeps p e) (groupAfter p e) (p .row .group);
   begins = keeps p e && commits p e && not (joins p e);
 }

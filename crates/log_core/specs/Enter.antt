@@ -5,15 +5,21 @@ use mathlib.Core.List.{List, [], _∷_}
 use lib.Dec.{eqb}
 use Rattle.log_entry.specs.declared.Entry.{Entry}
 use Rattle.log_entry.specs.Refusal.{accepted}
+use Rattle.log_votes.specs.declared.Row.{Row}
+use Rattle.log_votes.specs.Row.{inGroup, keeping}
 use Rattle.log_core.specs.declared.Effect.{Effect}
 use Rattle.log_core.specs.declared.Entered.{Entered}
 use Rattle.log_core.specs.declared.Log.{Log}
 use Rattle.log_core.specs.Decide.{effectOf, partsOf}
 use Rattle.log_core.specs.Group.{runningSet}
-use Rattle.log_core.specs.Log.{withGroup, withHolder, withRow}
+use Rattle.log_core.specs.Log.{rowOf, withGroup, withHolder, withRow}
 
 abbrev pub answered : Log → ℕ → Entered
 answered l n = record { log = l; answer = n }
+
+-- the row with the vote kept, in its group
+abbrev pub rowAfter : Log → Entry → Effect → Row
+rowAfter l e f = inGroup (keeping (rowOf l (e .tx)) e) (f .group)
 
 -- the log with the effect of an accepted entry stored: a new holder, or a row and the group that it
 -- begins
@@ -22,8 +28,8 @@ stored l e f =
     cond (e .take)
     (withHolder l (e .process) (e .store))
     (cond (f .begins)
-    (withGroup (withRow l (e .tx) (f .row)) (f .row .group) (runningSet (l .rows)))
-    (withRow l (e .tx) (f .row)))
+    (withGroup (withRow l (e .tx) (rowAfter l e f)) (f .group) (runningSet (l .rows)))
+    (withRow l (e .tx) (rowAfter l e f)))
 
 -- a refused entry leaves the log as it was
 unfoldable pub entered : Log → Entry → Effect → Entered

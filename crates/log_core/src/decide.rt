@@ -38,30 +38,28 @@ impl Parts {
         if answer != ACCEPTED {
             return Effect {
                 answer: answer,
-                row: row,
+                group: row.group,
                 begins: false,
             };
         }
         if e.take {
             return Effect {
                 answer: ACCEPTED,
-                row: row,
+                group: row.group,
                 begins: false,
             };
         }
-        let mut kept = row.keeping(e);
-        if !kept.outcome().is_commit() {
+        if !row.keeping(e).outcome().is_commit() {
             return Effect {
                 answer: ACCEPTED,
-                row: kept,
+                group: row.group,
                 begins: false,
             };
         }
         let joins = sets::has32(self.remembered, e.tx);
-        kept.group = next_group(self.groups, joins);
         Effect {
             answer: ACCEPTED,
-            row: kept,
+            group: next_group(self.groups, joins),
             begins: !joins,
         }
     }

@@ -53,7 +53,7 @@ impl Log {
     // The log with the effect of an accepted entry stored.
     fn stored(mut self, e: Entry, f: Effect) -> Log
         requires { ⌜ outside e ≡ false ⌝ }
-        requires { ⌜ (f .begins ≡ true → (0 < f .row .group) × (f .row .group ≤ transactions)) ⌝ }
+        requires { ⌜ (f .begins ≡ true → (0 < f .group) × (f .group ≤ transactions)) ⌝ }
         ensures { λ r. ⌜ r ≡ stored self e f ⌝ }
     {
         let store = e.store as usize;
@@ -63,16 +63,17 @@ impl Log {
             return self;
         }
         let tx = e.tx as usize;
-        let row = f.row;
+        let old = self.rows[tx];
+        let mut row = old.keeping(e);
+        row.group = f.group;
         if !f.begins {
             self.rows[tx] = row;
             return self;
         }
         let running = self.running_set();
-        let g = row.group;
         self.rows[tx] = row;
-        self.groups = g;
-        let i = g - 1;
+        self.groups = f.group;
+        let i = f.group - 1;
         self.remembered[i as usize] = running;
         self
     }

@@ -43,8 +43,8 @@ pub struct Parts {
 // What an entry is answered, and what it changes.
 pub struct Effect {
     pub answer: u8,
-    // The transaction's row after an accepted vote, with its group; else as it was.
-    pub row: Row,
+    // The transaction's group after it.
+    pub group: u8,
     // The vote begins a group.
     pub begins: bool,
 }

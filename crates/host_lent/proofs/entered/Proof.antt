@@ -1,34 +1,41 @@
 -- What is left of the records, entered into the log of the turn, is the whole.
 use borrow.Author.Needs.{needs}
 use borrow.Author.Tests.{not-false, not-true}
-use Prim.Native.Nat.{ℕ, _*_, _+_, _-_, _≤_}
+use Prim.Native.Nat.{ℕ, _*_, _+_, _-_, _<_, _≤_}
 use mathlib.Core.Bool.{false}
 use mathlib.Core.Path.{_≡_, ap, refl, sym, _∙_}
 use native.Mathlib.Nat.{add-sub-cancel-left}
 use native.Mathlib.Omega.{arith}
-use lib.ListN.{drop, length, take}
-use Rattle.log_entry.proofs.InsideLaws.{inside-process, inside-store}
+use lib.ListN.{drop, length, length-replicate, length-set, set, take}
+use Rattle.log_entry.proofs.InsideLaws.{inside-process, inside-store, inside-vote}
 use Rattle.log_entry.specs.Entry.{outside}
+use Rattle.log_entry.specs.Limits.{transactions}
 use Rattle.log_entry.specs.Refusal.{accepted}
 use Rattle.log_core.proofs.DecideLaws.{begins-group}
 use Rattle.log_core.proofs.EmptyLaws.{rows-without-votes}
 use Rattle.log_core.proofs.EnterLaws.{enter-refused, enter-stored, holder-stored, partsAt, place-inside, remembered-last}
+use Rattle.log_votes.specs.Row.{inGroup}
 use Rattle.log_core.specs.declared.Log.{Log}
 use Rattle.log_core.specs.Enter.{answered, enter, stored}
+use Rattle.log_core.specs.Group.{runningSet}
 use Rattle.host_records.proofs.RecordReadings.{record-inside, record-refusal}
 use Rattle.host_records.specs.declared.Reading.the-variants.{Of, Refused}
 use Rattle.host_records.specs.Record.{readRecord, recordSize}
 use Rattle.host_lent.specs.Lent.{logAfter, recordsEntered, recordsIn, refusalIn}
-use Rattle.host_lent.proofs.LentLaws.{entered, group-stored, none-left, parts, record-accepted, record-refused, refused, row-stored}
+use Rattle.host_lent.proofs.LentLaws.{entered, group-stored, none-left, own-place, parts, record-accepted, record-refused, refused, row-stored}
+use Rattle.host_lent.proofs.RunningLaws.{bit-within, none-running, set-after, set-fits}
 use Rattle.host_lent.proofs.entered.Statement.{statement}
 use Rattle.host_lent.proofs.entered.Tie as tie
 
 abbrev Inv-loop : tie.InvT-loop
-Inv-loop lent count answer₀ log₀ at₀ left₀ answer log at left =
-    (at + left * recordSize ≤ length lent) × (logAfter log₀ (recordsIn lent count) ≡ logAfter log (recordsIn (drop at lent) left))
+Inv-loop lent count answer₀ log₀ running₀ at₀ left₀ answer log running at left =
+    (at + left * recordSize ≤ length lent)
+    × (logAfter log₀ (recordsIn lent count) ≡ logAfter log (recordsIn (drop at lent) left))
+    × (length (log .rows) ≡ transactions)
+    × (running ≡ runningSet (log .rows))
 
 abbrev μ-loop : tie.MeasureT-loop
-μ-loop lent count answer₀ log₀ at₀ left₀ answer log at left = left
+μ-loop lent count answer₀ log₀ running₀ at₀ left₀ answer log running at left = left
 
 -- the log of the turn, and the whole
 whole : (c : tie.At-loop Inv-loop μ-loop)
@@ -75,7 +82,7 @@ stored-so c ok h =
     (remembered-last (c .before .before .before .before .before .before .before .before .before .before .before .before .before .before .loop .log) (c .before .remembered-in .ensures)) (c .decide .result) (c .decide .ensures) ok h)
 
 loop-holds : tie.Need-loop-holds Inv-loop μ-loop
-loop-holds c = (omega (arith, c .before .pre .1), refl)
+loop-holds c = (omega (arith, c .before .pre .1), refl, length-replicate transactions (c .before .args .none), none-running (c .before .args .none) (c .before .pre .0))
 
 add-end : tie.Need-add-end Inv-loop μ-loop
 add-end c = omega arith
@@ -119,17 +126,17 @@ cast-store c = search needs
 row-place-requires : tie.Need-row-place-requires Inv-loop μ-loop
 row-place-requires c κs = search needs
 
-mul-t26 : tie.Need-mul-t26 Inv-loop μ-loop
-mul-t26 c = omega (arith, place-inside (c .before .before .before .before .reading .given .0 .0) (inside (c .before .before .before .before)) (c .before .row-place .ensures))
+mul-old : tie.Need-mul-old Inv-loop μ-loop
+mul-old c = omega (arith, place-inside (c .before .before .before .before .reading .given .0 .0) (inside (c .before .before .before .before)) (c .before .row-place .ensures))
 
-element-copy-out-t32 : tie.Need-element-copy-out-t32 Inv-loop μ-loop
-element-copy-out-t32 c = place-inside (c .before .before .before .before .reading .given .0 .0) (inside (c .before .before .before .before)) (c .before .row-place .ensures)
+element-copy-out-old : tie.Need-element-copy-out-old Inv-loop μ-loop
+element-copy-out-old c = place-inside (c .before .before .before .before .reading .given .0 .0) (inside (c .before .before .before .before)) (c .before .row-place .ensures)
 
-mul-t34 : tie.Need-mul-t34 Inv-loop μ-loop
-mul-t34 c = search needs
+mul-t35 : tie.Need-mul-t35 Inv-loop μ-loop
+mul-t35 c = search needs
 
-element-copy-out-t37 : tie.Need-element-copy-out-t37 Inv-loop μ-loop
-element-copy-out-t37 c = inside-store (c .before .before .before .before .before .before .reading .given .0 .0) (inside (c .before .before .before .before .before .before))
+element-copy-out-t38 : tie.Need-element-copy-out-t38 Inv-loop μ-loop
+element-copy-out-t38 c = inside-store (c .before .before .before .before .before .before .reading .given .0 .0) (inside (c .before .before .before .before .before .before))
 
 remembered-in-requires : tie.Need-remembered-in-requires Inv-loop μ-loop
 remembered-in-requires c κs = search needs
@@ -174,38 +181,68 @@ loop-again c = (
   c .before .before .before .before .before .before .before .before .before .before .before .before .before .before .before .before .before .before .before .loop .inv .1
       ∙ stored-so (c .before .before .before .before .before) (c .before .before .before .if1 .left)
       (holder-stored (c .before .before .before .before .before .before .before .before .before .before .before .before .before .before .before .before .before .before .before .loop .log) (c .before .before .before .before .before .before .before .before .before .before .before .before .before .before .reading .given .0 .0) (c .before .before .before .before .before .decide .result) (c .before .before .if2 .taken) (omega (arith, inside-process (c .before .before .before .before .before .before .before .before .before .before .before .before .before .before .reading .given .0 .0) (inside (c .before .before .before .before .before .before .before .before .before .before .before .before .before .before))))),
+  c .before .before .before .before .before .before .before .before .before .before .before .before .before .before .before .before .before .before .before .loop .inv .2,
+  c .before .before .before .before .before .before .before .before .before .before .before .before .before .before .before .before .before .before .before .loop .inv .3,
 )
 
+mul-old-2 : tie.Need-mul-old-2 Inv-loop μ-loop
+mul-old-2 c = omega (arith, place-inside (c .before .before .before .before .before .before .before .before .before .before .before .before .reading .given .0 .0) (inside (c .before .before .before .before .before .before .before .before .before .before .before .before)) (c .before .before .before .before .before .before .before .before .before .row-place .ensures))
+
+element-copy-out-old-2 : tie.Need-element-copy-out-old-2 Inv-loop μ-loop
+element-copy-out-old-2 c = place-inside (c .before .before .before .before .before .before .before .before .before .before .before .before .reading .given .0 .0) (inside (c .before .before .before .before .before .before .before .before .before .before .before .before)) (c .before .before .before .before .before .before .before .before .before .row-place .ensures)
+
+keeping-requires : tie.Need-keeping-requires Inv-loop μ-loop
+keeping-requires c κs = search needs
+
+running-requires : tie.Need-running-requires Inv-loop μ-loop
+running-requires c κs = search needs
+
+-- the vote's transaction, and its place
+tx-inside : (c : tie.Else2 Inv-loop μ-loop) → c .before .before .before .before .before .before .before .before .before .before .before .before .reading .given .0 .0 .tx < transactions
+tx-inside c = inside-vote (c .before .before .before .before .before .before .before .before .before .before .before .before .reading .given .0 .0) (inside (c .before .before .before .before .before .before .before .before .before .before .before .before)) (c .if2 .left) .tx
+
+noted-requires : tie.Need-noted-requires Inv-loop μ-loop
+noted-requires c κs = (
+  tx-inside (c .before .before .before),
+  (
+    bit-within (c .before .before .before .before .before .before .before .before .before .before .before .before .before .before .before .before .before .before .before .before .loop .log .rows) (c .before .before .before .before .before .before .before .before .before .before .before .before .before .before .before .before .before .before .before .before .loop .running) (c .before .before .before .before .before .before .before .before .before .before .before .before .before .before .before .before .before .before .before .before .loop .inv .3) (c .before .before .before .before .before .before .before .before .before .before .before .before .before .before .before .before .before .before .before .before .loop .inv .2) (c .before .before .before .before .before .before .before .before .before .before .before .before .before .before .before .reading .given .0 .0 .tx) (tx-inside (c .before .before .before)),
+    set-fits (c .before .before .before .before .before .before .before .before .before .before .before .before .before .before .before .before .before .before .before .before .loop .log .rows) (c .before .before .before .before .before .before .before .before .before .before .before .before .before .before .before .before .before .before .before .before .loop .running) (c .before .before .before .before .before .before .before .before .before .before .before .before .before .before .before .before .before .before .before .before .loop .inv .3) (c .before .before .before .before .before .before .before .before .before .before .before .before .before .before .before .before .before .before .before .before .loop .inv .2) (c .before .before .before .before .before .before .before .before .before .before .before .before .before .before .before .reading .given .0 .0 .tx) (tx-inside (c .before .before .before)) (inGroup (c .before .keeping .result) (c .before .before .before .before .before .before .decide .result .group)) (c .running .result) (c .running .ensures),
+  ),
+)
+
+-- the set after the vote
+noted-so : (c : tie.After-noted Inv-loop μ-loop) → c .noted .result ≡ runningSet (set (c .before .before .before .before .before .before .before .before .before .before .before .before .before .before .before .before .before .before .before .before .before .loop .log .rows) (c .before .before .before .before .before .before .before .before .before .before .before .before .before .row-place .result) (inGroup (c .before .before .keeping .result) (c .before .before .before .before .before .before .before .decide .result .group)))
+noted-so c =
+    c .noted .ensures
+    ∙ set-after (c .before .before .before .before .before .before .before .before .before .before .before .before .before .before .before .before .before .before .before .before .before .loop .log .rows) (c .before .before .before .before .before .before .before .before .before .before .before .before .before .before .before .before .before .before .before .before .before .loop .running) (c .before .before .before .before .before .before .before .before .before .before .before .before .before .before .before .before .before .before .before .before .before .loop .inv .3) (c .before .before .before .before .before .before .before .before .before .before .before .before .before .before .before .before .before .before .before .before .before .loop .inv .2) (c .before .before .before .before .before .before .before .before .before .before .before .before .before .before .before .before .reading .given .0 .0 .tx) (tx-inside (c .before .before .before .before)) (inGroup (c .before .before .keeping .result) (c .before .before .before .before .before .before .before .decide .result .group)) (c .before .running .result) (c .before .running .ensures)
+    ∙ ap (λ (t : ℕ). runningSet (set (c .before .before .before .before .before .before .before .before .before .before .before .before .before .before .before .before .before .before .before .before .before .loop .log .rows) t (inGroup (c .before .before .keeping .result) (c .before .before .before .before .before .before .before .decide .result .group)))) (sym (own-place (c .before .before .before .before .before .before .before .before .before .before .before .before .before .before .before .before .before .before .before .before .before .loop .log) (c .before .before .before .before .before .before .before .before .before .before .before .before .before .before .before .before .reading .given .0 .0) (c .before .before .before .before .before .before .before .decide .result) (c .before .before .before .before .if2 .left) (c .before .before .before .before .before .before .before .before .before .before .before .before .before .row-place .ensures)))
+
+size-so : (c : tie.After-noted Inv-loop μ-loop) → length (set (c .before .before .before .before .before .before .before .before .before .before .before .before .before .before .before .before .before .before .before .before .before .loop .log .rows) (c .before .before .before .before .before .before .before .before .before .before .before .before .before .row-place .result) (inGroup (c .before .before .keeping .result) (c .before .before .before .before .before .before .before .decide .result .group))) ≡ transactions
+size-so c = length-set (c .before .before .before .before .before .before .before .before .before .before .before .before .before .before .before .before .before .before .before .before .before .loop .log .rows) (c .before .before .before .before .before .before .before .before .before .before .before .before .before .row-place .result) (inGroup (c .before .before .keeping .result) (c .before .before .before .before .before .before .before .decide .result .group)) ∙ c .before .before .before .before .before .before .before .before .before .before .before .before .before .before .before .before .before .before .before .before .before .loop .inv .2
+
 mul-row : tie.Need-mul-row Inv-loop μ-loop
-mul-row c = omega (arith, place-inside (c .before .before .before .before .before .before .before .before .before .before .before .before .before .before .before .reading .given .0 .0) (inside (c .before .before .before .before .before .before .before .before .before .before .before .before .before .before .before)) (c .before .before .before .before .before .before .before .before .before .before .before .before .row-place .ensures))
+mul-row c = omega (arith, place-inside (c .before .before .before .before .before .before .before .before .before .before .before .before .before .before .before .before .reading .given .0 .0) (inside (c .before .before .before .before .before .before .before .before .before .before .before .before .before .before .before .before)) (c .before .before .before .before .before .before .before .before .before .before .before .before .before .row-place .ensures))
 
 element-set-from-row : tie.Need-element-set-from-row Inv-loop μ-loop
-element-set-from-row c = place-inside (c .before .before .before .before .before .before .before .before .before .before .before .before .before .before .before .reading .given .0 .0) (inside (c .before .before .before .before .before .before .before .before .before .before .before .before .before .before .before)) (c .before .before .before .before .before .before .before .before .before .before .before .before .row-place .ensures)
+element-set-from-row c = place-inside (c .before .before .before .before .before .before .before .before .before .before .before .before .before .before .before .before .reading .given .0 .0) (inside (c .before .before .before .before .before .before .before .before .before .before .before .before .before .before .before .before)) (c .before .before .before .before .before .before .before .before .before .before .before .before .before .row-place .ensures)
 
 loop-less-2 : tie.Need-loop-less-2 Inv-loop μ-loop
-loop-less-2 c = omega (arith, c .before .before .before .before .before .before .before .before .before .before .before .before .before .before .before .before .before .before .before .loop-test .taken)
+loop-less-2 c = omega (arith, c .before .before .before .before .before .before .before .before .before .before .before .before .before .before .before .before .before .before .before .before .before .before .loop-test .taken)
 
 loop-again-2 : tie.Need-loop-again-2 Inv-loop μ-loop
 loop-again-2 c = (
-  omega (arith, c .before .before .before .before .before .before .before .before .before .before .before .before .before .before .before .before .before .before .before .loop-test .taken, c .before .before .before .before .before .before .before .before .before .before .before .before .before .before .before .before .before .before .before .before .loop .inv .0),
-  c .before .before .before .before .before .before .before .before .before .before .before .before .before .before .before .before .before .before .before .before .loop .inv .1
-      ∙ stored-so (c .before .before .before .before .before .before) (c .before .before .before .before .if1 .left)
-      (row-stored (c .before .before .before .before .before .before .before .before .before .before .before .before .before .before .before .before .before .before .before .before .loop .log) (c .before .before .before .before .before .before .before .before .before .before .before .before .before .before .before .reading .given .0 .0) (c .before .before .before .before .before .before .decide .result) (c .before .before .before .if2 .left) (c .before .before .before .before .before .before .before .before .before .before .before .before .row-place .ensures) (not-true _ (c .if3 .taken))),
+  omega (arith, c .before .before .before .before .before .before .before .before .before .before .before .before .before .before .before .before .before .before .before .before .before .before .loop-test .taken, c .before .before .before .before .before .before .before .before .before .before .before .before .before .before .before .before .before .before .before .before .before .before .before .loop .inv .0),
+  c .before .before .before .before .before .before .before .before .before .before .before .before .before .before .before .before .before .before .before .before .before .before .before .loop .inv .1
+      ∙ stored-so (c .before .before .before .before .before .before .before .before .before) (c .before .before .before .before .before .before .before .if1 .left)
+      (row-stored (c .before .before .before .before .before .before .before .before .before .before .before .before .before .before .before .before .before .before .before .before .before .before .before .loop .log) (c .before .before .before .before .before .before .before .before .before .before .before .before .before .before .before .before .before .before .reading .given .0 .0) (c .before .before .before .before .before .before .before .before .before .decide .result) (c .before .before .before .before .before .before .if2 .left) (c .before .before .before .before .before .before .before .before .before .before .before .before .before .before .before .row-place .ensures) (c .before .before .before .before .keeping .ensures) (not-true _ (c .if3 .taken))),
+  size-so (c .before .before),
+  noted-so (c .before .before),
 )
 
-running-set-requires : tie.Need-running-set-requires Inv-loop μ-loop
-running-set-requires c κs = search needs
-
-mul-row-2 : tie.Need-mul-row-2 Inv-loop μ-loop
-mul-row-2 c = omega (arith, place-inside (c .before .before .before .before .before .before .before .before .before .before .before .before .before .before .before .before .reading .given .0 .0) (inside (c .before .before .before .before .before .before .before .before .before .before .before .before .before .before .before .before)) (c .before .before .before .before .before .before .before .before .before .before .before .before .before .row-place .ensures))
-
-element-set-from-row-2 : tie.Need-element-set-from-row-2 Inv-loop μ-loop
-element-set-from-row-2 c = place-inside (c .before .before .before .before .before .before .before .before .before .before .before .before .before .before .before .before .reading .given .0 .0) (inside (c .before .before .before .before .before .before .before .before .before .before .before .before .before .before .before .before)) (c .before .before .before .before .before .before .before .before .before .before .before .before .before .row-place .ensures)
-
 -- a group that is begun has its place
-begun : (c : tie.Else3 Inv-loop μ-loop) → (1 ≤ c .before .before .before .before .before .before .decide .result .row .group) × (c .before .before .before .before .before .before .decide .result .row .group ≤ 32)
+begun : (c : tie.Else3 Inv-loop μ-loop) → (1 ≤ c .before .before .before .before .before .before .before .before .before .decide .result .group) × (c .before .before .before .before .before .before .before .before .before .decide .result .group ≤ transactions)
 begun c =
-    let g = begins-group (partsAt (c .before .before .before .before .before .before .before .before .before .before .before .before .before .before .before .before .before .before .before .before .loop .log) (c .before .before .before .before .before .before .before .before .before .before .before .before .before .before .before .reading .given .0 .0) (c .before .before .before .before .before .before .before .before .before .before .before .before .row-place .result) (c .before .before .before .before .before .before .before .remembered-in .result)) (c .before .before .before .before .before .before .before .before .before .before .before .before .before .before .before .reading .given .0 .0) (c .before .before .before .before .before .before .decide .result) (c .before .before .before .before .before .before .decide .ensures) (not-false _ (c .if3 .left)) in
+    let g = begins-group (partsAt (c .before .before .before .before .before .before .before .before .before .before .before .before .before .before .before .before .before .before .before .before .before .before .before .loop .log) (c .before .before .before .before .before .before .before .before .before .before .before .before .before .before .before .before .before .before .reading .given .0 .0) (c .before .before .before .before .before .before .before .before .before .before .before .before .before .before .before .row-place .result) (c .before .before .before .before .before .before .before .before .before .before .remembered-in .result)) (c .before .before .before .before .before .before .before .before .before .before .before .before .before .before .before .before .before .before .reading .given .0 .0) (c .before .before .before .before .before .before .before .before .before .decide .result) (c .before .before .before .before .before .before .before .before .before .decide .ensures) (not-false _ (c .if3 .left)) in
     (omega (arith, g .0), omega (arith, g .1))
 
 sub-i : tie.Need-sub-i Inv-loop μ-loop
@@ -221,14 +258,16 @@ element-write-log-3 : tie.Need-element-write-log-3 Inv-loop μ-loop
 element-write-log-3 c = omega (arith, begun (c .before) .0, begun (c .before) .1)
 
 loop-less-3 : tie.Need-loop-less-3 Inv-loop μ-loop
-loop-less-3 c = omega (arith, c .before .before .before .before .before .before .before .before .before .before .before .before .before .before .before .before .before .before .before .before .loop-test .taken)
+loop-less-3 c = omega (arith, c .before .before .before .before .before .before .before .before .before .before .before .before .before .before .before .before .before .before .before .before .before .before .before .loop-test .taken)
 
 loop-again-3 : tie.Need-loop-again-3 Inv-loop μ-loop
 loop-again-3 c = (
-  omega (arith, c .before .before .before .before .before .before .before .before .before .before .before .before .before .before .before .before .before .before .before .before .loop-test .taken, c .before .before .before .before .before .before .before .before .before .before .before .before .before .before .before .before .before .before .before .before .before .loop .inv .0),
-  c .before .before .before .before .before .before .before .before .before .before .before .before .before .before .before .before .before .before .before .before .before .loop .inv .1
-      ∙ stored-so (c .before .before .before .before .before .before .before) (c .before .before .before .before .before .if1 .left)
-      (group-stored (c .before .before .before .before .before .before .before .before .before .before .before .before .before .before .before .before .before .before .before .before .before .loop .log) (c .before .before .before .before .before .before .before .before .before .before .before .before .before .before .before .before .reading .given .0 .0) (c .before .before .before .before .before .before .before .decide .result) (c .before .before .before .before .if2 .left) (c .before .before .before .before .before .before .before .before .before .before .before .before .before .row-place .ensures) (not-false _ (c .before .if3 .left)) (c .running-set .result) (c .running-set .ensures)),
+  omega (arith, c .before .before .before .before .before .before .before .before .before .before .before .before .before .before .before .before .before .before .before .before .before .before .before .loop-test .taken, c .before .before .before .before .before .before .before .before .before .before .before .before .before .before .before .before .before .before .before .before .before .before .before .before .loop .inv .0),
+  c .before .before .before .before .before .before .before .before .before .before .before .before .before .before .before .before .before .before .before .before .before .before .before .before .loop .inv .1
+      ∙ stored-so (c .before .before .before .before .before .before .before .before .before .before) (c .before .before .before .before .before .before .before .before .if1 .left)
+      (group-stored (c .before .before .before .before .before .before .before .before .before .before .before .before .before .before .before .before .before .before .before .before .before .before .before .before .loop .log) (c .before .before .before .before .before .before .before .before .before .before .before .before .before .before .before .before .before .before .before .reading .given .0 .0) (c .before .before .before .before .before .before .before .before .before .before .decide .result) (c .before .before .before .before .before .before .before .if2 .left) (c .before .before .before .before .before .before .before .before .before .before .before .before .before .before .before .before .row-place .ensures) (c .before .before .before .before .before .keeping .ensures) (not-false _ (c .before .if3 .left)) (c .before .before .before .before .before .before .before .before .before .before .before .before .before .before .before .before .before .before .before .before .before .before .before .before .loop .running) (c .before .before .before .before .before .before .before .before .before .before .before .before .before .before .before .before .before .before .before .before .before .before .before .before .loop .inv .3)),
+  size-so (c .before .before .before),
+  noted-so (c .before .before .before),
 )
 
 returns-3 : tie.Need-returns-3 Inv-loop μ-loop
@@ -253,10 +292,10 @@ entered-spec =
     sub-left
     cast-store
     row-place-requires
-    mul-t26
-    element-copy-out-t32
-    mul-t34
-    element-copy-out-t37
+    mul-old
+    element-copy-out-old
+    mul-t35
+    element-copy-out-t38
     remembered-in-requires
     decide-requires
     returns-2
@@ -269,13 +308,15 @@ entered-spec =
     element-write-log-2
     loop-less
     loop-again
+    mul-old-2
+    element-copy-out-old-2
+    keeping-requires
+    running-requires
+    noted-requires
     mul-row
     element-set-from-row
     loop-less-2
     loop-again-2
-    running-set-requires
-    mul-row-2
-    element-set-from-row-2
     sub-i
     cast-log-2
     mul-log-3

@@ -36,14 +36,23 @@ returns c = holder-stored (c .before .before .before .before .args .t1) (c .befo
 cast-tx : tie.Need-cast-tx
 cast-tx c = search needs
 
+mul-old : tie.Need-mul-old
+mul-old c = search needs
+
+element-copy-out-old : tie.Need-element-copy-out-old
+element-copy-out-old c = inside-vote (c .before .before .before .args .e) (c .before .before .before .pre .0) (c .before .if1 .left) .tx
+
+keeping-requires : tie.Need-keeping-requires
+keeping-requires c κs = search needs
+
 mul-row : tie.Need-mul-row
 mul-row c = search needs
 
 element-set-from-row : tie.Need-element-set-from-row
-element-set-from-row c = inside-vote (c .before .before .before .before .before .before .args .e) (c .before .before .before .before .before .before .pre .0) (c .before .before .before .before .if1 .left) .tx
+element-set-from-row c = inside-vote (c .before .before .before .before .before .before .before .args .e) (c .before .before .before .before .before .before .before .pre .0) (c .before .before .before .before .before .if1 .left) .tx
 
 returns-2 : tie.Need-returns-2
-returns-2 c = stored-row (c .before .before .before .before .before .before .args .t1) (c .before .before .before .before .before .before .args .e) (c .before .before .before .before .before .before .args .f) (c .before .before .before .before .if1 .left) (not-true _ (c .if2 .taken))
+returns-2 c = stored-row (c .before .before .before .before .before .before .before .args .t1) (c .before .before .before .before .before .before .before .args .e) (c .before .before .before .before .before .before .before .args .f) (c .before .before .before .before .before .if1 .left) (c .before .before .keeping .ensures) (not-true _ (c .if2 .taken))
 
 running-set-requires : tie.Need-running-set-requires
 running-set-requires c κs = search needs
@@ -52,10 +61,10 @@ mul-row-2 : tie.Need-mul-row-2
 mul-row-2 c = search needs
 
 element-set-from-row-2 : tie.Need-element-set-from-row-2
-element-set-from-row-2 c = inside-vote (c .before .before .before .before .before .before .before .args .e) (c .before .before .before .before .before .before .before .pre .0) (c .before .before .before .before .before .if1 .left) .tx
+element-set-from-row-2 c = inside-vote (c .before .before .before .before .before .before .before .before .args .e) (c .before .before .before .before .before .before .before .before .pre .0) (c .before .before .before .before .before .before .if1 .left) .tx
 
 sub-i : tie.Need-sub-i
-sub-i c = let g = c .before .before .before .before .before .before .before .pre .1 (not-false _ (c .before .if2 .left)) in omega (arith, g .0)
+sub-i c = let g = c .before .before .before .before .before .before .before .before .before .pre .1 (not-false _ (c .before .before .if2 .left)) in omega (arith, g .0)
 
 cast-self-2 : tie.Need-cast-self-2
 cast-self-2 c = search needs
@@ -64,10 +73,10 @@ mul-self-3 : tie.Need-mul-self-3
 mul-self-3 c = search needs
 
 element-write-self-3 : tie.Need-element-write-self-3
-element-write-self-3 c = let g = c .before .before .before .before .before .before .before .pre .1 (not-false _ (c .before .if2 .left)) in omega (arith, g .0, g .1)
+element-write-self-3 c = let g = c .before .before .before .before .before .before .before .before .before .pre .1 (not-false _ (c .before .before .if2 .left)) in omega (arith, g .0, g .1)
 
 returns-3 : tie.Need-returns-3
-returns-3 c = stored-group (c .before .before .before .before .before .before .before .args .t1) (c .before .before .before .before .before .before .before .args .e) (c .before .before .before .before .before .before .before .args .f) (c .before .before .before .before .before .if1 .left) (not-false _ (c .before .if2 .left)) (c .running-set .result) (c .running-set .ensures)
+returns-3 c = stored-group (c .before .before .before .before .before .before .before .before .before .args .t1) (c .before .before .before .before .before .before .before .before .before .args .e) (c .before .before .before .before .before .before .before .before .before .args .f) (c .before .before .before .before .before .before .before .if1 .left) (c .before .before .before .before .keeping .ensures) (not-false _ (c .before .before .if2 .left)) (c .before .running-set .result) (c .before .running-set .ensures)
 
 pub stored-spec : {M : Type 1} → statement M
 stored-spec =
@@ -83,6 +92,9 @@ stored-spec =
     element-write-self-2
     returns
     cast-tx
+    mul-old
+    element-copy-out-old
+    keeping-requires
     mul-row
     element-set-from-row
     returns-2

@@ -1,14 +1,17 @@
 use borrow.Author.Needs.{needs}
 use borrow.Author.Tests.{not-false, not-true}
 use mathlib.Core.Path.{_≡_, ap, sym, _∙_}
+use Rattle.log_votes.specs.declared.Row.{Row}
 use Rattle.log_votes.specs.Outcome.{isCommitted, outcomeOfVotes}
+use Rattle.log_core.specs.Decide.{commits}
 use Rattle.log_core.proofs.DecideLaws.{effect-committed, effect-kept, effect-refused, effect-taken}
 use Rattle.log_core.proofs.Parts.decide.Statement.{statement}
 use Rattle.log_core.proofs.Parts.decide.Tie as tie
 
 -- the test was made of the outcome with the vote
-tested : (c : tie.After-is-commit) → isCommitted (outcomeOfVotes (c .before .before .keeping .result .votes)) ≡ c .is-commit .result
-tested c = sym (c .is-commit .ensures ∙ ap isCommitted (c .before .outcome .ensures))
+tested : (c : tie.After-is-commit) → commits (c .before .before .before .before .before .before .before .args .self) (c .before .before .before .before .before .before .before .args .e) ≡ c .is-commit .result
+tested c =
+    sym (c .is-commit .ensures ∙ ap isCommitted (c .before .outcome .ensures) ∙ ap (λ (r : Row). isCommitted (outcomeOfVotes (r .votes))) (c .before .before .keeping .ensures))
 
 refusal-requires : tie.Need-refusal-requires
 refusal-requires c κs = search needs
@@ -30,7 +33,7 @@ is-commit-requires c κs = search needs
 
 returns-3 : tie.Need-returns-3
 returns-3 c =
-    effect-kept (c .before .before .before .before .before .before .before .before .args .self) (c .before .before .before .before .before .before .before .before .args .e) (sym (c .before .before .before .before .before .before .before .refusal .ensures) ∙ c .before .before .before .before .before .if1 .left) (c .before .before .before .before .if2 .left) (c .before .before .before .keeping .result) (c .before .before .before .keeping .ensures)
+    effect-kept (c .before .before .before .before .before .before .before .before .args .self) (c .before .before .before .before .before .before .before .before .args .e) (sym (c .before .before .before .before .before .before .before .refusal .ensures) ∙ c .before .before .before .before .before .if1 .left) (c .before .before .before .before .if2 .left)
     (tested (c .before) ∙ not-true _ (c .if3 .taken))
 
 has32-requires : tie.Need-has32-requires
@@ -41,7 +44,7 @@ next-group-requires c κs = search needs
 
 returns-4 : tie.Need-returns-4
 returns-4 c =
-    effect-committed (c .before .before .before .before .before .before .before .before .before .before .args .self) (c .before .before .before .before .before .before .before .before .before .before .args .e) (sym (c .before .before .before .before .before .before .before .before .before .refusal .ensures) ∙ c .before .before .before .before .before .before .before .if1 .left) (c .before .before .before .before .before .before .if2 .left) (c .before .before .before .before .before .keeping .result) (c .before .before .before .before .before .keeping .ensures)
+    effect-committed (c .before .before .before .before .before .before .before .before .before .before .args .self) (c .before .before .before .before .before .before .before .before .before .before .args .e) (sym (c .before .before .before .before .before .before .before .before .before .refusal .ensures) ∙ c .before .before .before .before .before .before .before .if1 .left) (c .before .before .before .before .before .before .if2 .left)
     (c .next-group .result) (c .before .has32 .result) (tested (c .before .before .before) ∙ not-false _ (c .before .before .if3 .left)) (c .before .has32 .ensures) (c .next-group .ensures)
 
 pub decide-spec : {M : Type 1} → statement M
