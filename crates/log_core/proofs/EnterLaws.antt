@@ -173,3 +173,25 @@ enter-accepted l e ok = entered-accepted l e (effectOf (partsOf l e) e) (effect-
 pub take-entered : (l : Log) (e : Entry) → e .take ≡ true → refusalOf l e ≡ accepted → answered (withHolder l (e .process) (e .store)) accepted ≡ enter l e
 take-entered l e take ok =
     ap (λ (m : Log). answered m accepted) (stored-holder l e (effectOf (partsOf l e) e) take) ∙ enter-accepted l e ok
+
+-- the answer, by the parts that it depends on
+abbrev pub answerParts : Log → Entry → ℕ → Parts
+answerParts l e at = record {
+  row = rowOf l at;
+  holders = l .holders;
+  takers = getD (l .takers) (e .store) 0;
+  groups = 0;
+  remembered = 0;
+}
+
+same-answer : (l : Log) (e : Entry) → refusal (answerParts l e (e .tx)) e ≡ refusalOf l e
+unfolding refusal
+same-answer l e = refl
+
+pub answer-at : (l : Log) (e : Entry) {at : ℕ} → at ≡ cond (e .take) 0 (e .tx) → refusal (answerParts l e at) e ≡ enter l e .answer
+answer-at l e {at} place = by-kind (e .take) refl ∙ sym (answer-is l e)
+  where
+    by-kind : (t : Bool) → e .take ≡ t → refusal (answerParts l e at) e ≡ refusalOf l e
+    by-kind true take = take-answer (answerParts l e at) (partsOf l e) e take refl refl
+    by-kind false vote =
+        ap (λ (t : ℕ). refusal (answerParts l e t) e) (place ∙ ap (λ (b : Bool). cond b 0 (e .tx)) vote) ∙ same-answer l e

@@ -110,4 +110,23 @@ impl Log {
             answer: ACCEPTED,
         }
     }
+
+    // The answer to an entry.
+    pub fn answer_to(self, e: Entry) -> u8
+        ensures { λ r. ⌜ r ≡ enter self e .answer ⌝ }
+    {
+        if e.outside() {
+            return OUTSIDE_LIMITS;
+        }
+        let store = e.store as usize;
+        let tx = row_place(e);
+        let p = Parts {
+            row: self.rows[tx],
+            holders: self.holders,
+            takers: self.takers[store],
+            groups: 0,
+            remembered: 0,
+        };
+        p.refusal(e)
+    }
 }

@@ -29,9 +29,9 @@ fn add_entry(records: &mut [u8], count: usize, log: Log, e: Entry) -> u32
     ensures { λ r. ⌜ r ≡ entryAnswer (now (records .entry)) count log e ⌝ }
     ensures { λ r. ⌜ now (records .exit) ≡ entryBytes (now (records .entry)) count log e ⌝ }
 {
-    let after = log.enter(e);
-    if after.answer != ACCEPTED {
-        return after.answer as u32;
+    let answer = log.answer_to(e);
+    if answer != ACCEPTED {
+        return answer as u32;
     }
     let at = count * RECORD_SIZE;
     if records.len() - at < RECORD_SIZE {
