@@ -22,6 +22,7 @@ use Rattle.release_log.proofs.AddLaws.{count-fits}
 use Rattle.release_log.proofs.FedLaws.{logAfter-more, records-fed}
 use Rattle.release_log.proofs.RecordsLaws.{records-stored}
 use Rattle.release_log.specs.Add.{addAnswer, addBytes}
+use Rattle.release_log.specs.Claims.{AddedEntryIsEntered, FilledIsAccepted, LentLogIsFed}
 use Rattle.host_lent.specs.Lent.{enterReading, lentLog, logAfter, recordsIn}
 use Rattle.release_log.specs.Filled.{Filled, added, empty, entriesIn}
 
@@ -34,9 +35,7 @@ none-lent : (bytes : List ℕ) → logAfter emptyLog (recordsIn bytes 0) ≡ ans
 unfolding logAfter recordsIn
 none-lent bytes = refl
 
--- the log after a buffer is the plain log fed its entries
-pub lent-log-is-fed : (bytes : List ℕ) (count : ℕ) → lentLog bytes count .answer ≡ accepted
-    → lentLog bytes count .log ≡ feed emptyLog (entriesIn bytes count)
+pub lent-log-is-fed : LentLogIsFed
 lent-log-is-fed bytes count h =
     let e = lent-after bytes count (count-fits bytes count h) in
     ap (λ (t : Entered). t .log) e ∙ records-fed emptyLog (recordsIn bytes count) (ap (λ (t : Entered). t .answer) (sym e) ∙ h)
@@ -73,11 +72,9 @@ module _ (bytes : List ℕ) (count : ℕ) (n : Numbers) (h : addAnswer bytes cou
   unfolding enterReading
   entry-accepted = rw read at (parts .entry)
 
-  -- after an accepted add the log after the buffer, one more counted, is the log before with the
-  -- entry entered
-  pub added-entry-is-entered : lentLog (addBytes bytes count n) (suc count) ≡ answered (enter (lentLog bytes count .log) (entryOf n) .log) accepted
+  entered : lentLog (addBytes bytes count n) (suc count) ≡ answered (enter (lentLog bytes count .log) (entryOf n) .log) accepted
   unfolding recordOf
-  added-entry-is-entered =
+  entered =
       let r = recordOf (entryOf n) in
       let before = lent-after bytes count within in
       let more = sets bytes (count * recordSize) r in
@@ -89,7 +86,12 @@ module _ (bytes : List ℕ) (count : ℕ) (n : Numbers) (h : addAnswer bytes cou
       ∙ ap (λ (t : Entered). logAfter (t .log) (r ∷ [])) (sym before)
       ∙ one-more (lentLog bytes count .log) r reads-back entry-accepted
 
--- a buffer that was filled only by accepted adds, from empty, is never refused as records
-pub filled-is-accepted : {bytes : List ℕ} {count : ℕ} → Filled bytes count → lentLog bytes count .answer ≡ accepted
-filled-is-accepted (empty {bytes}) = ap (λ (t : Entered). t .answer) (lent-after bytes 0 (omega arith) ∙ none-lent bytes)
-filled-is-accepted (added {bytes} {count} n f h) = ap (λ (t : Entered). t .answer) (added-entry-is-entered bytes count n h)
+pub added-entry-is-entered : AddedEntryIsEntered
+added-entry-is-entered = entered
+
+filled : {bytes : List ℕ} {count : ℕ} → Filled bytes count → lentLog bytes count .answer ≡ accepted
+filled (empty {bytes}) = ap (λ (t : Entered). t .answer) (lent-after bytes 0 (omega arith) ∙ none-lent bytes)
+filled (added {bytes} {count} n f h) = ap (λ (t : Entered). t .answer) (added-entry-is-entered bytes count n h)
+
+pub filled-is-accepted : FilledIsAccepted
+filled-is-accepted bytes count f = filled f

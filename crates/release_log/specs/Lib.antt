@@ -1,4 +1,5 @@
 pub mod Add
+pub mod Claims
 pub mod Filled
 pub mod Parts
 pub mod Query
