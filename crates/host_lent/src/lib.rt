@@ -103,7 +103,7 @@ fn entered(none: Row, lent: &[u8], count: usize, answer: &mut u8) -> Log
         let old = log.rows[tx];
         let mut row = old.keeping(e);
         row.group = f.group;
-        let after = noted(running, e.tx, row.running());
+        let after = noted(running, e.tx, f.runs);
         log.rows[tx] = row;
         if !f.begins {
             running = after;

@@ -9,7 +9,7 @@ use Rattle.log_entry.specs.declared.Entry.{Entry}
 use Rattle.log_entry.specs.Bits.{has}
 use Rattle.log_entry.specs.Entry.{outside}
 use Rattle.log_entry.specs.Refusal.{accepted, check, firstRefusal, outsideLimits}
-use Rattle.log_votes.specs.Outcome.{isCommitted, outcomeOfVotes}
+use Rattle.log_votes.specs.Outcome.{isCommitted, isOpen, outcomeOfVotes}
 use Rattle.log_votes.specs.Refusal.{voteChecks}
 use Rattle.log_votes.specs.Row.{keeping}
 use Rattle.log_core.specs.declared.Effect.{Effect}
@@ -44,6 +44,10 @@ keeps p e = eqb (refusal p e) accepted && not (e .take)
 abbrev pub commits : Parts → Entry → Bool
 commits p e = isCommitted (outcomeOfVotes (keeping (p .row) e .votes))
 
+-- the outcome is open with the vote: the transaction runs
+abbrev pub runsOn : Parts → Entry → Bool
+runsOn p e = isOpen (outcomeOfVotes (keeping (p .row) e .votes))
+
 -- "the transaction was running when the last group was begun"
 abbrev pub joins : Parts → Entry → Bool
 joins p e = has (p .remembered) (e .tx)
@@ -57,4 +61,5 @@ effectOf p e = record {
   answer = refusal p e;
   group = cond (keeps p e) (groupAfter p e) (p .row .group);
   begins = keeps p e && commits p e && not (joins p e);
+  runs = keeps p e && runsOn p e;
 }

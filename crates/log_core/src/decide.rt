@@ -35,25 +35,30 @@ impl Parts {
     {
         let answer = self.refusal(e);
         let row = self.row;
+        let group = row.group;
         if answer != ACCEPTED {
             return Effect {
                 answer: answer,
-                group: row.group,
+                group: group,
                 begins: false,
+                runs: false,
             };
         }
         if e.take {
             return Effect {
                 answer: ACCEPTED,
-                group: row.group,
+                group: group,
                 begins: false,
+                runs: false,
             };
         }
-        if !row.keeping(e).outcome().is_commit() {
+        let o = row.keeping(e).outcome();
+        if !o.is_commit() {
             return Effect {
                 answer: ACCEPTED,
-                group: row.group,
+                group: group,
                 begins: false,
+                runs: o.is_open(),
             };
         }
         let joins = sets::has32(self.remembered, e.tx);
@@ -61,6 +66,7 @@ impl Parts {
             answer: ACCEPTED,
             group: next_group(self.groups, joins),
             begins: !joins,
+            runs: false,
         }
     }
 }

@@ -47,6 +47,8 @@ pub struct Effect {
     pub group: u8,
     // The vote begins a group.
     pub begins: bool,
+    // The transaction runs after the vote.
+    pub runs: bool,
 }
 
 // The log after an entry, and the answer.

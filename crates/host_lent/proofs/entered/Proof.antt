@@ -9,21 +9,25 @@ use native.Mathlib.Omega.{arith}
 use lib.ListN.{drop, length, length-replicate, length-set, set, take}
 use Rattle.log_entry.proofs.InsideLaws.{inside-process, inside-store, inside-vote}
 use Rattle.log_entry.specs.Entry.{outside}
-use Rattle.log_entry.specs.Limits.{transactions}
+use Rattle.log_entry.specs.Limits.{stores, transactions}
 use Rattle.log_entry.specs.Refusal.{accepted}
-use Rattle.log_core.proofs.DecideLaws.{begins-group}
+use Rattle.log_core.proofs.DecideLaws.{begins-group, effect-runs}
 use Rattle.log_core.proofs.EmptyLaws.{rows-without-votes}
 use Rattle.log_core.proofs.EnterLaws.{enter-refused, enter-stored, holder-stored, partsAt, place-inside, remembered-last}
-use Rattle.log_votes.specs.Row.{inGroup}
+use Rattle.log_votes.specs.declared.Row.{Row}
+use Rattle.log_votes.specs.Outcome.{running}
+use Rattle.log_votes.specs.Row.{inGroup, keeping}
+use Rattle.log_votes.proofs.Lengths.{votes-length}
 use Rattle.log_core.specs.declared.Log.{Log}
 use Rattle.log_core.specs.Enter.{answered, enter, stored}
 use Rattle.log_core.specs.Group.{runningSet}
+use Rattle.log_core.specs.Log.{rowOf}
 use Rattle.host_records.proofs.RecordReadings.{record-inside, record-refusal}
 use Rattle.host_records.specs.declared.Reading.the-variants.{Of, Refused}
 use Rattle.host_records.specs.Record.{readRecord, recordSize}
 use Rattle.host_lent.specs.Lent.{logAfter, recordsEntered, recordsIn, refusalIn}
 use Rattle.host_lent.proofs.LentLaws.{entered, group-stored, none-left, own-place, parts, record-accepted, record-refused, refused, row-stored}
-use Rattle.host_lent.proofs.RunningLaws.{bit-within, none-running, set-after, set-fits}
+use Rattle.host_lent.proofs.RunningLaws.{bit-within, none-running, set-after, set-fits, vote-runs}
 use Rattle.host_lent.proofs.entered.Statement.{statement}
 use Rattle.host_lent.proofs.entered.Tie as tie
 
@@ -194,55 +198,65 @@ element-copy-out-old-2 c = place-inside (c .before .before .before .before .befo
 keeping-requires : tie.Need-keeping-requires Inv-loop μ-loop
 keeping-requires c κs = search needs
 
-running-requires : tie.Need-running-requires Inv-loop μ-loop
-running-requires c κs = search needs
-
 -- the vote's transaction, and its place
 tx-inside : (c : tie.Else2 Inv-loop μ-loop) → c .before .before .before .before .before .before .before .before .before .before .before .before .reading .given .0 .0 .tx < transactions
 tx-inside c = inside-vote (c .before .before .before .before .before .before .before .before .before .before .before .before .reading .given .0 .0) (inside (c .before .before .before .before .before .before .before .before .before .before .before .before)) (c .if2 .left) .tx
 
+-- whether the vote's transaction runs after it
+runs-so : (c : tie.After-keeping Inv-loop μ-loop) → c .before .before .before .before .before .decide .result .runs ≡ running (inGroup (c .keeping .result) (c .before .before .before .before .before .decide .result .group))
+runs-so c =
+    let e = c .before .before .before .before .before .before .before .before .before .before .before .before .before .before .reading .given .0 .0 in
+    let l = c .before .before .before .before .before .before .before .before .before .before .before .before .before .before .before .before .before .before .before .loop .log in
+    let at = c .before .before .before .before .before .before .before .before .before .before .before .row-place .result in
+    let f = c .before .before .before .before .before .decide .result in
+    let size : length (keeping (rowOf l at) e .votes) ≡ stores = ap (λ (r : Row). length (r .votes)) (sym (c .keeping .ensures)) ∙ votes-length (c .keeping .result) _ (c .keeping .ok) in
+    let here : e .store < length (keeping (rowOf l at) e .votes) = omega (arith, size, inside-store e (inside (c .before .before .before .before .before .before .before .before .before .before .before .before .before .before))) in
+    effect-runs (partsAt l e at (c .before .before .before .before .before .before .remembered-in .result)) e f (c .before .before .before .before .before .decide .ensures) (c .before .before .before .if1 .left) (c .before .before .if2 .left)
+    ∙ vote-runs (rowOf l at) e (f .group) here
+    ∙ ap (λ (r : Row). running (inGroup r (f .group))) (sym (c .keeping .ensures))
+
 noted-requires : tie.Need-noted-requires Inv-loop μ-loop
 noted-requires c κs = (
-  tx-inside (c .before .before .before),
+  tx-inside (c .before .before),
   (
-    bit-within (c .before .before .before .before .before .before .before .before .before .before .before .before .before .before .before .before .before .before .before .before .loop .log .rows) (c .before .before .before .before .before .before .before .before .before .before .before .before .before .before .before .before .before .before .before .before .loop .running) (c .before .before .before .before .before .before .before .before .before .before .before .before .before .before .before .before .before .before .before .before .loop .inv .3) (c .before .before .before .before .before .before .before .before .before .before .before .before .before .before .before .before .before .before .before .before .loop .inv .2) (c .before .before .before .before .before .before .before .before .before .before .before .before .before .before .before .reading .given .0 .0 .tx) (tx-inside (c .before .before .before)),
-    set-fits (c .before .before .before .before .before .before .before .before .before .before .before .before .before .before .before .before .before .before .before .before .loop .log .rows) (c .before .before .before .before .before .before .before .before .before .before .before .before .before .before .before .before .before .before .before .before .loop .running) (c .before .before .before .before .before .before .before .before .before .before .before .before .before .before .before .before .before .before .before .before .loop .inv .3) (c .before .before .before .before .before .before .before .before .before .before .before .before .before .before .before .before .before .before .before .before .loop .inv .2) (c .before .before .before .before .before .before .before .before .before .before .before .before .before .before .before .reading .given .0 .0 .tx) (tx-inside (c .before .before .before)) (inGroup (c .before .keeping .result) (c .before .before .before .before .before .before .decide .result .group)) (c .running .result) (c .running .ensures),
+    bit-within (c .before .before .before .before .before .before .before .before .before .before .before .before .before .before .before .before .before .before .before .loop .log .rows) (c .before .before .before .before .before .before .before .before .before .before .before .before .before .before .before .before .before .before .before .loop .running) (c .before .before .before .before .before .before .before .before .before .before .before .before .before .before .before .before .before .before .before .loop .inv .3) (c .before .before .before .before .before .before .before .before .before .before .before .before .before .before .before .before .before .before .before .loop .inv .2) (c .before .before .before .before .before .before .before .before .before .before .before .before .before .before .reading .given .0 .0 .tx) (tx-inside (c .before .before)),
+    set-fits (c .before .before .before .before .before .before .before .before .before .before .before .before .before .before .before .before .before .before .before .loop .log .rows) (c .before .before .before .before .before .before .before .before .before .before .before .before .before .before .before .before .before .before .before .loop .running) (c .before .before .before .before .before .before .before .before .before .before .before .before .before .before .before .before .before .before .before .loop .inv .3) (c .before .before .before .before .before .before .before .before .before .before .before .before .before .before .before .before .before .before .before .loop .inv .2) (c .before .before .before .before .before .before .before .before .before .before .before .before .before .before .reading .given .0 .0 .tx) (tx-inside (c .before .before)) (inGroup (c .keeping .result) (c .before .before .before .before .before .decide .result .group)) (c .before .before .before .before .before .decide .result .runs) (runs-so c),
   ),
 )
 
 -- the set after the vote
-noted-so : (c : tie.After-noted Inv-loop μ-loop) → c .noted .result ≡ runningSet (set (c .before .before .before .before .before .before .before .before .before .before .before .before .before .before .before .before .before .before .before .before .before .loop .log .rows) (c .before .before .before .before .before .before .before .before .before .before .before .before .before .row-place .result) (inGroup (c .before .before .keeping .result) (c .before .before .before .before .before .before .before .decide .result .group)))
+noted-so : (c : tie.After-noted Inv-loop μ-loop) → c .noted .result ≡ runningSet (set (c .before .before .before .before .before .before .before .before .before .before .before .before .before .before .before .before .before .before .before .before .loop .log .rows) (c .before .before .before .before .before .before .before .before .before .before .before .before .row-place .result) (inGroup (c .before .keeping .result) (c .before .before .before .before .before .before .decide .result .group)))
 noted-so c =
     c .noted .ensures
-    ∙ set-after (c .before .before .before .before .before .before .before .before .before .before .before .before .before .before .before .before .before .before .before .before .before .loop .log .rows) (c .before .before .before .before .before .before .before .before .before .before .before .before .before .before .before .before .before .before .before .before .before .loop .running) (c .before .before .before .before .before .before .before .before .before .before .before .before .before .before .before .before .before .before .before .before .before .loop .inv .3) (c .before .before .before .before .before .before .before .before .before .before .before .before .before .before .before .before .before .before .before .before .before .loop .inv .2) (c .before .before .before .before .before .before .before .before .before .before .before .before .before .before .before .before .reading .given .0 .0 .tx) (tx-inside (c .before .before .before .before)) (inGroup (c .before .before .keeping .result) (c .before .before .before .before .before .before .before .decide .result .group)) (c .before .running .result) (c .before .running .ensures)
-    ∙ ap (λ (t : ℕ). runningSet (set (c .before .before .before .before .before .before .before .before .before .before .before .before .before .before .before .before .before .before .before .before .before .loop .log .rows) t (inGroup (c .before .before .keeping .result) (c .before .before .before .before .before .before .before .decide .result .group)))) (sym (own-place (c .before .before .before .before .before .before .before .before .before .before .before .before .before .before .before .before .before .before .before .before .before .loop .log) (c .before .before .before .before .before .before .before .before .before .before .before .before .before .before .before .before .reading .given .0 .0) (c .before .before .before .before .before .before .before .decide .result) (c .before .before .before .before .if2 .left) (c .before .before .before .before .before .before .before .before .before .before .before .before .before .row-place .ensures)))
+    ∙ set-after (c .before .before .before .before .before .before .before .before .before .before .before .before .before .before .before .before .before .before .before .before .loop .log .rows) (c .before .before .before .before .before .before .before .before .before .before .before .before .before .before .before .before .before .before .before .before .loop .running) (c .before .before .before .before .before .before .before .before .before .before .before .before .before .before .before .before .before .before .before .before .loop .inv .3) (c .before .before .before .before .before .before .before .before .before .before .before .before .before .before .before .before .before .before .before .before .loop .inv .2) (c .before .before .before .before .before .before .before .before .before .before .before .before .before .before .before .reading .given .0 .0 .tx) (tx-inside (c .before .before .before)) (inGroup (c .before .keeping .result) (c .before .before .before .before .before .before .decide .result .group)) (c .before .before .before .before .before .before .decide .result .runs) (runs-so (c .before))
+    ∙ ap (λ (t : ℕ). runningSet (set (c .before .before .before .before .before .before .before .before .before .before .before .before .before .before .before .before .before .before .before .before .loop .log .rows) t (inGroup (c .before .keeping .result) (c .before .before .before .before .before .before .decide .result .group)))) (sym (own-place (c .before .before .before .before .before .before .before .before .before .before .before .before .before .before .before .before .before .before .before .before .loop .log) (c .before .before .before .before .before .before .before .before .before .before .before .before .before .before .before .reading .given .0 .0) (c .before .before .before .before .before .before .decide .result) (c .before .before .before .if2 .left) (c .before .before .before .before .before .before .before .before .before .before .before .before .row-place .ensures)))
 
-size-so : (c : tie.After-noted Inv-loop μ-loop) → length (set (c .before .before .before .before .before .before .before .before .before .before .before .before .before .before .before .before .before .before .before .before .before .loop .log .rows) (c .before .before .before .before .before .before .before .before .before .before .before .before .before .row-place .result) (inGroup (c .before .before .keeping .result) (c .before .before .before .before .before .before .before .decide .result .group))) ≡ transactions
-size-so c = length-set (c .before .before .before .before .before .before .before .before .before .before .before .before .before .before .before .before .before .before .before .before .before .loop .log .rows) (c .before .before .before .before .before .before .before .before .before .before .before .before .before .row-place .result) (inGroup (c .before .before .keeping .result) (c .before .before .before .before .before .before .before .decide .result .group)) ∙ c .before .before .before .before .before .before .before .before .before .before .before .before .before .before .before .before .before .before .before .before .before .loop .inv .2
+size-so : (c : tie.After-noted Inv-loop μ-loop) → length (set (c .before .before .before .before .before .before .before .before .before .before .before .before .before .before .before .before .before .before .before .before .loop .log .rows) (c .before .before .before .before .before .before .before .before .before .before .before .before .row-place .result) (inGroup (c .before .keeping .result) (c .before .before .before .before .before .before .decide .result .group))) ≡ transactions
+size-so c = length-set (c .before .before .before .before .before .before .before .before .before .before .before .before .before .before .before .before .before .before .before .before .loop .log .rows) (c .before .before .before .before .before .before .before .before .before .before .before .before .row-place .result) (inGroup (c .before .keeping .result) (c .before .before .before .before .before .before .decide .result .group)) ∙ c .before .before .before .before .before .before .before .before .before .before .before .before .before .before .before .before .before .before .before .before .loop .inv .2
 
 mul-row : tie.Need-mul-row Inv-loop μ-loop
-mul-row c = omega (arith, place-inside (c .before .before .before .before .before .before .before .before .before .before .before .before .before .before .before .before .reading .given .0 .0) (inside (c .before .before .before .before .before .before .before .before .before .before .before .before .before .before .before .before)) (c .before .before .before .before .before .before .before .before .before .before .before .before .before .row-place .ensures))
+mul-row c = omega (arith, place-inside (c .before .before .before .before .before .before .before .before .before .before .before .before .before .before .before .reading .given .0 .0) (inside (c .before .before .before .before .before .before .before .before .before .before .before .before .before .before .before)) (c .before .before .before .before .before .before .before .before .before .before .before .before .row-place .ensures))
 
 element-set-from-row : tie.Need-element-set-from-row Inv-loop μ-loop
-element-set-from-row c = place-inside (c .before .before .before .before .before .before .before .before .before .before .before .before .before .before .before .before .reading .given .0 .0) (inside (c .before .before .before .before .before .before .before .before .before .before .before .before .before .before .before .before)) (c .before .before .before .before .before .before .before .before .before .before .before .before .before .row-place .ensures)
+element-set-from-row c = place-inside (c .before .before .before .before .before .before .before .before .before .before .before .before .before .before .before .reading .given .0 .0) (inside (c .before .before .before .before .before .before .before .before .before .before .before .before .before .before .before)) (c .before .before .before .before .before .before .before .before .before .before .before .before .row-place .ensures)
 
 loop-less-2 : tie.Need-loop-less-2 Inv-loop μ-loop
-loop-less-2 c = omega (arith, c .before .before .before .before .before .before .before .before .before .before .before .before .before .before .before .before .before .before .before .before .before .before .loop-test .taken)
+loop-less-2 c = omega (arith, c .before .before .before .before .before .before .before .before .before .before .before .before .before .before .before .before .before .before .before .before .before .loop-test .taken)
 
 loop-again-2 : tie.Need-loop-again-2 Inv-loop μ-loop
 loop-again-2 c = (
-  omega (arith, c .before .before .before .before .before .before .before .before .before .before .before .before .before .before .before .before .before .before .before .before .before .before .loop-test .taken, c .before .before .before .before .before .before .before .before .before .before .before .before .before .before .before .before .before .before .before .before .before .before .before .loop .inv .0),
-  c .before .before .before .before .before .before .before .before .before .before .before .before .before .before .before .before .before .before .before .before .before .before .before .loop .inv .1
-      ∙ stored-so (c .before .before .before .before .before .before .before .before .before) (c .before .before .before .before .before .before .before .if1 .left)
-      (row-stored (c .before .before .before .before .before .before .before .before .before .before .before .before .before .before .before .before .before .before .before .before .before .before .before .loop .log) (c .before .before .before .before .before .before .before .before .before .before .before .before .before .before .before .before .before .before .reading .given .0 .0) (c .before .before .before .before .before .before .before .before .before .decide .result) (c .before .before .before .before .before .before .if2 .left) (c .before .before .before .before .before .before .before .before .before .before .before .before .before .before .before .row-place .ensures) (c .before .before .before .before .keeping .ensures) (not-true _ (c .if3 .taken))),
+  omega (arith, c .before .before .before .before .before .before .before .before .before .before .before .before .before .before .before .before .before .before .before .before .before .loop-test .taken, c .before .before .before .before .before .before .before .before .before .before .before .before .before .before .before .before .before .before .before .before .before .before .loop .inv .0),
+  c .before .before .before .before .before .before .before .before .before .before .before .before .before .before .before .before .before .before .before .before .before .before .loop .inv .1
+      ∙ stored-so (c .before .before .before .before .before .before .before .before) (c .before .before .before .before .before .before .if1 .left)
+      (row-stored (c .before .before .before .before .before .before .before .before .before .before .before .before .before .before .before .before .before .before .before .before .before .before .loop .log) (c .before .before .before .before .before .before .before .before .before .before .before .before .before .before .before .before .before .reading .given .0 .0) (c .before .before .before .before .before .before .before .before .decide .result) (c .before .before .before .before .before .if2 .left) (c .before .before .before .before .before .before .before .before .before .before .before .before .before .before .row-place .ensures) (c .before .before .before .keeping .ensures) (not-true _ (c .if3 .taken))),
   size-so (c .before .before),
   noted-so (c .before .before),
 )
 
 -- a group that is begun has its place
-begun : (c : tie.Else3 Inv-loop μ-loop) → (1 ≤ c .before .before .before .before .before .before .before .before .before .decide .result .group) × (c .before .before .before .before .before .before .before .before .before .decide .result .group ≤ transactions)
+begun : (c : tie.Else3 Inv-loop μ-loop) → (1 ≤ c .before .before .before .before .before .before .before .before .decide .result .group) × (c .before .before .before .before .before .before .before .before .decide .result .group ≤ transactions)
 begun c =
-    let g = begins-group (partsAt (c .before .before .before .before .before .before .before .before .before .before .before .before .before .before .before .before .before .before .before .before .before .before .before .loop .log) (c .before .before .before .before .before .before .before .before .before .before .before .before .before .before .before .before .before .before .reading .given .0 .0) (c .before .before .before .before .before .before .before .before .before .before .before .before .before .before .before .row-place .result) (c .before .before .before .before .before .before .before .before .before .before .remembered-in .result)) (c .before .before .before .before .before .before .before .before .before .before .before .before .before .before .before .before .before .before .reading .given .0 .0) (c .before .before .before .before .before .before .before .before .before .decide .result) (c .before .before .before .before .before .before .before .before .before .decide .ensures) (not-false _ (c .if3 .left)) in
+    let g = begins-group (partsAt (c .before .before .before .before .before .before .before .before .before .before .before .before .before .before .before .before .before .before .before .before .before .before .loop .log) (c .before .before .before .before .before .before .before .before .before .before .before .before .before .before .before .before .before .reading .given .0 .0) (c .before .before .before .before .before .before .before .before .before .before .before .before .before .before .row-place .result) (c .before .before .before .before .before .before .before .before .before .remembered-in .result)) (c .before .before .before .before .before .before .before .before .before .before .before .before .before .before .before .before .before .reading .given .0 .0) (c .before .before .before .before .before .before .before .before .decide .result) (c .before .before .before .before .before .before .before .before .decide .ensures) (not-false _ (c .if3 .left)) in
     (omega (arith, g .0), omega (arith, g .1))
 
 sub-i : tie.Need-sub-i Inv-loop μ-loop
@@ -258,14 +272,14 @@ element-write-log-3 : tie.Need-element-write-log-3 Inv-loop μ-loop
 element-write-log-3 c = omega (arith, begun (c .before) .0, begun (c .before) .1)
 
 loop-less-3 : tie.Need-loop-less-3 Inv-loop μ-loop
-loop-less-3 c = omega (arith, c .before .before .before .before .before .before .before .before .before .before .before .before .before .before .before .before .before .before .before .before .before .before .before .loop-test .taken)
+loop-less-3 c = omega (arith, c .before .before .before .before .before .before .before .before .before .before .before .before .before .before .before .before .before .before .before .before .before .before .loop-test .taken)
 
 loop-again-3 : tie.Need-loop-again-3 Inv-loop μ-loop
 loop-again-3 c = (
-  omega (arith, c .before .before .before .before .before .before .before .before .before .before .before .before .before .before .before .before .before .before .before .before .before .before .before .loop-test .taken, c .before .before .before .before .before .before .before .before .before .before .before .before .before .before .before .before .before .before .before .before .before .before .before .before .loop .inv .0),
-  c .before .before .before .before .before .before .before .before .before .before .before .before .before .before .before .before .before .before .before .before .before .before .before .before .loop .inv .1
-      ∙ stored-so (c .before .before .before .before .before .before .before .before .before .before) (c .before .before .before .before .before .before .before .before .if1 .left)
-      (group-stored (c .before .before .before .before .before .before .before .before .before .before .before .before .before .before .before .before .before .before .before .before .before .before .before .before .loop .log) (c .before .before .before .before .before .before .before .before .before .before .before .before .before .before .before .before .before .before .before .reading .given .0 .0) (c .before .before .before .before .before .before .before .before .before .before .decide .result) (c .before .before .before .before .before .before .before .if2 .left) (c .before .before .before .before .before .before .before .before .before .before .before .before .before .before .before .before .row-place .ensures) (c .before .before .before .before .before .keeping .ensures) (not-false _ (c .before .if3 .left)) (c .before .before .before .before .before .before .before .before .before .before .before .before .before .before .before .before .before .before .before .before .before .before .before .before .loop .running) (c .before .before .before .before .before .before .before .before .before .before .before .before .before .before .before .before .before .before .before .before .before .before .before .before .loop .inv .3)),
+  omega (arith, c .before .before .before .before .before .before .before .before .before .before .before .before .before .before .before .before .before .before .before .before .before .before .loop-test .taken, c .before .before .before .before .before .before .before .before .before .before .before .before .before .before .before .before .before .before .before .before .before .before .before .loop .inv .0),
+  c .before .before .before .before .before .before .before .before .before .before .before .before .before .before .before .before .before .before .before .before .before .before .before .loop .inv .1
+      ∙ stored-so (c .before .before .before .before .before .before .before .before .before) (c .before .before .before .before .before .before .before .if1 .left)
+      (group-stored (c .before .before .before .before .before .before .before .before .before .before .before .before .before .before .before .before .before .before .before .before .before .before .before .loop .log) (c .before .before .before .before .before .before .before .before .before .before .before .before .before .before .before .before .before .before .reading .given .0 .0) (c .before .before .before .before .before .before .before .before .before .decide .result) (c .before .before .before .before .before .before .if2 .left) (c .before .before .before .before .before .before .before .before .before .before .before .before .before .before .before .row-place .ensures) (c .before .before .before .before .keeping .ensures) (not-false _ (c .before .if3 .left)) (c .before .before .before .before .before .before .before .before .before .before .before .before .before .before .before .before .before .before .before .before .before .before .before .loop .running) (c .before .before .before .before .before .before .before .before .before .before .before .before .before .before .before .before .before .before .before .before .before .before .before .loop .inv .3)),
   size-so (c .before .before .before),
   noted-so (c .before .before .before),
 )
@@ -311,7 +325,6 @@ entered-spec =
     mul-old-2
     element-copy-out-old-2
     keeping-requires
-    running-requires
     noted-requires
     mul-row
     element-set-from-row

@@ -2,8 +2,8 @@ use borrow.Author.Needs.{needs}
 use borrow.Author.Tests.{not-false, not-true}
 use mathlib.Core.Path.{_≡_, ap, sym, _∙_}
 use Rattle.log_votes.specs.declared.Row.{Row}
-use Rattle.log_votes.specs.Outcome.{isCommitted, outcomeOfVotes}
-use Rattle.log_core.specs.Decide.{commits}
+use Rattle.log_votes.specs.Outcome.{isCommitted, isOpen, outcomeOfVotes}
+use Rattle.log_core.specs.Decide.{commits, runsOn}
 use Rattle.log_core.proofs.DecideLaws.{effect-committed, effect-kept, effect-refused, effect-taken}
 use Rattle.log_core.proofs.Parts.decide.Statement.{statement}
 use Rattle.log_core.proofs.Parts.decide.Tie as tie
@@ -31,10 +31,18 @@ outcome-requires c κs = search needs
 is-commit-requires : tie.Need-is-commit-requires
 is-commit-requires c κs = search needs
 
+is-open-requires : tie.Need-is-open-requires
+is-open-requires c κs = search needs
+
+-- whether it runs was asked of the same outcome
+asked : (c : tie.After-is-open) → c .is-open .result ≡ runsOn (c .before .before .before .before .before .before .before .before .before .args .self) (c .before .before .before .before .before .before .before .before .before .args .e)
+asked c =
+    c .is-open .ensures ∙ ap isOpen (c .before .before .before .outcome .ensures) ∙ ap (λ (r : Row). isOpen (outcomeOfVotes (r .votes))) (c .before .before .before .before .keeping .ensures)
+
 returns-3 : tie.Need-returns-3
 returns-3 c =
-    effect-kept (c .before .before .before .before .before .before .before .before .args .self) (c .before .before .before .before .before .before .before .before .args .e) (sym (c .before .before .before .before .before .before .before .refusal .ensures) ∙ c .before .before .before .before .before .if1 .left) (c .before .before .before .before .if2 .left)
-    (tested (c .before) ∙ not-true _ (c .if3 .taken))
+    effect-kept (c .before .before .before .before .before .before .before .before .before .args .self) (c .before .before .before .before .before .before .before .before .before .args .e) (sym (c .before .before .before .before .before .before .before .before .refusal .ensures) ∙ c .before .before .before .before .before .before .if1 .left) (c .before .before .before .before .before .if2 .left)
+    (c .is-open .result) (tested (c .before .before) ∙ not-true _ (c .before .if3 .taken)) (asked c)
 
 has32-requires : tie.Need-has32-requires
 has32-requires c κs = search needs
@@ -57,6 +65,7 @@ decide-spec =
     keeping-requires
     outcome-requires
     is-commit-requires
+    is-open-requires
     returns-3
     has32-requires
     next-group-requires
