@@ -52,7 +52,8 @@ IllFormedExactly = (e : Entry) → (illFormed e ≡ false) ↔ WellFormed e
 abbrev pub HoldsNotExactly : Type 0
 HoldsNotExactly = (l : Log) (e : Entry) → (holdsNot l e ≡ false) ↔ (holderOf l (e .by) ≡ e .process)
 
--- ---- 9: "a commit vote with list L is kept, and this is a commit with another list or an abort whose list is not within L"
+-- ---- 9: "a commit vote with list L is kept, and this is a commit with another list or an abort
+-- whose list is not within L"
 
 pub record Fits (e : Entry) (list : ℕ) : Type 0 where
   pub same-list : e .commit ≡ true → e .participants ≡ list

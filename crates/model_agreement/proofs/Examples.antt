@@ -69,7 +69,8 @@ pub row-restored : getD (processOf (computed whole) 2 .replay .rows) 0 noReplaye
 unfolding computed
 row-restored = refl
 
--- ---- a later coordinator adopts the batch of the highest ballot, while a majority of its promises carries an older one
+-- ---- a later coordinator adopts the batch of the highest ballot, while a majority of its promises
+-- carries an older one
 
 pub one-decided : 1 ≤ length (demand-3 highest .sequence)
 one-decided = decides highest 2 1 (highest-agree .1)

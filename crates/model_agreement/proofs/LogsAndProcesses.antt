@@ -53,7 +53,8 @@ use Rattle.model_agreement.proofs.Tests.{neqb→ne}
 use Rattle.model_agreement.proofs.StepEffects.{Move, asks, counts, crashes, hears, is-told, joins, learns, opens, passes-accept, passes-accepted, passes-prepare, passes-promise, passes-request, passes-restore, promises, proposes, restores, takes, tells, votes}
 use Rattle.model_agreement.proofs.SentMessages.{AllNew, At, OneNew, Posts}
 
--- ---- what is said of a message, a queue and a log, by the number n of acceptors, the history h and the sent messages S of the ballots
+-- ---- what is said of a message, a queue and a log, by the number n of acceptors, the history h
+-- and the sent messages S of the ballots
 
 -- a batch that may be proposed: 1 to 4 entries, each of them asked
 pub record Fine (h : List Event) (v : Batch) : Type 0 where

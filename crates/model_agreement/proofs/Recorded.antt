@@ -15,7 +15,8 @@ use Rattle.model_protocol.specs.declared.Batch.{Batch}
 use Rattle.model_agreement.specs.Content.{paxos}
 use Rattle.model_agreement.specs.History.{Accepts, Event, Got, LastOpened, Learns, NoneAbove, Other, Since, before, delivered, first, heard, here, kept, later, learns, opened, opening, withoutMessages, there}
 
--- ---- coordinator k, which has applied p instances, opened l last in its current one, and counted the acceptances of q
+-- ---- coordinator k, which has applied p instances, opened l last in its current one, and counted
+-- the acceptances of q
 
 pub record CoNow (n : ℕ) (h : List Event) (k p l q : ℕ) : Type 0 where
   pub last : 0 < l → LastOpened k p l h

@@ -1,4 +1,5 @@
--- Demand 3, after any list of steps from the fresh world. Since the list is any, it holds after each step of it.
+-- Demand 3, after any list of steps from the fresh world. Since the list is any, it holds after
+-- each step of it.
 use Prim.Native.Nat.{ℕ, _≤_, _<_}
 use mathlib.Core.Path.{_≡_}
 use mathlib.Core.Logic.{_≢_}
@@ -52,13 +53,15 @@ pub record RestoredWell (p : ℕ) (r : Restored) (h : List Event) (s : List Batc
   -- "the position is its sender's applied count at the sending"
   pub position : Applied (acceptors h) sender (r .position) then
   pub within : r .position ≤ length s
-  -- "the rows are the store's replay in the plain log fed so many batches, which has the process as holder"
+  -- "the rows are the store's replay in the plain log fed so many batches, which has the process as
+  -- holder"
   pub rows : r .replay ≡ replayOf (plainLog (take (r .position) s)) (r .store)
   pub holder : holderOf (plainLog (take (r .position) s)) (r .store) ≡ p
 
 -- the claim after the list of steps, with its history h and its world w
 pub record Claim (steps : List Step) (h : List Event) (w : World) : Type 0 where
-  -- "The batches that a majority accepted under one ballot form a single sequence: one an instance, none skipped"
+  -- "The batches that a majority accepted under one ballot form a single sequence: one an instance,
+  -- none skipped"
   pub sequence : List Batch
   pub is-sequence : IsSequence h sequence
   -- "and later steps only add to its end"
@@ -66,7 +69,8 @@ pub record Claim (steps : List Step) (h : List Event) (w : World) : Type 0 where
   -- a coordinator's applied count as the world keeps it is how many it learned
   pub applied : (k : ℕ) → Applied (acceptors h) k (coordinatorOf w k .applied) h
   pub applied-within : (k : ℕ) → coordinatorOf w k .applied ≤ length sequence
-  -- "Every coordinator's log equals the plain log fed the first n batches, n being its applied count"
+  -- "Every coordinator's log equals the plain log fed the first n batches, n being its applied
+  -- count"
   pub logs : (k : ℕ) → logOf w k ≡ plainLog (take (coordinatorOf w k .applied) sequence)
   -- "Each entry in the sequence was sent by the process it names", with all its values
   pub entries : (i : ℕ) → i < length sequence → (e : Entry) → List·Memᴰ e (entriesOf (batchAt sequence i)) → Happened (asked e) h
@@ -78,7 +82,8 @@ pub record Claim (steps : List Step) (h : List Event) (w : World) : Type 0 where
   -- the world keeps what a process heard, and so that is the outcome too
   pub heard-kept : (p tx : ℕ) → keptOf w p tx ≡ heardOf p tx h
   pub kept-outcome : (p tx : ℕ) → keptOf w p tx ≢ Open → keptOf w p tx ≡ outcomeOf (plainLog sequence) tx
-  -- "Each restored store holds exactly the updates of the plain log fed the first p batches, p being the position named"
+  -- "Each restored store holds exactly the updates of the plain log fed the first p batches, p
+  -- being the position named"
   pub restored : (p : ℕ) → 0 < restoredOf p h .position → RestoredWell p (restoredOf p h) h sequence
   -- the world keeps the last restore that a process took
   pub restored-store : (p : ℕ) → processOf w p .store ≡ restoredOf p h .store

@@ -79,8 +79,8 @@ pub data Got (x : Content) : List Event → Type 0 where
   here : {m : ℕ} {h : List Event} → Got x (delivered m x ∷ h)
   there : {e : Event} {h : List Event} → Got x h → Got x (e ∷ h)
 
--- ---- "An acceptor accepts a batch in an instance under b when an accept of all three is delivered to it and no prepare or accept above b
--- in that instance was delivered to it before."
+-- ---- "An acceptor accepts a batch in an instance under b when an accept of all three is delivered
+-- to it and no prepare or accept above b in that instance was delivered to it before."
 
 pub record NoneAbove (i b a : ℕ) (h : List Event) : Type 0 where
   pub prepares : {c : ℕ} → Got (paxos (prepare i c a)) h → c ≤ b
@@ -96,8 +96,9 @@ pub record Decided (n i b : ℕ) (v : Batch) (h : List Event) : Type 0 where
   pub most : Majority n set
   pub all : (a : ℕ) → T (has set a) → Accepts i b a v h
 
--- ---- "A coordinator learns an instance when, for a ballot it opened there, acceptances from a majority are delivered to it before it opens
--- another." An acceptance goes to its ballot's coordinator, who alone may open that ballot.
+-- ---- "A coordinator learns an instance when, for a ballot it opened there, acceptances from a
+-- majority are delivered to it before it opens another." An acceptance goes to its ballot's
+-- coordinator, who alone may open that ballot.
 
 -- e is no opening by k
 abbrev pub Other : ℕ → Event → Type 0

@@ -1,5 +1,5 @@
--- Single-decree Paxos: what the sent messages obey, and the claim that at most one value is chosen in
--- an instance. S says which messages were sent; nothing is said of what a value is.
+-- Single-decree Paxos: what the sent messages obey, and the claim that at most one value is chosen
+-- in an instance. S says which messages were sent; nothing is said of what a value is.
 use Prim.Native.Nat.{ℕ, zero, suc, _/_, _%_, _≤_, _<_}
 use mathlib.Core.Path.{_≡_}
 use mathlib.Core.Logic.{_⊎_}

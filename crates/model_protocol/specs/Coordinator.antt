@@ -21,7 +21,8 @@ withRound c r = record { applied = c .applied; queue = c .queue; round = r }
 
 -- ---- promises
 
--- "Promises and acceptances for another instance, or for a ballot other than the one opened last, are passed over"
+-- "Promises and acceptances for another instance, or for a ballot other than the one opened last,
+-- are passed over"
 abbrev pub isCurrent : Coordinator → ℕ → ℕ → Bool
 isCurrent c i b = eqb i (c .applied) && eqb b (c .round .ballot)
 
@@ -47,7 +48,8 @@ promiseHeard r a accepted batch = cond (ltb (r .accepted) accepted) (hearing r a
 
 -- ---- proposals
 
--- "The batch is the accepted one of highest ballot among the promises; if none, the first up to four queue entries."
+-- "The batch is the accepted one of highest ballot among the promises; if none, the first up to
+-- four queue entries."
 unfoldable pub batchToPropose : Coordinator → Batch
 batchToPropose c = cond (eqb (c .round .accepted) 0) (firstBatch (c .queue)) (c .round .batch)
 
@@ -75,8 +77,9 @@ counting r a = record {
   acceptances = with (r .acceptances) a;
 }
 
--- "When a majority accepted, the batch is applied": one instance more; the batch is for its log. "Queue entries equal to an entry of the
--- learned batch leave". In every reachable world there are fewer than 16 here, so the cap never applies.
+-- "When a majority accepted, the batch is applied": one instance more; the batch is for its log.
+-- "Queue entries equal to an entry of the learned batch leave". In every reachable world there are
+-- fewer than 16 here, so the cap never applies.
 unfoldable pub learning : Coordinator → Coordinator
 learning c = record {
   applied = min (c .applied + 1) instances;

@@ -28,7 +28,8 @@ receiverDown d m Accepted = isDown d Coord (owner (m .ballot))
 receiverDown d m Tell = isDown d Proc (m .to)
 receiverDown d m Restore = isDown d Proc (m .to)
 
--- 6: no number is left for the answer of an acceptor that has one to send, or the queue is full for a new entry
+-- 6: no number is left for the answer of an acceptor that has one to send, or the queue is full for
+-- a new entry
 abbrev pub noPlaceFor : Parts → Kind → Bool
 noPlaceFor p Request = isFull (p .coordinator .queue) && not (isIn (p .message .entry) (queued (p .coordinator .queue)))
 noPlaceFor p Prepare = promises (p .slot) (p .message .ballot) && lacksNumbers (p .sent) 1
@@ -42,7 +43,8 @@ noPlaceFor p Restore = false
 unfoldable pub deliveryChange : Parts → Kind → Change
 -- "A delivered request joins the queue unless an equal entry is there."
 deliveryChange p Request = done (coordinatorNow p (withQueue (p .coordinator) (joining (p .coordinator .queue) (p .message .entry))))
--- "Prepare of b: if b is above the promised ballot, it promises b and sends b's coordinator a promise with its accepted pair; else nothing."
+-- "Prepare of b: if b is above the promised ballot, it promises b and sends b's coordinator a
+-- promise with its accepted pair; else nothing."
 deliveryChange p Prepare =
     let m = p .message in
     let x = p .slot in
@@ -50,14 +52,16 @@ deliveryChange p Prepare =
     (promises x (m .ballot))
     (sending (slotNow p (promising x (m .ballot))) 1 (promiseFrom (m .inst) (m .ballot) (m .acceptor) (x .ballot) (x .batch)))
     (done p)
--- "Accept of b: if b is not below the promised ballot, it promises and accepts b and sends b's coordinator accepted; else nothing."
+-- "Accept of b: if b is not below the promised ballot, it promises and accepts b and sends b's
+-- coordinator accepted; else nothing."
 deliveryChange p Accept =
     let m = p .message in
     cond
     (accepts (p .slot) (m .ballot))
     (sending (slotNow p (accepting (m .ballot) (m .batch))) 1 (acceptedFrom (m .inst) (m .ballot) (m .acceptor)))
     (done p)
--- "Promises and acceptances for another instance, or for a ballot other than the one opened last, are passed over"
+-- "Promises and acceptances for another instance, or for a ballot other than the one opened last,
+-- are passed over"
 deliveryChange p Promise =
     let m = p .message in
     let c = p .coordinator in
@@ -79,8 +83,8 @@ deliveryChange p Accepted =
     (done p)
 -- "It hears outcomes only by `tell`."
 deliveryChange p Tell = done (processNow p (hearingOutcome (p .process) (p .message .tx) (p .message .outcome)))
--- "A process takes a delivered restore exactly if its position is above the last it took, 0 at first, and from then believes it holds that
--- store and no other."
+-- "A process takes a delivered restore exactly if its position is above the last it took, 0 at
+-- first, and from then believes it holds that store and no other."
 deliveryChange p Restore =
     let m = p .message in
     cond (ltb (p .process .position) (m .position)) (done (processNow p (taking (p .process) (m .store) (m .position) (m .replay)))) (done p)

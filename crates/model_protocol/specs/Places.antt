@@ -1,5 +1,6 @@
--- Where in the world the parts of a step stand. A number beyond the places wraps, so that every step of every world has its places: a step
--- with such a number is refused 2, and no message has one (`InBounds` of model_agreement).
+-- Where in the world the parts of a step stand. A number beyond the places wraps, so that every
+-- step of every world has its places: a step with such a number is refused 2, and no message has
+-- one (`InBounds` of model_agreement).
 use Prim.Native.Nat.{ℕ, _+_, _*_, _%_}
 use Rattle.model_steps.specs.declared.Step.{Step}
 use Rattle.model_steps.specs.declared.Step.the-variants.{Setup, Request, Open, Propose, Deliver, Tell, Restore, Crash}

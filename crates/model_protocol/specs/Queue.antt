@@ -32,7 +32,8 @@ isIn e (f ∷ fs) = sameEntry e f || isIn e fs
 abbrev pub joined : Queue → Entry → Queue
 joined q e = record { entries = set (q .entries) (q .count) e; count = q .count + 1 }
 
--- "A delivered request joins the queue unless an equal entry is there." For a new entry a full queue is refused (6), and stays as it is
+-- "A delivered request joins the queue unless an equal entry is there." For a new entry a full
+-- queue is refused (6), and stays as it is
 unfoldable pub joining : Queue → Entry → Queue
 joining q e = cond (isIn e (queued q) || isFull q) q (joined q e)
 

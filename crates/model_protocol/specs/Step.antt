@@ -1,5 +1,5 @@
--- The steps of the world: for each kind the refusals, in the order in which they are tried, and what the step does. Both go by the parts of the
--- world that the step touches.
+-- The steps of the world: for each kind the refusals, in the order in which they are tried, and
+-- what the step does. Both go by the parts of the world that the step touches.
 use Prim.Native.Nat.{ℕ, suc}
 use mathlib.Core.Bool.{Bool, _&&_, _||_, not, cond}
 use mathlib.Core.List.{List, [], _∷_}
@@ -73,7 +73,8 @@ cannotPropose n k i b =
     || k .round .proposed
     || eqb (k .round .accepted) 0 && eqb (k .queue .count) 0
 
--- the refusals after 2, by the parts that the step touches. A message that was not sent has no receiver, so 4 is tried before 3
+-- the refusals after 2, by the parts that the step touches. A message that was not sent has no
+-- receiver, so 4 is tried before 3
 unfoldable pub stepChecks : Parts → Step → List Check
 stepChecks p (Setup n) = check notMet (not (notSetUp p)) ∷ []
 -- "A sent vote meets 1, 2, 3, 5, 6, 7". A sent take meets 5 too, where there was no setup, but not
@@ -132,7 +133,8 @@ changeOf p (Tell c process tx) = sending p 1 (p .message)
 changeOf p (Restore c process) = sending p 1 (p .message)
 changeOf p (Crash role id) = done (downNow p (crashed (p .down) role id))
 
--- ---- the message of a step, where d is the one that it delivers; l is the log of a coordinator that applied n instances
+-- ---- the message of a step, where d is the one that it delivers; l is the log of a coordinator
+-- that applied n instances
 
 unfoldable pub messageFor : Step → Message → Log → ℕ → Message
 messageFor (Setup k) d l n = d
@@ -142,7 +144,8 @@ messageFor (Propose c i b) d l n = d
 messageFor (Deliver m) d l n = d
 -- "`tell` sends a process the outcome of a decided tx."
 messageFor (Tell c process tx) d l n = tellTo process tx (outcomeOf l tx)
--- "`restore` sends the store's holder, by this coordinator's log, the applied count as position and the store's replay."
+-- "`restore` sends the store's holder, by this coordinator's log, the applied count as position and
+-- the store's replay."
 messageFor (Restore c process) d l n = restoreTo process (heldStore l process) n (replayOf l (heldStore l process))
 messageFor (Crash role id) d l n = d
 

@@ -194,7 +194,8 @@ otherInstance =
     ∷ (Propose 0 1 3 gives 0) ∷ (Deliver 9 gives 0) ∷ (Deliver 10 gives 0) ∷ (Open 0 2 3 gives 5) ∷ (Open 0 1 6 gives 0)
     ∷ []
 
--- ---- a batch that another coordinator proposed is learned: its entries leave the queue of coordinator 1
+-- ---- a batch that another coordinator proposed is learned: its entries leave the queue of
+-- coordinator 1
 
 unfoldable pub learnsAnothers : List Tried
 learnsAnothers =
@@ -210,7 +211,8 @@ learnsAnothers =
     ∷ (Deliver 22 gives 0) ∷ (Deliver 23 gives 0) ∷ (Deliver 24 gives 0) ∷ (Deliver 25 gives 0)
     ∷ []
 
--- ---- an accept promises too, and a promise carries the accepted pair; what does nothing sends nothing
+-- ---- an accept promises too, and a promise carries the accepted pair; what does nothing sends
+-- nothing
 
 unfoldable pub acceptPromises : List Tried
 acceptPromises =

@@ -1,4 +1,5 @@
--- The world's value: the fresh world, what stands where, the world with one message more, and who is down.
+-- The world's value: the fresh world, what stands where, the world with one message more, and who
+-- is down.
 use Prim.Native.Nat.{ℕ, _+_, _*_}
 use mathlib.Core.Bool.{Bool, true, false}
 use mathlib.Core.List.{[]}

@@ -1,5 +1,5 @@
-// The coordinated commit service: messages, acceptors, coordinators, processes, and the world that joins them.
-// These are the values; what each step does to them stands in specs/.
+// The coordinated commit service: messages, acceptors, coordinators, processes, and the world that
+// joins them. These are the values; what each step does to them stands in specs/.
 use limits::ACCEPTOR_PLACES;
 use limits::BATCH_PLACES;
 use limits::COORDINATOR_PLACES;
@@ -41,7 +41,8 @@ pub struct Message {
     pub kind: Kind,
     // Of a request the coordinator, of a tell and a restore the process that it goes to.
     pub to: u8,
-    // The acceptor that a prepare or an accept goes to, or that a promise or an acceptance comes from.
+    // The acceptor that a prepare or an accept goes to, or that a promise or an acceptance comes
+    // from.
     pub acceptor: u8,
     pub inst: u8,
     pub ballot: u8,
@@ -135,7 +136,8 @@ pub struct World {
     pub sent: u8,
 }
 
-// The parts of the world that a step looks at and may change: of coordinators, slots, processes and messages the one that it is about.
+// The parts of the world that a step looks at and may change: of coordinators, slots, processes and
+// messages the one that it is about.
 pub struct Parts {
     pub acceptors: u8,
     pub sent: u8,

@@ -1,4 +1,5 @@
--- Document 01, "Numbers in use": the limits of what a step of the world names, beside those of its entry.
+-- Document 01, "Numbers in use": the limits of what a step of the world names, beside those of its
+-- entry.
 use Prim.Native.Nat.{ℕ}
 use mathlib.Core.Bool.{Bool, _&&_, _||_, not}
 use lib.Dec.{eqb, leb, ltb}

@@ -1,4 +1,5 @@
-// The limits of what a coordinator holds. `specs/Limits.antt` has the same numbers for the contracts.
+// The limits of what a coordinator holds. `specs/Limits.antt` has the same numbers for the
+// contracts.
 ghost use mathlib.Core.Path.{_≡_};
 ghost use Prim.Native.Nat.{min};
 

@@ -37,7 +37,8 @@ fn with_acceptor(set: u8, a: u8) -> u8
     set | (1 << a)
 }
 
-// The promise of acceptor a, with its accepted pair, is heard; a number past the set changes nothing.
+// The promise of acceptor a, with its accepted pair, is heard; a number past the set changes
+// nothing.
 pub fn promise_heard(mut round: Round, a: u8, accepted: u8, batch: Batch) -> Round
     ensures { λ r. ⌜ r ≡ cond (ltb a setPlaces) (promiseHeard round a accepted batch) round ⌝ }
 {

@@ -90,6 +90,7 @@ pub fn advance(mut w: World, commands: Commands) -> Advanced
     }
 }
 
+// One step. The program takes all at once; this is for a host that takes them one by one.
 pub fn step(w: World, s: Step) -> Stepped
     ensures { λ r. ⌜ r ≡ stepOf w s ⌝ }
 {

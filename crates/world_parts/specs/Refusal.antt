@@ -1,4 +1,5 @@
--- The refusals of a step in the order in which they are tried, its numbers being within their limits.
+-- The refusals of a step in the order in which they are tried, its numbers being within their
+-- limits.
 use Prim.Native.Nat.{ℕ}
 use mathlib.Core.Bool.{Bool}
 use mathlib.Core.List.{List, [], _∷_}

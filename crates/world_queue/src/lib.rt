@@ -30,7 +30,8 @@ fn lend(entries: [Entry; QUEUE_PLACES], n: usize, e: Entry) -> bool
     is_among(&entries[..n], e)
 }
 
-// Whether an equal entry is among the first `count`, or among all if there are fewer. Its parameters are plain: a caller lends nothing.
+// Whether an equal entry is among the first `count`, or among all if there are fewer. Its
+// parameters are plain: a caller lends nothing.
 pub fn is_among_first(entries: [Entry; QUEUE_PLACES], count: u8, e: Entry) -> bool
     ensures { λ r. ⌜ r ≡ isIn e (take count entries) ⌝ }
 {

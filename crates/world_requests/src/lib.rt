@@ -153,8 +153,8 @@ fn restored(log: Log, applied: u8, process: u8) -> Message
     message::restore_to(process, store, applied, log.replay(store))
 }
 
-// The message of a step, where `delivered` is the one that it delivers: a tell or a restore sends what the log of a coordinator that applied so
-// many instances says.
+// The message of a step, where `delivered` is the one that it delivers: a tell or a restore sends
+// what the log of a coordinator that applied n instances says.
 pub fn said(s: Step, delivered: Message, log: Log, applied: u8) -> Message
     ensures { λ r. ⌜ r ≡ messageFor s delivered log applied ⌝ }
 {

@@ -1,5 +1,6 @@
--- A walk of the scan's MIR. At the loop's head the entries from i on were found to differ. A turn looks into the slice, copies the entry out, shuts the
--- slice and calls `same`; either it returns within the loop, or i is one less.
+-- A walk of the scan's MIR. At the loop's head the entries from i on were found to differ. A turn
+-- looks into the slice, copies the entry out, shuts the slice and calls `same`; either it returns
+-- within the loop, or i is one less.
 use mathlib.Core.Path.{_≡_, refl, sym, _∙_, ap}
 use Prim.Native.Nat.{ℕ, zero, suc, _-_, _<_, _≤_}
 use mathlib.Core.Bool.{Bool, true, false}
@@ -182,7 +183,8 @@ module _ {M : Type 1} (𝓤 : URA M) (H : Heap 𝓤) (A : Atoms 𝓤) (W : Given
         rewrite ! 4 (λ (p : ℕ). ‵ (fat fullShare tyPtr l₇ 0 (vptr b p))) (sym (place-is _ o i)) refl $
         move ! (10 ∷ 9 ∷ []) $
         looks-slice ! tt R (Is R) (shows 𝓤 H A R) vals tells (copies 𝓤 H A W) ys b o (λ q′. elem-out ! R (Is R) (shows 𝓤 H A R) vals tells q′ ys i noEntry b o l (λ gi.
-        -- [q[i]; what it owns; the others; what shuts; the fractured borrow; _3; _4; _5; _6; _7; _8; _1; _2; _0; …]
+        -- [q[i]; what it owns; the others; what shuts; the fractured borrow; _3; _4; _5; _6; _7;
+        -- _8; _1; _2; _0; …]
         assigns ! (of-opd ! (load ! (from ! (hop ! (look ! 9 refl) (stop !))) (look-raw ! 0 refl))) (from ! (stop !)) (init ! 10 refl (lawful 𝓤 H A W .typed (elem i) (T′.lowered (elem i) ∷ []) gi .0)) $
         elem-back ! R q′ ys i noEntry (T′.lowered (elem i) ∷ []) b o l $ shuts-slice ! tt R q′ ys b o $
         -- [the token; the fractured borrow; _3; _4; _5; _6; _7; _8; _1; _2; _0; the slice; e's; …]

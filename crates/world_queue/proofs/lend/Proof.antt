@@ -1,5 +1,6 @@
--- A walk of the lender's MIR. The array in memory is a row of entries; its first n are lent as a slice for a lifetime made for the call, `is_among` is
--- called, the lifetime ends, and the row is an array again.
+-- A walk of the lender's MIR. The array in memory is a row of entries; its first n are lent as a
+-- slice for a lifetime made for the call, `is_among` is called, the lifetime ends, and the row is
+-- an array again.
 use mathlib.Core.Path.{_≡_, refl, sym}
 use Prim.Native.Nat.{ℕ, _<_, _^_, _≤_}
 use mathlib.Core.Bool.{Bool}
@@ -134,7 +135,8 @@ module _ {M : Type 1} (𝓤 : URA M) (H : Heap 𝓤) (A : Atoms 𝓤) (W : Given
           assigns ! (of-opd ! (load ! (from ! (stop !)) (look ! 10 refl))) (from ! (stop !)) (init ! 4 refl (array-lawful 𝓤 H A W R (lawful 𝓤 H A W) 8 .typed ys (arr ∷ []) gy .0)) $
           assigns ! (addr ! (from ! (stop !))) (from ! (stop !)) (init ! 2 refl (tt, tt)) $
           assigns ! (agg ! (and-then ! (load ! (from ! (stop !)) (look ! 2 refl)) (and-then ! (load ! (from ! (stop !)) (look ! 8 refl)) (no-more !)))) (from ! (stop !)) (init ! 0 refl (tt, (tt, (record { fits = gn }, tt)))) $
-          -- the array in memory, with what it owns, is a row of entries, of which the first n are lent
+          -- the array in memory, with what it owns, is a row of entries, of which the first n are
+          -- lent
           owned ! Rs (Is Rs) (array-makes 𝓤 H A W R (makes 𝓤 H A) 8) ys (arr ∷ []) gy $ move ! (5 ∷ 0 ∷ []) $
           use2 W (‵ (partAt Rs fullShare ys l₄ 0)) (part-in 𝓤 H A W Rs refl fullShare ys l₄ 0 arr) $ use1 W (‵ (arr-parts (shares R) 8 .part fullShare ys l₄ 0)) (array-apart 𝓤 H A W R fullShare tt 8 ys l₄ 0) $
           fsplit ! $ drop ! $ use1 W (‵ (parts (inMem R) (shares R) fullShare zs l₄ 0) ⊛ ‵ (after (shares R) fullShare n ys l₄ 0)) (cut (shares R) fullShare 𝓤 H A W n ys l₄ 0) $ split ! $
@@ -142,7 +144,8 @@ module _ {M : Type 1} (𝓤 : URA M) (H : Heap 𝓤) (A : Atoms 𝓤) (W : Given
           lft-new ! tt (λ α. move ! (1 ∷ []) $
           use1 W (later (some (λ (γ : GName). ‵ (ShrSlice (named 0) (α ∷ []) R .own (lent l₄ γ) (sliceVal (l₄, 0) (length zs) ∷ [])) ⊛ ‵ (flent (α ∷ []) (arr-parts (shares R) (length zs) .part fullShare zs l₄ 0))))) (lends-shr-slice 𝓤 H A W R (named 0) (α ∷ []) fullShare zs l₄ 0 room8) $
           await ! tt $ pick ! (λ γ. split ! $
-          -- [the slice; the lender's part; the token; the rest of the row; _6; …; _5; …; that _4 dies; _3; …; _2; …; _1; …; _0; …]
+          -- [the slice; the lender's part; the token; the rest of the row; _6; …; _5; …; that _4
+          -- dies; _3; …; _2; …; _1; …; _0; …]
           rewrite ! 4 (λ (k : ℕ). ‵ (fat fullShare slice l₆ 0 (sliceVal (l₄, 0) k))) (sym lenz) refl $
           move ! (2 ∷ 0 ∷ []) $ use2 W (raw (IsAmongAt 𝓤 H A mem run .pre (to α l₄ γ))) (goes α l₄ γ) $
           calls-at ! fm (IsAmongAt 𝓤 H A mem run) known (to α l₄ γ) (and-then ! (load ! (from ! (stop !)) (look ! 3 refl)) (and-then ! (load ! (from ! (stop !)) (look ! 8 refl)) (no-more !))) (λ u.

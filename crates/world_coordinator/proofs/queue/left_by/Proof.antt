@@ -1,4 +1,5 @@
--- The outer loop: what is left to keep, stored from where it is, gives the whole. The inner one: what is left of the batch decides.
+-- The outer loop: what is left to keep, stored from where it is, gives the whole. The inner one:
+-- what is left of the batch decides.
 use Prim.Native.Nat.{_+_, _-_, _≤_, min}
 use mathlib.Core.Bool.{false, true}
 use mathlib.Core.Path.{_≡_, refl, sym, _∙_}
