@@ -33,8 +33,8 @@ impl Log {
         self.enter(e)
     }
 
-    // The process, which holds `by`, votes for the store on the transaction. It stands beside `take`
-    // for a caller with the numbers of a vote; the programs have entries.
+    // The process, which holds `by`, votes for the store on the transaction. It is for a caller with
+    // the numbers of a vote; the programs have entries.
     pub fn vote(
         mut self,
         process: u8,
