@@ -2,10 +2,13 @@
 """Writes the cases of crates/plain_cases: `make_plain_cases.py crates/plain_cases`.
 
 Files of data/ that end in .steps stand there already (shared vectors); all others are made here,
-with args (the names) and stdout (each name, then what plain_reference.py prints)."""
+with args (the names) and stdout (each name, what plain_reference.py prints, and who is involved)."""
 import case_files
+import log_cases
 import plain_reference as reference
-from plain_log import joined
+from plain_log import STORES, TXS, Log, joined, printed
+
+INVOLVED = {"no": "0", "yes": "1", "unknown": "2"}
 
 
 def vote(p=1, by=0, store=0, tx=0, lst="01", say="commit", upd="00000001"):
@@ -69,7 +72,7 @@ def value_cases():
     yield "unreadable-before-outside", lines(take(99, "x"), take("x", 99), vote(p=99, upd="x"), vote(tx=99, say="no"), vote(by=300, lst="FF"), take(99, 99))
 
 
-def log_cases():
+def step_cases():
     yield "words", lines(b"do=take", b"do=", b"do", b"", b"do=taken proc=1 store=0", b"do= take proc=1 store=0", b"Do=take proc=1 store=0",
                          b"do=take  proc=1 store=0", b"do=take proc=1  store=0", b"do=take proc=1 store=0 ", b" do=take proc=1 store=0", b"do=take store=0 proc=1",
                          b"do=take proc=1", b"do=take proc=1 store=0 to=0", b"do=take proc=1 proc=1 store=0", b"do=take\tproc=1 store=0", b"do=take proc=1 store=0\r",
@@ -90,12 +93,23 @@ def log_cases():
 
 
 def cases():
-    for group in (shape_cases, value_cases, log_cases):
+    for group in (shape_cases, value_cases, step_cases, log_cases.cases):
         yield from group()
 
 
+def involvement(log, tx):
+    """By store, for a transaction with a kept vote and for a number that is no transaction."""
+    return "tx=%d involvement=%s" % (tx, "".join(INVOLVED[log.involvement(tx, s)] for s in range(STORES)))
+
+
+def run(data):
+    log = Log()
+    out = printed(log, reference.answer, data)
+    return out + joined(involvement(log, tx).encode() for tx in [*log.txs(), TXS])
+
+
 def files(where):
-    return case_files.step_files(where, dict(cases()), reference.run)
+    return case_files.step_files(where, dict(cases()), run)
 
 
 if __name__ == "__main__":

@@ -1,5 +1,36 @@
-// Runs `plain` on each file that an argument names, and prints its name before what it prints.
+// Runs `plain` on each file that an argument names, and prints its name before what it prints. After
+// that it prints which stores are involved in each transaction, which `plain` does not.
 use libc::STDOUT_FILENO;
+use log_core::Log;
+use log_entry::limits::STORES;
+use log_entry::limits::TRANSACTIONS;
+
+// The transaction, and for each store the number of its involvement.
+fn involvement(log: Log, tx: u8) {
+    io::write_all(STDOUT_FILENO, b"tx=");
+    io::print_decimal(STDOUT_FILENO, tx as u64);
+    io::write_all(STDOUT_FILENO, b" involvement=");
+    let mut s: u8 = 0;
+    while s < STORES {
+        let i = log.involvement(tx, s);
+        io::print_decimal(STDOUT_FILENO, i.number() as u64);
+        s += 1;
+    }
+    io::write_all(STDOUT_FILENO, b"\n");
+}
+
+// Of each transaction with a kept vote, and of a number that is no transaction.
+fn involvements(log: Log) {
+    let mut tx: u8 = 0;
+    while tx < TRANSACTIONS {
+        let row = log.rows[tx as usize];
+        if row.any_kept() {
+            involvement(log, tx);
+        }
+        tx += 1;
+    }
+    involvement(log, TRANSACTIONS);
+}
 
 fn one(i: usize) {
     let mut path = io::buffer();
@@ -11,7 +42,12 @@ fn one(i: usize) {
         os::fail(&path[..n]);
         return;
     }
-    plain_io::run(fd);
+    let ran = plain_io::run(fd);
+    let reading = ran.reading;
+    let input = reading.input;
+    let session = input.finish();
+    let log = session.log;
+    involvements(log);
     libc::close(fd);
 }
 

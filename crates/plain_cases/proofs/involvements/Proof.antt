@@ -1,13 +1,13 @@
 use borrow.Author.Needs.{needs}
 use Prim.Native.Nat.{_-_, _≤_}
-use Rattle.log_cases.proofs.show.transactions.Statement.{statement}
-use Rattle.log_cases.proofs.show.transactions.Tie as tie
+use Rattle.plain_cases.proofs.involvements.Statement.{statement}
+use Rattle.plain_cases.proofs.involvements.Tie as tie
 
 abbrev Inv-loop : tie.InvT-loop
-Inv-loop l tx₀ tx = tx ≤ 32
+Inv-loop log tx₀ tx = tx ≤ 32
 
 abbrev μ-loop : tie.MeasureT-loop
-μ-loop l tx₀ tx = 32 - tx
+μ-loop log tx₀ tx = 32 - tx
 
 loop-holds : tie.Need-loop-holds Inv-loop μ-loop
 loop-holds c = search needs
@@ -24,8 +24,8 @@ element-copy-out-row c = search needs
 any-kept-requires : tie.Need-any-kept-requires Inv-loop μ-loop
 any-kept-requires c κs = search needs
 
-transaction-requires : tie.Need-transaction-requires Inv-loop μ-loop
-transaction-requires c κs = search needs
+involvement-requires : tie.Need-involvement-requires Inv-loop μ-loop
+involvement-requires c κs = search needs
 
 add-tx : tie.Need-add-tx Inv-loop μ-loop
 add-tx c = search needs
@@ -36,11 +36,14 @@ loop-less c = search needs
 loop-again : tie.Need-loop-again Inv-loop μ-loop
 loop-again c = search needs
 
+involvement-requires-2 : tie.Need-involvement-requires-2 Inv-loop μ-loop
+involvement-requires-2 c κs = search needs
+
 returns : tie.Need-returns Inv-loop μ-loop
 returns c = search needs
 
-pub transactions-spec : {M : Type 1} → statement M
-transactions-spec =
+pub involvements-spec : {M : Type 1} → statement M
+involvements-spec =
     tie.close
     (tie.spec
     Inv-loop
@@ -50,8 +53,9 @@ transactions-spec =
     mul-row
     element-copy-out-row
     any-kept-requires
-    transaction-requires
+    involvement-requires
     add-tx
     loop-less
     loop-again
+    involvement-requires-2
     returns)
