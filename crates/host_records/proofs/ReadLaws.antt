@@ -6,17 +6,13 @@ use mathlib.Core.Path.{_≡_, refl, sym, _∙_}
 use native.Mathlib.Omega.{arith}
 use borrow.Author.Tests.{eqb-true, le-leb, leb-false, leb-true, lt-ltb, ne-eqb}
 use lib.Dec.{eqb, leb}
-use Rattle.log_entry.proofs.InsideLaws.{or-left, or-right}
+use Rattle.log_entry.proofs.Tests.{neither-left, neither-right, or-cases}
 use Rattle.log_entry.specs.Entry.{outside}
 use Rattle.log_entry.specs.Limits.{lists, processes, stores, transactions}
 use Rattle.log_entry.specs.Refusal.{outsideLimits, unreadable as unreadableNumber}
 use Rattle.host_records.specs.Numbers.{beyondByte, byteValues, entryOf, readNumbers, takeKind, unreadable, unusedIsSet}
 use Rattle.host_records.specs.declared.Numbers.{Numbers}
 use Rattle.host_records.specs.declared.Reading.the-variants.{Of, Refused}
-
-pub or-cases : (a b : Bool) → (a || b) ≡ true → (a ≡ true) ⊎ (b ≡ true)
-or-cases true b h = inl refl
-or-cases false b h = inr h
 
 module _ (n : Numbers) (readable : unreadable n ≡ false) where
   -- what a take does not use is 0, so who uses it is no take
@@ -98,13 +94,13 @@ bytes-of n h =
     let store = leb byteValues (n .store) in
     let tx = leb byteValues (n .tx) in
     let list = leb byteValues (n .list) in
-    let to-tx : (process || by || store || tx) ≡ false = or-left (process || by || store || tx) list h in
-    let to-store : (process || by || store) ≡ false = or-left (process || by || store) tx to-tx in
-    let to-by : (process || by) ≡ false = or-left (process || by) store to-store in
+    let to-tx : (process || by || store || tx) ≡ false = neither-left (process || by || store || tx) list h in
+    let to-store : (process || by || store) ≡ false = neither-left (process || by || store) tx to-tx in
+    let to-by : (process || by) ≡ false = neither-left (process || by) store to-store in
     record {
-      process = leb-false byteValues (n .process) (or-left process by to-by);
-      by = leb-false byteValues (n .by) (or-right process by to-by);
-      store = leb-false byteValues (n .store) (or-right (process || by) store to-store);
-      tx = leb-false byteValues (n .tx) (or-right (process || by || store) tx to-tx);
-      list = leb-false byteValues (n .list) (or-right (process || by || store || tx) list h);
+      process = leb-false byteValues (n .process) (neither-left process by to-by);
+      by = leb-false byteValues (n .by) (neither-right process by to-by);
+      store = leb-false byteValues (n .store) (neither-right (process || by) store to-store);
+      tx = leb-false byteValues (n .tx) (neither-right (process || by || store) tx to-tx);
+      list = leb-false byteValues (n .list) (neither-right (process || by || store || tx) list h);
     }

@@ -6,7 +6,7 @@ use mathlib.Core.Path.{_≡_, refl, sym, _∙_}
 use native.Mathlib.Omega.{arith}
 use borrow.Author.Tests.{eqb-false, eqb-true, ltb-false, not-false}
 use lib.Dec.{eqb}
-use Rattle.log_entry.proofs.InsideLaws.{or-left, or-right}
+use Rattle.log_entry.proofs.Tests.{neither-left, neither-right}
 use Rattle.host_records.proofs.NumbersLaws.{other-kind}
 use Rattle.host_records.specs.Numbers.{abortSay, commitSay, entryOf, numbersOf, takeKind, unreadable, unusedIsSet, voteKind}
 use Rattle.host_records.specs.declared.Numbers.{Numbers}
@@ -23,18 +23,18 @@ module _ (n : Numbers) (readable : unreadable n ≡ false) where
     unused = rw k at readable
 
     up-to-say : (not (eqb (n .by) 0) || not (eqb (n .tx) 0) || not (eqb (n .list) 0) || not (eqb (n .say) 0)) ≡ false
-    up-to-say = or-left (not (eqb (n .by) 0) || not (eqb (n .tx) 0) || not (eqb (n .list) 0) || not (eqb (n .say) 0)) (not (eqb (n .update) 0)) unused
+    up-to-say = neither-left (not (eqb (n .by) 0) || not (eqb (n .tx) 0) || not (eqb (n .list) 0) || not (eqb (n .say) 0)) (not (eqb (n .update) 0)) unused
 
     pub take-update : n .update ≡ 0
     take-update =
         eqb-true (n .update) 0
         (not-false (eqb (n .update) 0)
-        (or-right (not (eqb (n .by) 0) || not (eqb (n .tx) 0) || not (eqb (n .list) 0) || not (eqb (n .say) 0)) (not (eqb (n .update) 0)) unused))
+        (neither-right (not (eqb (n .by) 0) || not (eqb (n .tx) 0) || not (eqb (n .list) 0) || not (eqb (n .say) 0)) (not (eqb (n .update) 0)) unused))
 
     take-say : n .say ≡ abortSay
     take-say =
         eqb-true (n .say) 0
-        (not-false (eqb (n .say) 0) (or-right (not (eqb (n .by) 0) || not (eqb (n .tx) 0) || not (eqb (n .list) 0)) (not (eqb (n .say) 0)) up-to-say))
+        (not-false (eqb (n .say) 0) (neither-right (not (eqb (n .by) 0) || not (eqb (n .tx) 0) || not (eqb (n .list) 0)) (not (eqb (n .say) 0)) up-to-say))
 
   take-or-vote : (n .kind ≡ takeKind) ⊎ (n .kind ≡ voteKind)
   take-or-vote = split (eqb (n .kind) takeKind) (eqb (n .kind) voteKind) refl refl

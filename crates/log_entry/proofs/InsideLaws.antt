@@ -1,6 +1,6 @@
 -- What an entry that is not refused 2 says of its numbers.
 use Prim.Native.Nat.{ℕ, _<_, _≤_}
-use mathlib.Core.Bool.{Bool, false, not, true, false≢true, true≢false, _&&_, _||_}
+use mathlib.Core.Bool.{Bool, false, not, _&&_, _||_}
 use mathlib.Core.Path.{_≡_, refl, sym, _∙_}
 use native.Mathlib.Omega.{arith}
 use borrow.Author.Tests.{eqb-false, leb-false, ltb-false}
@@ -8,19 +8,12 @@ use lib.Dec.{eqb, leb, ltb}
 use Rattle.log_entry.specs.Entry.{noProcess, outside}
 use Rattle.log_entry.specs.Limits.{lists, processes, stores, transactions, updates}
 use Rattle.log_entry.specs.declared.Entry.{Entry}
-
-pub or-left : (a b : Bool) → (a || b) ≡ false → a ≡ false
-or-left true b h = absurd (true≢false h)
-or-left false b h = refl
-
-pub or-right : (a b : Bool) → (a || b) ≡ false → b ≡ false
-or-right true b h = absurd (true≢false h)
-or-right false b h = h
+use Rattle.log_entry.proofs.Tests.{neither-left, neither-right}
 
 pub process-inside : (p : ℕ) → noProcess p ≡ false → (0 < p) × (p ≤ processes)
 process-inside p h =
-    let some : p ≡ 0 → ⊥ = eqb-false p 0 (or-left (eqb p 0) (ltb processes p) h) in
-    let most : p ≤ processes = ltb-false processes p (or-right (eqb p 0) (ltb processes p) h) in
+    let some : p ≡ 0 → ⊥ = eqb-false p 0 (neither-left (eqb p 0) (ltb processes p) h) in
+    let most : p ≤ processes = ltb-false processes p (neither-right (eqb p 0) (ltb processes p) h) in
     (omega arith, most)
 
 -- the numbers that a vote has beside those of a take
@@ -36,17 +29,17 @@ pub record InsideVote (e : Entry) : Type 0 where
 module _ (e : Entry) (h : outside e ≡ false) where
   two : (noProcess (e .process) || leb stores (e .store)) ≡ false
   unfolding outside others
-  two = or-left (noProcess (e .process) || leb stores (e .store)) (not (e .take) && others e) h
+  two = neither-left (noProcess (e .process) || leb stores (e .store)) (not (e .take) && others e) h
 
   pub inside-process : (0 < e .process) × (e .process ≤ processes)
-  inside-process = process-inside (e .process) (or-left (noProcess (e .process)) (leb stores (e .store)) two)
+  inside-process = process-inside (e .process) (neither-left (noProcess (e .process)) (leb stores (e .store)) two)
 
   pub inside-store : e .store < stores
-  inside-store = leb-false stores (e .store) (or-right (noProcess (e .process)) (leb stores (e .store)) two)
+  inside-store = leb-false stores (e .store) (neither-right (noProcess (e .process)) (leb stores (e .store)) two)
 
   rest : e .take ≡ false → others e ≡ false
   unfolding outside others
-  rest vote = rw vote at (or-right (noProcess (e .process) || leb stores (e .store)) (not (e .take) && others e) h)
+  rest vote = rw vote at (neither-right (noProcess (e .process) || leb stores (e .store)) (not (e .take) && others e) h)
 
   pub inside-vote : e .take ≡ false → InsideVote e
   unfolding others
@@ -55,11 +48,11 @@ module _ (e : Entry) (h : outside e ≡ false) where
       let b = leb transactions (e .tx) in
       let c = leb lists (e .participants) in
       let d = leb updates (e .update) in
-      let abc : (a || b || c) ≡ false = or-left (a || b || c) d (rest vote) in
-      let ab : (a || b) ≡ false = or-left (a || b) c abc in
+      let abc : (a || b || c) ≡ false = neither-left (a || b || c) d (rest vote) in
+      let ab : (a || b) ≡ false = neither-left (a || b) c abc in
       record {
-        by = leb-false stores (e .by) (or-left a b ab);
-        tx = leb-false transactions (e .tx) (or-right a b ab);
-        list = leb-false lists (e .participants) (or-right (a || b) c abc);
-        update = leb-false updates (e .update) (or-right (a || b || c) d (rest vote));
+        by = leb-false stores (e .by) (neither-left a b ab);
+        tx = leb-false transactions (e .tx) (neither-right a b ab);
+        list = leb-false lists (e .participants) (neither-right (a || b) c abc);
+        update = leb-false updates (e .update) (neither-right (a || b || c) d (rest vote));
       }

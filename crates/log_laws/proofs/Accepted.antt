@@ -22,7 +22,7 @@ use Rattle.log_votes.specs.Refusal.{anyClash, voteChecks}
 use Rattle.log_core.specs.Refusal.{holdsAny, takeChecks}
 use Rattle.log_laws.specs.Answers.{None}
 use Rattle.log_laws.proofs.Answers.{conditions, none-applies}
-use Rattle.log_laws.proofs.Tests.{and-false, neither-left, neither-right}
+use Rattle.log_entry.proofs.Tests.{and-false, neither-left, neither-right}
 
 -- no condition against the take holds
 pub record TakeOk (l : Log) (e : Entry) : Type 0 where

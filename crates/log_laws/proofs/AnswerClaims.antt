@@ -17,7 +17,7 @@ use Rattle.log_core.proofs.EnterLaws.{answer-is, refusalOf}
 use Rattle.log_laws.specs.Answers.{First, None, RefusedEntryChangesNothing, TakeAnswerExactly, VoteAnswerExactly, clash, held, holdsNot, kept}
 use Rattle.log_laws.proofs.Accepted.{take-refusal, takeList, vote-refusal, voteList}
 use Rattle.log_laws.proofs.Answers.{conditions, fresh, given-exactly, no-refusal, none-applies}
-use Rattle.log_laws.proofs.Tests.{by-test}
+use Rattle.log_entry.proofs.Tests.{by-test}
 
 pub refused-same : RefusedEntryChangesNothing
 unfolding enter entered effectOf

@@ -8,7 +8,7 @@ use lib.Dec.{eqb}
 use borrow.Author.Tests.{eq-eqb, not-true}
 use Rattle.log_entry.specs.Refusal.{Check, accepted, check, firstRefusal}
 use Rattle.log_laws.specs.Answers.{First, None}
-use Rattle.log_laws.proofs.Tests.{and-left, and-right, opposed}
+use Rattle.log_entry.proofs.Tests.{and-left, and-right, opposed}
 
 -- no check of the list has the number
 abbrev pub fresh : ℕ → List Check → Bool

@@ -17,7 +17,7 @@ use Rattle.log_laws.specs.Changes.{OnlyHolderChanges, OnlyVoteChanges, T
 use Rattle.log_laws.specs.Reached.{reached}
 use Rattle.log_laws.proofs.Places.{set-either}
 use Rattle.log_laws.proofs.Steps.{answer-cases, groupAfter, voted, voted-holders, voted-takers, voted-rows}
-use Rattle.log_laws.proofs.Tests.{opposed}
+use Rattle.log_entry.proofs.Tests.{opposed}
 
 pub only-holder : TakeChangesOnly
 only-holder es e t =

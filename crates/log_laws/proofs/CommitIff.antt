@@ -14,7 +14,7 @@ use Rattle.log_laws.proofs.Feed.{wf-reached}
 use Rattle.log_laws.proofs.Outcomes.{committed-by, committed-covered, committed-no-abort, cover-made, covered-by, covering, is-commit, kept-in}
 use Rattle.log_laws.proofs.Rows.{listed-commits}
 use Rattle.log_laws.proofs.Scans.{none-found, none-here}
-use Rattle.log_laws.proofs.Tests.{and-left, and-right, both, opposed}
+use Rattle.log_entry.proofs.Tests.{and-left, and-right, both, opposed}
 use Rattle.log_laws.proofs.WellFormed.{Wf}
 
 module _ (l : Log) (w : Wf l) (tx : ℕ) where

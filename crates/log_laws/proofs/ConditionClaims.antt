@@ -25,7 +25,7 @@ use Rattle.log_laws.proofs.Outcomes.{kept-in}
 use Rattle.log_laws.proofs.Scans.{found, none-found, none-here}
 use Rattle.log_laws.proofs.Sets.{within-by, within-has}
 use Rattle.log_laws.proofs.TakenBefore.{held-exactly}
-use Rattle.log_laws.proofs.Tests.{and-false, and-left, and-right, below-or-not, both, is-false, neither, neither-left, neither-right, opposed}
+use Rattle.log_entry.proofs.Tests.{and-false, and-left, and-right, below-or-not, both, is-false, neither, neither-left, neither-right, opposed}
 
 -- ---- 2
 

@@ -9,7 +9,7 @@ use Rattle.log_votes.specs.declared.Row.{Row}
 use Rattle.log_votes.specs.declared.Vote.{Vote}
 use Rattle.log_core.specs.Log.{emptyLog, rowOf}
 use Rattle.log_votes.specs.Row.{noRow, noVote, voteOfStore}
-use Rattle.log_laws.proofs.Tests.{below-or-not}
+use Rattle.log_entry.proofs.Tests.{below-or-not}
 
 abbrev pub blank : Row
 blank = record { votes = replicate stores noVote; group = 0 }

@@ -29,7 +29,7 @@ use Rattle.log_laws.proofs.RowSteps.{joins-some}
 use Rattle.log_laws.proofs.Rows.{committed}
 use Rattle.log_laws.proofs.Stays.{row-stays}
 use Rattle.log_laws.proofs.Steps.{answer-cases, groupAfter, groupsAfter, joins, vote-entered, voted-groups}
-use Rattle.log_laws.proofs.Tests.{by-test, either, opposed}
+use Rattle.log_entry.proofs.Tests.{by-test, either, opposed}
 use Rattle.log_laws.proofs.WellFormed.{Wf}
 
 pub iff-committed : GroupIffCommitted

@@ -24,7 +24,7 @@ use Rattle.log_laws.proofs.RowSteps.{no-group}
 use Rattle.log_laws.proofs.Rows.{RowWf, committed}
 use Rattle.log_laws.proofs.Sizes.{Sized}
 use Rattle.log_laws.proofs.Steps.{enter-cases, groupAfter, groupsAfter, joins, voted, voted-groups, voted-remembered, voted-rows}
-use Rattle.log_laws.proofs.Tests.{by-test}
+use Rattle.log_entry.proofs.Tests.{by-test}
 
 -- an accepted vote, and the row with it
 module _ (l : Log) (e : Entry) (z : Sized l) (rows : (tx : ℕ) → RowWf (rowOf l tx)) (w : Grouping (l .rows) (l .groups))

@@ -11,7 +11,7 @@ use borrow.Author.Tests.{eq-eqb, ne-eqb}
 use Rattle.log_votes.specs.declared.Row.{Row}
 use Rattle.log_votes.specs.Row.{noRow}
 use Rattle.log_laws.proofs.Places.{set-cases}
-use Rattle.log_laws.proofs.Tests.{below-or-not}
+use Rattle.log_entry.proofs.Tests.{below-or-not}
 
 -- 1 if the row has a group
 mark : Row → ℕ

@@ -22,7 +22,7 @@ use Rattle.log_laws.proofs.Scans.{none-here}
 use Rattle.log_laws.proofs.Sets.{with-has, with-keeps}
 use Rattle.log_laws.proofs.Sizes.{Sized}
 use Rattle.log_laws.proofs.Steps.{enter-cases, voted-holders, voted-takers}
-use Rattle.log_laws.proofs.Tests.{below-or-not, neither-left, neither-right, opposed}
+use Rattle.log_entry.proofs.Tests.{below-or-not, neither-left, neither-right, opposed}
 
 pub record Holding (holders past : List ℕ) : Type 0 where
   pub one-store : (p s t : ℕ) → p ≢ 0 → getD holders s 0 ≡ p → getD holders t 0 ≡ p → s ≡ t

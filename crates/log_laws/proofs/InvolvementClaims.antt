@@ -14,7 +14,7 @@ use Rattle.log_votes.specs.Outcome.{isCommit}
 use Rattle.log_laws.specs.Involvement.{InvolvementExactly, SomeCommitKept, SomeVoteLists}
 use Rattle.log_laws.proofs.Outcomes.{kept-in}
 use Rattle.log_laws.proofs.Scans.{any-here, found}
-use Rattle.log_laws.proofs.Tests.{and-left, and-right, both, is-false, opposed}
+use Rattle.log_entry.proofs.Tests.{and-left, and-right, both, is-false, opposed}
 
 -- ---- the two tests, by the kept votes
 

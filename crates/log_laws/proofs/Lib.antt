@@ -32,6 +32,5 @@ pub mod Sizes
 pub mod Stays
 pub mod Steps
 pub mod TakenBefore
-pub mod Tests
 pub mod Theorems
 pub mod WellFormed

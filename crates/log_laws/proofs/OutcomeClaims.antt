@@ -12,7 +12,7 @@ use Rattle.log_core.specs.Log.{outcomeOf, rowOf, voteAt}
 use Rattle.log_laws.specs.Votes.{OutcomeAbortIff, RunningExactly}
 use Rattle.log_laws.proofs.Outcomes.{aborted-by, aborted-of, kept-in}
 use Rattle.log_laws.proofs.Scans.{any-here, found}
-use Rattle.log_laws.proofs.Tests.{and-left, and-right, both}
+use Rattle.log_entry.proofs.Tests.{and-left, and-right, both}
 
 pub abort-iff : OutcomeAbortIff
 abort-iff l tx = (

@@ -13,7 +13,7 @@ use Rattle.log_votes.specs.declared.Vote.{Vote}
 use Rattle.log_votes.specs.Row.{noVote}
 use Rattle.log_votes.specs.Outcome.{anyAbort, anyCovered, covered, isAbort, isCommit, isCommitted, outcomeOfVotes}
 use Rattle.log_laws.proofs.Scans.{all-here, any-here, each-here, found, none-here}
-use Rattle.log_laws.proofs.Tests.{and-false, and-left, and-right, below-or-not, both}
+use Rattle.log_entry.proofs.Tests.{and-false, and-left, and-right, below-or-not, both}
 
 -- a vote that is kept stands in the row
 pub kept-in : (votes : List Vote) (s : ℕ) → getD votes s noVote .kept ≡ true → s < length votes

@@ -5,7 +5,7 @@ use mathlib.Core.List.{List}
 use mathlib.Core.Logic.{_≢_, ⊎-elim}
 use lib.ListN.{getD, length, set}
 use lib.Seq.{getD-set-other, getD-set-same, set-out}
-use Rattle.log_laws.proofs.Tests.{below-or-not, same-number}
+use Rattle.log_entry.proofs.Tests.{below-or-not, same-number}
 
 -- the element at j after the one at i is set
 pub set-cases : {A : Type 0} (P : A → Type 0) (xs : List A) (i j : ℕ) (a d : A) → i < length xs → (j ≡ i → P a) → (j ≢ i → P (getD xs j d))

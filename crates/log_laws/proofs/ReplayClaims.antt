@@ -27,7 +27,7 @@ use Rattle.log_laws.proofs.Lists.{In, at-in, in-at, sorted-at}
 use Rattle.log_laws.proofs.Outcomes.{is-commit}
 use Rattle.log_laws.proofs.ReplayRows.{From, from-group, from-sorted, group-has, group-in, replayedOf}
 use Rattle.log_laws.proofs.Replicated.{rows-length}
-use Rattle.log_laws.proofs.Tests.{and-left, and-right, below-or-not, both, same-number}
+use Rattle.log_entry.proofs.Tests.{and-left, and-right, below-or-not, both, same-number}
 use Rattle.log_laws.proofs.WellFormed.{Wf}
 
 module _ (l : Log) (w : Wf l) (store : ℕ) where

@@ -12,7 +12,7 @@ use Rattle.log_votes.specs.Row.{noRow, replays, voteOfStore}
 use Rattle.log_core.specs.Replay.{groupReplay, replayFrom}
 use Rattle.log_laws.specs.Replays.{Before}
 use Rattle.log_laws.proofs.Lists.{In, Sorted, in-either, in-left, in-right, sorted-append}
-use Rattle.log_laws.proofs.Tests.{by-test, opposed, same-number}
+use Rattle.log_entry.proofs.Tests.{by-test, opposed, same-number}
 
 -- what group g replays of a row, which is that of tx
 abbrev pub replayedOf : ℕ → ℕ → ℕ → Row → Replayed

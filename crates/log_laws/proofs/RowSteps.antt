@@ -21,7 +21,7 @@ use Rattle.log_laws.proofs.Rows.{RowWf, committed, committed-refuses, r
 use Rattle.log_laws.proofs.Sets.{empty-has}
 use Rattle.log_laws.proofs.Sizes.{Sized}
 use Rattle.log_laws.proofs.Steps.{groupAfter, joins, row-cases}
-use Rattle.log_laws.proofs.Tests.{by-test, opposed, same-number}
+use Rattle.log_entry.proofs.Tests.{by-test, opposed, same-number}
 
 -- no group, nothing remembered
 pub joins-some : (l : Log) (tx : ℕ) (r : Row) → joins l tx r ≡ true → l .groups ≢ 0

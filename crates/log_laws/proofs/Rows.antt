@@ -19,7 +19,7 @@ use Rattle.log_laws.proofs.Outcomes.{commit-kept, committed-covered, co
 use Rattle.log_laws.proofs.Places.{set-either}
 use Rattle.log_laws.proofs.Scans.{none-here}
 use Rattle.log_laws.proofs.Sets.{member-below, within-has}
-use Rattle.log_laws.proofs.Tests.{and-false, by-test, opposed}
+use Rattle.log_entry.proofs.Tests.{and-false, by-test, opposed}
 
 abbrev pub committed : Row → Bool
 committed r = isCommitted (outcomeOfVotes (r .votes))

@@ -6,7 +6,7 @@ use mathlib.Core.List.{List, [], _∷_}
 use native.Mathlib.Omega.{arith}
 use lib.ListN.{getD, length}
 use Rattle.log_votes.specs.Scan.{anyFrom, allFrom}
-use Rattle.log_laws.proofs.Tests.{and-left, and-right, both, is-false, opposed, or-left, or-right}
+use Rattle.log_entry.proofs.Tests.{and-left, and-right, both, is-false, opposed, or-left, or-right}
 
 module _ {A : Type 0} (f : ℕ → A → Bool) (d : A) where
   at-step : (i k : ℕ) (x : A) {t : Bool} → f (i + suc k) x ≡ t → f (suc i + k) x ≡ t

@@ -11,7 +11,7 @@ use lib.Bits.{bitAnd, bitOr, and-shr, and-step, and-zero-l, or-shr, or-step}
 use lib.Pow.{pow-lt, pow-mono, pow-pos, shr-shr}
 use borrow.Author.Tests.{eq-eqb, eqb-true, ne-eqb}
 use Rattle.log_entry.specs.Bits.{has, with, within}
-use Rattle.log_laws.proofs.Tests.{below-or-not}
+use Rattle.log_entry.proofs.Tests.{below-or-not}
 
 abbrev pub bit : ℕ → ℕ → ℕ
 bit set k = set / 2 ^ k % 2

@@ -12,7 +12,7 @@ use Rattle.log_core.specs.Log.{emptyLog, rowOf}
 use Rattle.log_votes.specs.Row.{keeping, noRow, noVote, voteOfEntry}
 use Rattle.log_laws.proofs.Rows.{committed}
 use Rattle.log_laws.proofs.Steps.{enter-cases, joins, row-cases, voted-holders, voted-takers, voted-remembered, voted-rows}
-use Rattle.log_laws.proofs.Tests.{by-test}
+use Rattle.log_entry.proofs.Tests.{by-test}
 
 pub record Sized (l : Log) : Type 0 where
   pub rows-size : length (l .rows) ≡ transactions

@@ -22,7 +22,7 @@ use Rattle.log_laws.proofs.Feed.{feed-append, later, wf-reached}
 use Rattle.log_laws.proofs.Outcomes.{aborted-by, aborted-of}
 use Rattle.log_laws.proofs.Rows.{committed-refuses, kept-cases}
 use Rattle.log_laws.proofs.Steps.{row-cases}
-use Rattle.log_laws.proofs.Tests.{and-left, both, opposed}
+use Rattle.log_entry.proofs.Tests.{and-left, both, opposed}
 use Rattle.log_laws.proofs.WellFormed.{Wf, feed-keeps}
 
 -- this vote is kept there

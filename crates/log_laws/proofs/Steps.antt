@@ -22,7 +22,7 @@ use Rattle.log_votes.specs.Row.{inGroup, keeping, noRow}
 use Rattle.log_laws.proofs.Accepted.{TakeOk, VoteOk, take-ok, vote-ok}
 use Rattle.log_laws.proofs.Places.{set-either}
 use Rattle.log_laws.proofs.Rows.{committed}
-use Rattle.log_laws.proofs.Tests.{by-test}
+use Rattle.log_entry.proofs.Tests.{by-test}
 
 -- what holds of both arms
 either-way : {A : Type 0} (f : Log → A) (b : Bool) (x y : Log) → f x ≡ f y → f (cond b x y) ≡ f y

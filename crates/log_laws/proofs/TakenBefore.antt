@@ -25,7 +25,7 @@ use Rattle.log_laws.proofs.Holding.{held-enter}
 use Rattle.log_laws.proofs.Places.{set-either}
 use Rattle.log_laws.proofs.Sets.{empty-has, in-with, with-has}
 use Rattle.log_laws.proofs.Steps.{answer-cases, voted-takers}
-use Rattle.log_laws.proofs.Tests.{opposed}
+use Rattle.log_entry.proofs.Tests.{opposed}
 use Rattle.log_laws.proofs.WellFormed.{Wf, feed-keeps, wf-enter}
 
 -- the entry is an accepted take of s by p

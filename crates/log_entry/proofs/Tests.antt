@@ -46,6 +46,10 @@ pub or-right : (a b : Bool) → b ≡ true → (a || b) ≡ true
 or-right true b h = refl
 or-right false b h = h
 
+pub or-cases : (a b : Bool) → (a || b) ≡ true → (a ≡ true) ⊎ (b ≡ true)
+or-cases true b h = inl refl
+or-cases false b h = inr h
+
 pub neither : (a b : Bool) → a ≡ false → b ≡ false → (a || b) ≡ false
 neither true b h k = absurd (true≢false h)
 neither false b h k = k
