@@ -2,9 +2,11 @@
 ghost use mathlib.Core.Path.{_≡_};
 ghost use Rattle.text_lines.specs.Feed.{fed, finished, fresh};
 ghost use Rattle.plain_run.specs.Printed.{PrintsFed};
-ghost use Rattle.plain_run.specs.Session.{answerLine, enterHeld, freshSession, isOver, stateOf};
-use log_core::Entered;
+ghost use Rattle.log_core.specs.declared.Log.{Log};
+ghost use Rattle.plain_run.specs.Session.{answerLine, carriedOut, freshSession, isOver, lineEntered, stateOf};
 use log_core::Log;
+use log_entry::Entry;
+use log_entry::refusal::ACCEPTED;
 use log_entry::refusal::NO_PLACE;
 use log_entry::refusal::OUTSIDE_LIMITS;
 use log_entry::refusal::UNREADABLE;
@@ -29,32 +31,54 @@ pub struct Input {
     pub line: Line,
 }
 
-// Enters the line's entry.
-fn enter_line(log: Log, line: Line) -> Entered
-    ensures { λ r. ⌜ r ≡ enterHeld log line ⌝ }
+// What a line asks for: an entry, or an answer that is not the log's.
+pub struct Command {
+    pub refused: u8,
+    pub entry: Entry,
+}
+
+fn refuse(answer: u8) -> Command
+    ensures { λ r. ⌜ r .refused ≡ answer ⌝ }
 {
+    Command {
+        refused: answer,
+        entry: Entry::take_of(0, 0),
+    }
+}
+
+// What the line asks for, after `count` others.
+fn command_at(count: u16, line: Line) -> Command
+    ensures { λ r. ⌜ ((l : Log) → carriedOut l r ≡ lineEntered l count line) ⌝ }
+{
+    if MAX_LINES <= count {
+        return refuse(NO_PLACE);
+    }
     if MAX_LINE_BYTES < line.length {
-        return Entered {
-            log: log,
-            answer: UNREADABLE,
-        };
+        return refuse(UNREADABLE);
     }
     let n = line.length as usize;
     let bytes = line.bytes;
     let reading = text_entry::read_entry(&bytes[..n]);
     if let Reading::Outside = reading {
-        return Entered {
-            log: log,
-            answer: OUTSIDE_LIMITS,
-        };
+        return refuse(OUTSIDE_LIMITS);
     }
     let Reading::Read(entry) = reading else {
-        return Entered {
-            log: log,
-            answer: UNREADABLE,
-        };
+        return refuse(UNREADABLE);
     };
-    log.enter(entry)
+    Command {
+        refused: ACCEPTED,
+        entry: entry,
+    }
+}
+
+// The answer to a command.
+fn answer_to(log: Log, c: Command) -> u8
+    ensures { λ r. ⌜ r ≡ carriedOut log c .answer ⌝ }
+{
+    if c.refused != ACCEPTED {
+        return c.refused;
+    }
+    log.answer_to(c.entry)
 }
 
 impl Session {
@@ -75,28 +99,6 @@ impl Session {
     {
         let answers = self.answers;
         MAX_LINES < answers.count
-    }
-
-    // The session after a line.
-    pub fn answer(self, line: Line) -> Session
-        ensures { λ r. ⌜ r ≡ answerLine self line ⌝ }
-    {
-        let log = self.log;
-        let answers = self.answers;
-        if MAX_LINES <= answers.count {
-            let noted = answers.noted(NO_PLACE);
-            return Session {
-                log: log,
-                answers: noted,
-            };
-        }
-        let entered = enter_line(log, line);
-        let after = entered.log;
-        let noted = answers.noted(entered.answer);
-        Session {
-            log: after,
-            answers: noted,
-        }
     }
 }
 
@@ -120,36 +122,51 @@ impl Input {
         session.is_over()
     }
 
-    // The input after a piece of any length.
+    fn of(log: Log, answers: Answers, line: Line) -> Input
+        ensures { λ r. ⌜ r ≡ record { session = record { log = log; answers = answers }; line = line } ⌝ }
+    {
+        let session = Session {
+            log: log,
+            answers: answers,
+        };
+        Input {
+            session: session,
+            line: line,
+        }
+    }
+
+    // The input after a piece of any length. It owns the log and stores the answers in place, so
+    // that a refused line copies neither.
     pub fn feed(self, piece: &[u8]) -> Input
         ensures { λ r. ⌜ stateOf r ≡ fed isOver answerLine (stateOf self) (now (piece .entry)) ⌝ }
     {
-        let mut session = self.session;
+        let session = self.session;
+        let mut log = session.log;
+        let mut answers = session.answers;
         let mut line = self.line;
         let mut at: usize = 0;
         while at < piece.len() {
-            if session.is_over() {
-                return Input {
-                    session: session,
-                    line: line,
-                };
+            let n = answers.count;
+            if MAX_LINES < n {
+                return Input::of(log, answers, line);
             }
             let gathered = line.gather(piece, at);
             at = gathered.next;
             line = gathered.line;
             if !gathered.ended {
-                return Input {
-                    session: session,
-                    line: line,
-                };
+                return Input::of(log, answers, line);
             }
-            session = session.answer(line);
+            let command = command_at(n, line);
+            let answer = answer_to(log, command);
+            if answer == ACCEPTED {
+                let entered = log.enter(command.entry);
+                log = entered.log;
+            }
+            answers.answers[n as usize] = answer;
+            answers.count = n + 1;
             line = Line::none();
         }
-        Input {
-            session: session,
-            line: line,
-        }
+        Input::of(log, answers, line)
     }
 
     // At the input's end, a line that has begun is a line.
@@ -164,7 +181,8 @@ impl Input {
         if line.length == 0 {
             return session;
         }
-        session.answer(line)
+        let ended = self.feed(b"\n");
+        ended.session
     }
 }
 

@@ -2,7 +2,7 @@
 ghost use mathlib.Core.Path.{_≡_};
 ghost use lib.ListN.{drop};
 ghost use Rattle.text_lines.specs.Line.{noLine, gathered, seen};
-ghost use Rattle.text_lines.specs.Answers.{noAnswers, noted};
+ghost use Rattle.text_lines.specs.Answers.{noAnswers};
 
 // A line holds at most this many bytes without its LF.
 pub const MAX_LINE_BYTES: u8 = 100;
@@ -84,18 +84,5 @@ impl Answers {
             count: 0,
             answers: [0; ANSWERED_LINES as usize],
         }
-    }
-
-    // One answer more, if there is room.
-    pub fn noted(mut self, answer: u8) -> Answers
-        ensures { λ r. ⌜ r ≡ noted self answer ⌝ }
-    {
-        let n = self.count;
-        if MAX_LINES < n {
-            return self;
-        }
-        self.answers[n as usize] = answer;
-        self.count = n + 1;
-        self
     }
 }
