@@ -1,5 +1,5 @@
 -- Texts written by a loop, one of them a turn.
-use Prim.Native.Nat.{ℕ, suc, _≤_, _<_, _+_, _*_}
+use Prim.Native.Nat.{ℕ, _≤_, _<_, _+_, _*_}
 use mathlib.Core.List.{List, _++_}
 use mathlib.Core.Path.{_≡_, ap, sym, _∙_}
 use native.Mathlib.Nat.{suc-mul}

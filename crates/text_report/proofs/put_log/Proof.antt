@@ -1,5 +1,4 @@
 use native.Mathlib.Omega.{arith}
-use native.Mathlib.Omega.{arith}
 use Rattle.text_report.specs.Report.{logText}
 use Rattle.text_report.proofs.Lengths.{within-more, within-room}
 use borrow.Author.Needs.{needs}

@@ -10,4 +10,9 @@ returns-2 : tie.Need-returns-2
 returns-2 c = rw (sym (c .before .ends .ensures) ∙ c .if1 .left)
 
 pub at-end-spec : {M : Type 1} → statement M
-at-end-spec = tie.close (tie.spec (λ c κs. search needs) (λ c κs. search needs) returns returns-2)
+at-end-spec =
+    tie.close
+    (tie.spec
+    (λ c κs. search needs) (λ c κs. search needs)
+    returns
+    returns-2)

@@ -33,8 +33,8 @@ put-coordinators-spec =
     Inv-loop
     μ-loop
     (λ c. none-put)
-    (λ c. omega arith) (λ c. omega arith) (λ c. omega arith) (λ c. omega arith)
-    (λ c. omega arith) (λ c. omega arith) (λ c κs. search needs) (λ c. omega arith) (λ c. omega arith)
+    (λ c. omega arith) (λ c. omega arith) (λ c. omega arith) (λ c. omega arith) (λ c. omega arith)
+    (λ c. omega arith) (λ c κs. search needs) (λ c. omega arith) (λ c. omega arith)
     loop-again
     (λ c. put-length (c .before .loop .inv))
     (λ c. put-all (c .before .loop .inv) (omega arith) (omega arith)))
