@@ -1,3 +1,4 @@
+pub mod LowFirst
 pub mod NumbersLaws
 pub mod ReadLaws
 pub mod ReadableLaws

@@ -9,19 +9,17 @@ use Rattle.log_entry.proofs.InsideLaws.{inside-vote}
 use Rattle.log_entry.specs.declared.Entry.{Entry}
 use Rattle.log_entry.specs.Entry.{outside, takeEntry, voteEntry}
 use Rattle.log_entry.specs.Limits.{updateBytes, updates}
+use Rattle.host_records.proofs.LowFirst.{low-first-back}
 use Rattle.host_records.proofs.ReadableLaws.{numbers-of-entry, take-update}
 use Rattle.host_records.proofs.ReadingLaws.{entry-read, passed-read}
 use Rattle.host_records.specs.Numbers.{abortSay, commitSay, entryOf, numbers, numbersOf, readNumbers, takeKind, unreadable, voteKind}
-use Rattle.host_records.specs.Record.{fromLowFirst, lowFirst, proper, readRecord, recordOf}
+use Rattle.host_records.specs.Record.{proper, readRecord, recordOf}
 use Rattle.host_records.specs.declared.Numbers.{Numbers}
 use Rattle.host_records.specs.declared.Reading.the-variants.{Of}
 
 and-both : (a b : Bool) → (a && b) ≡ true → (a ≡ true) × (b ≡ true)
 and-both true b h = (refl, h)
 and-both false b h = absurd (false≢true h)
-
-low-first-back : (u : ℕ) → u < updates → fromLowFirst (lowFirst updateBytes u) ≡ u
-low-first-back u h = omega arith
 
 kind-back : (t : Bool) → eqb (cond t takeKind voteKind) takeKind ≡ t
 kind-back true = refl
@@ -60,7 +58,7 @@ module _ (e : Entry) (h : proper e ≡ true) where
 
   pub record-reads-back : readRecord (recordOf e) ≡ Of e
   unfolding readRecord recordOf with-update
-  record-reads-back = ap (λ (u : ℕ). readNumbers (with-update e u)) (low-first-back (e .update) update-fits) ∙ numbers-read-back
+  record-reads-back = ap (λ (u : ℕ). readNumbers (with-update e u)) (low-first-back updateBytes (e .update) update-fits) ∙ numbers-read-back
 
 -- each entry of document 01 whose numbers are within their limits is such an entry
 pub take-is-proper : (process store : ℕ) → outside (takeEntry process store) ≡ false → proper (takeEntry process store) ≡ true

@@ -1,11 +1,12 @@
 // An entry as numbers, as a host's call has them, and as a record's bytes. Document 01, "Hosts in
 // C".
+ghost use mathlib.Core.Bool.{cond};
 ghost use mathlib.Core.Path.{_≡_};
+ghost use lib.ListN.{length};
+ghost use lib.Seq.{sets};
 ghost use Rattle.log_entry.specs.Limits.{updateBytes};
 ghost use Rattle.host_records.specs.Numbers.{beyondByte, readNumbers, unreadable};
 ghost use Rattle.host_records.specs.Record.{fromLowFirst, lowFirst, readRecord, recordOf};
-ghost use mathlib.Core.Bool.{cond};
-ghost use mathlib.Core.List.{[], _∷_};
 use log_entry::Entry;
 use log_entry::limits::UPDATE_BYTES;
 use log_entry::refusal::OUTSIDE_LIMITS;
@@ -126,11 +127,18 @@ fn wide(b: u8) -> u32
     b as u32
 }
 
-// The number of four bytes, low byte first.
-fn from_low_first(a: u8, b: u8, c: u8, d: u8) -> u32
-    ensures { λ r. ⌜ r ≡ fromLowFirst (a ∷ b ∷ c ∷ d ∷ []) ⌝ }
+// The number of an update's bytes, low byte first.
+fn from_low_first(bytes: &[u8]) -> u32
+    requires { ⌜ length (now bytes) ≡ updateBytes ⌝ }
+    ensures { λ r. ⌜ r ≡ fromLowFirst (now (bytes .entry)) ⌝ }
 {
-    wide(a) + BYTE_VALUES * (wide(b) + BYTE_VALUES * (wide(c) + BYTE_VALUES * wide(d)))
+    let mut u: u32 = 0;
+    let mut read: usize = 0;
+    while read < UPDATE_BYTES {
+        read += 1;
+        u = wide(bytes[UPDATE_BYTES - read]) + BYTE_VALUES * u;
+    }
+    u
 }
 
 // What the bytes of a record read as.
@@ -151,7 +159,7 @@ pub fn read(bytes: &[u8]) -> Reading
         tx: wide(bytes[4]),
         list: wide(bytes[5]),
         say: wide(bytes[6]),
-        update: from_low_first(bytes[8], bytes[9], bytes[10], bytes[11]),
+        update: from_low_first(&bytes[UPDATE_AT..]),
     };
     n.read()
 }
@@ -165,38 +173,36 @@ fn either(test: bool, yes: u8, no: u8) -> u8
     no
 }
 
-// An update's bytes, low byte first.
-pub fn low_first(u: u32) -> [u8; UPDATE_BYTES]
-    ensures { λ r. ⌜ r ≡ lowFirst updateBytes u ⌝ }
+// An update's bytes, low byte first, stored from a place on; what has no room is left out.
+pub fn put_low_first(out: &mut [u8], at: usize, u: u32)
+    ensures { λ r. ⌜ now (out .exit) ≡ sets (now (out .entry)) at (lowFirst updateBytes u) ⌝ }
 {
-    let second = u / BYTE_VALUES;
-    let third = second / BYTE_VALUES;
-    let fourth = third / BYTE_VALUES;
-    [
-        (u % BYTE_VALUES) as u8,
-        (second % BYTE_VALUES) as u8,
-        (third % BYTE_VALUES) as u8,
-        (fourth % BYTE_VALUES) as u8,
-    ]
+    let mut rest = u;
+    let mut to = at;
+    let mut left: usize = UPDATE_BYTES;
+    while 0 < left {
+        if out.len() <= to {
+            return;
+        }
+        out[to] = (rest % BYTE_VALUES) as u8;
+        rest = rest / BYTE_VALUES;
+        to += 1;
+        left -= 1;
+    }
 }
 
 // The bytes of an entry's record.
 pub fn record_of(e: Entry) -> [u8; RECORD_SIZE]
     ensures { λ r. ⌜ r ≡ recordOf e ⌝ }
 {
-    let update = low_first(e.update);
-    [
-        either(e.take, TAKE, VOTE),
-        e.process,
-        e.by,
-        e.store,
-        e.tx,
-        e.participants,
-        either(e.commit, COMMIT, ABORT),
-        0,
-        update[0],
-        update[1],
-        update[2],
-        update[3],
-    ]
+    let mut bytes = [0u8; RECORD_SIZE];
+    bytes[0] = either(e.take, TAKE, VOTE);
+    bytes[1] = e.process;
+    bytes[2] = e.by;
+    bytes[3] = e.store;
+    bytes[4] = e.tx;
+    bytes[5] = e.participants;
+    bytes[6] = either(e.commit, COMMIT, ABORT);
+    put_low_first(&mut bytes, UPDATE_AT, e.update);
+    bytes
 }

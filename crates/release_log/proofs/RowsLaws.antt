@@ -7,16 +7,11 @@ use native.Mathlib.Numerals.{add-one}
 use native.Mathlib.Omega.{arith}
 use lib.ListN.{drop, drop-of-length-le, getD, length, length-take, set, take}
 use lib.Seq.{drop-cons, getD-take, sets}
-use Rattle.log_entry.specs.Limits.{transactions, updateBytes}
+use Rattle.log_entry.specs.Limits.{transactions}
 use Rattle.log_core.specs.declared.Replay.{Replay}
 use Rattle.log_core.specs.declared.Replayed.{Replayed}
 use Rattle.log_core.specs.Replay.{noReplayed}
-use Rattle.host_records.specs.Record.{lowFirst}
 use Rattle.release_log.specs.Query.{replayValue, rowBytes, rowSize, rowsBytes}
-
-pub row-of : (r : Replayed) {update : List ℕ} → update ≡ lowFirst updateBytes (r .update)
-    → r .group ∷ r .tx ∷ getD update 0 0 ∷ getD update 1 0 ∷ getD update 2 0 ∷ getD update 3 0 ∷ [] ≡ rowBytes r
-row-of r h = rw h
 
 pub rows-bytes-length : (rs : List Replayed) → length (rowsBytes rs) ≡ length rs * rowSize
 unfolding rowsBytes

@@ -13,8 +13,10 @@ use log_core::Replayed;
 use log_entry::limits::UPDATE_BYTES;
 use log_entry::refusal::ACCEPTED;
 
-// The bytes of a row: its group, its transaction and its update.
-const ROW_SIZE: usize = 2 + UPDATE_BYTES;
+// Where the update begins in a row, after its group and its transaction.
+const UPDATE_AT: usize = 2;
+// The bytes of a row.
+const ROW_SIZE: usize = UPDATE_AT + UPDATE_BYTES;
 
 // A value of one byte.
 pub(crate) fn answer_byte(out: &mut [u8], value: u8) -> u32
@@ -31,8 +33,11 @@ pub(crate) fn answer_byte(out: &mut [u8], value: u8) -> u32
 fn row_bytes(r: Replayed) -> [u8; ROW_SIZE]
     ensures { λ b. ⌜ b ≡ rowBytes r ⌝ }
 {
-    let update = host_records::low_first(r.update);
-    [r.group, r.tx, update[0], update[1], update[2], update[3]]
+    let mut bytes = [0u8; ROW_SIZE];
+    bytes[0] = r.group;
+    bytes[1] = r.tx;
+    host_records::put_low_first(&mut bytes, UPDATE_AT, r.update);
+    bytes
 }
 
 // A replay: the number of its rows, and the rows.

@@ -2,7 +2,7 @@
 use Prim.Native.Nat.{ℕ, suc, _≤_, min}
 use native.Mathlib.Omega.{arith}
 use native.Mathlib.Decide.{decLt}
-use mathlib.Core.Bool.{true, false, _||_, cond}
+use mathlib.Core.Bool.{Bool, true, false, _||_, cond}
 use mathlib.Core.List.{List, [], _∷_}
 use mathlib.Core.Option.{Option, none, some}
 use mathlib.Core.Path.{_≡_, refl, sym, _∙_, ap}
@@ -65,3 +65,11 @@ module _ {A R : Type 0} (k : Kind) (build : List ℕ → A) (answer : Option A �
       ap (λ (vs : List ℕ). answer (some (build vs))) (sym (found .told))
       ∙ sym (same (found .found))
       ∙ sym (ap (λ (o : Option (List ℕ)). answer (made build o)) e)
+
+  -- both in one
+  pub line-answer : cond (ends (last p qs)) (answer (some (build (values qs)))) (answer none) ≡ answer (made build (readKind k s))
+  line-answer = go (ends (last p qs)) line-read line-unread
+    where
+      go : (b : Bool) {yes no it : R} → (b ≡ true → yes ≡ it) → (b ≡ false → no ≡ it) → cond b yes no ≡ it
+      go true read unread = read refl
+      go false read unread = unread refl

@@ -1,16 +1,19 @@
 -- Lines of up to three decimals: that only their counts matter, and what they say of what a line
 -- stands for.
 use Prim.Native.Nat.{ℕ, _<_, min}
+use native.Mathlib.Decide.{decLt}
+use native.Mathlib.Omega.{arith}
 use mathlib.Core.Bool.{Bool, true, false, _||_, cond, true≢false}
 use mathlib.Core.List.{List, [], _∷_}
 use mathlib.Core.Option.{Option, none, some}
 use mathlib.Core.Path.{_≡_, refl, sym, _∙_, ap}
-use borrow.Author.Tests.{leb-false}
+use borrow.Author.Tests.{leb-false, lt-leb}
 use Rattle.text_entry.specs.declared.decimals.Decimals.{Decimals}
 use Rattle.text_entry.specs.Decimals.{answerBy, decimalField, decimalsOf, one, two, three}
+use Rattle.text_entry.specs.Read.{readKind}
 use Rattle.text_ascii.specs.Decimal.{byteNumbers}
-use Rattle.text_entry.specs.Table.{anyBeyond, answerOf, at, made, noByte}
-use Rattle.text_entry.proofs.Counts.{at-counts, beyond-here, beyond-later, counted-same}
+use Rattle.text_entry.specs.Table.{Reader, anyBeyond, answerOf, at, made, noByte, readAs}
+use Rattle.text_entry.proofs.Counts.{at-counts, beyond-here, beyond-later}
 use Rattle.text_entry.proofs.Follows.{counts}
 
 abbrev noneFit : Decimals
@@ -24,36 +27,6 @@ found-outside ns h = rw h
 
 pub found-inside : (ns : List ℕ) → anyBeyond ns ≡ false → decimalsOf (some ns) ≡ fitting ns
 found-inside ns h = rw h
-
-pub count-1 : (a b c : ℕ) → decimalsOf (some (a ∷ b ∷ c ∷ [])) ≡ decimalsOf (some (min a byteNumbers ∷ b ∷ c ∷ []))
-count-1 a b c = counted-same (λ (n : ℕ). decimalsOf (some (n ∷ b ∷ c ∷ []))) noneFit (λ n h. found-outside (n ∷ b ∷ c ∷ []) (beyond-here n (b ∷ c ∷ []) h)) a
-
-pub count-2 : (a b c : ℕ) → decimalsOf (some (a ∷ b ∷ c ∷ [])) ≡ decimalsOf (some (a ∷ min b byteNumbers ∷ c ∷ []))
-count-2 a b c = counted-same (λ (n : ℕ). decimalsOf (some (a ∷ n ∷ c ∷ []))) noneFit (λ n h. found-outside (a ∷ n ∷ c ∷ []) (beyond-later a (n ∷ c ∷ []) (beyond-here n (c ∷ []) h))) b
-
-pub count-3 : (a b c : ℕ) → decimalsOf (some (a ∷ b ∷ c ∷ [])) ≡ decimalsOf (some (a ∷ b ∷ min c byteNumbers ∷ []))
-count-3 a b c = counted-same (λ (n : ℕ). decimalsOf (some (a ∷ b ∷ n ∷ []))) noneFit (λ n h. found-outside (a ∷ b ∷ n ∷ []) (beyond-later a (b ∷ n ∷ []) (beyond-later b (n ∷ []) (beyond-here n [] h)))) c
-
-module _ (j k l : List ℕ) (vs : List ℕ) where
-  pub one-counts : decimalsOf (some (one vs)) ≡ decimalsOf (some (one (counts (decimalField j ∷ []) vs)))
-  one-counts =
-      let h = at-counts (decimalField j ∷ []) vs in
-      count-1 (at vs 0) 0 0 ∙ ap (λ (a : ℕ). decimalsOf (some (a ∷ []))) (sym (h 0))
-
-  pub two-counts : decimalsOf (some (two vs)) ≡ decimalsOf (some (two (counts (decimalField j ∷ decimalField k ∷ []) vs)))
-  two-counts =
-      let h = at-counts (decimalField j ∷ decimalField k ∷ []) vs in
-      count-1 (at vs 0) (at vs 1) 0
-      ∙ count-2 (min (at vs 0) byteNumbers) (at vs 1) 0
-      ∙ (λ i. decimalsOf (some (sym (h 0) i ∷ sym (h 1) i ∷ [])))
-
-  pub three-counts : decimalsOf (some (three vs)) ≡ decimalsOf (some (three (counts (decimalField j ∷ decimalField k ∷ decimalField l ∷ []) vs)))
-  three-counts =
-      let h = at-counts (decimalField j ∷ decimalField k ∷ decimalField l ∷ []) vs in
-      count-1 (at vs 0) (at vs 1) (at vs 2)
-      ∙ count-2 (min (at vs 0) byteNumbers) (at vs 1) (at vs 2)
-      ∙ count-3 (min (at vs 0) byteNumbers) (min (at vs 1) byteNumbers) (at vs 2)
-      ∙ (λ i. decimalsOf (some (sym (h 0) i ∷ sym (h 1) i ∷ sym (h 2) i ∷ [])))
 
 -- numbers none of which is beyond a byte
 none-1 : (a b : Bool) → (a || b) ≡ false → a ≡ false
@@ -72,16 +45,61 @@ pub all-fit : (ns : List ℕ) → anyBeyond ns ≡ false → AllFit ns
 all-fit [] h = tt
 all-fit (n ∷ ns) h = (leb-false byteNumbers n (none-1 (noByte n) (anyBeyond ns) h), all-fit ns (none-2 (noByte n) (anyBeyond ns) h))
 
--- the answer by the decimals of a line is that by what the line stands for
-pub answer-by : {A R : Type 0} (read : A → R) (outside unreadable : R) (beyond : A → Bool) (build : List ℕ → A) (pick : List ℕ → List ℕ) (by : Decimals → A)
-    → ((vs : List ℕ) → anyBeyond (pick vs) ≡ beyond (build vs))
-    → ((vs : List ℕ) → by (fitting (pick vs)) ≡ build vs)
-    → (o : Option (List ℕ))
-    → answerBy read outside unreadable (decimalsOf (made pick o)) (by (decimalsOf (made pick o))) ≡ answerOf beyond read outside unreadable (made build o)
-answer-by read outside unreadable beyond build pick by same is none = refl
-answer-by read outside unreadable beyond build pick by same is (some vs) =
-    go (anyBeyond (pick vs)) ∙ ap (λ (b : Bool). cond b outside (read (build vs))) (same vs)
+-- numbers that count up to `byteNumbers` only: one of them is beyond a byte, or they are the same
+abbrev capped : List ℕ → List ℕ
+capped [] = []
+capped (n ∷ ns) = min n byteNumbers ∷ capped ns
+
+capped-beyond : (ns : List ℕ) → anyBeyond ns ≡ true → anyBeyond (capped ns) ≡ true
+capped-beyond [] h = h
+capped-beyond (n ∷ ns) h = elim (decLt n byteNumbers) [
+  | yes k ↦ beyond-later (min n byteNumbers) (capped ns) (capped-beyond ns (sym (ap (λ (b : Bool). b || anyBeyond ns) (lt-leb byteNumbers n k)) ∙ h))
+  | no k ↦ beyond-here (min n byteNumbers) (capped ns) (omega arith)
+]
+
+capped-fit : (ns : List ℕ) → AllFit ns → capped ns ≡ ns
+capped-fit [] h = refl
+capped-fit (n ∷ ns) h = let e : min n byteNumbers ≡ n = omega (arith, h .0) in λ i. e i ∷ capped-fit ns (h .1) i
+
+pub decimals-capped : (ns : List ℕ) → decimalsOf (some ns) ≡ decimalsOf (some (capped ns))
+decimals-capped ns = go (anyBeyond ns) refl
   where
-    go : (b : Bool) → (let d = cond b noneFit (fitting (pick vs)) in answerBy read outside unreadable d (by d)) ≡ cond b outside (read (build vs))
-    go true = refl
-    go false = ap read (is vs)
+    go : (b : Bool) → anyBeyond ns ≡ b → decimalsOf (some ns) ≡ decimalsOf (some (capped ns))
+    go true h = found-outside ns h ∙ sym (found-outside (capped ns) (capped-beyond ns h))
+    go false h = ap (λ (ms : List ℕ). decimalsOf (some ms)) (sym (capped-fit ns (all-fit ns h)))
+
+pub one-counts : (j vs : List ℕ) → decimalsOf (some (one vs)) ≡ decimalsOf (some (one (counts (decimalField j ∷ []) vs)))
+one-counts j vs = let h = at-counts (decimalField j ∷ []) vs in decimals-capped (one vs) ∙ (λ i. decimalsOf (some (sym (h 0) i ∷ [])))
+
+pub two-counts : (j k vs : List ℕ) → decimalsOf (some (two vs)) ≡ decimalsOf (some (two (counts (decimalField j ∷ decimalField k ∷ []) vs)))
+two-counts j k vs =
+    let h = at-counts (decimalField j ∷ decimalField k ∷ []) vs in
+    decimals-capped (two vs) ∙ (λ i. decimalsOf (some (sym (h 0) i ∷ sym (h 1) i ∷ [])))
+
+pub three-counts : (j k l vs : List ℕ)
+    → decimalsOf (some (three vs)) ≡ decimalsOf (some (three (counts (decimalField j ∷ decimalField k ∷ decimalField l ∷ []) vs)))
+three-counts j k l vs =
+    let h = at-counts (decimalField j ∷ decimalField k ∷ decimalField l ∷ []) vs in
+    decimals-capped (three vs) ∙ (λ i. decimalsOf (some (sym (h 0) i ∷ sym (h 1) i ∷ sym (h 2) i ∷ [])))
+
+-- the numbers of decimals
+abbrev pub numbersOf : Decimals → List ℕ
+numbersOf d = d .first ∷ d .second ∷ d .third ∷ []
+
+-- a kind of decimals: the answer by the decimals of a line is that by what the line stands for
+module _ {A R : Type 0} (read : A → R) (outside unreadable : R) (beyond : A → Bool) (r : Reader A) (pick : List ℕ → List ℕ)
+    (same : (vs : List ℕ) → anyBeyond (pick vs) ≡ beyond (r .build vs)) (is : (vs : List ℕ) → r .build (numbersOf (fitting (pick vs))) ≡ r .build vs) where
+  abbrev answers : Decimals → R
+  answers d = answerBy read outside unreadable d (r .build (numbersOf d))
+
+  answer-by : (o : Option (List ℕ)) → answers (decimalsOf (made pick o)) ≡ answerOf beyond read outside unreadable (made (r .build) o)
+  answer-by none = refl
+  answer-by (some vs) = go (anyBeyond (pick vs)) ∙ ap (λ (b : Bool). cond b outside (read (r .build vs))) (same vs)
+    where
+      go : (b : Bool) → answers (cond b noneFit (fitting (pick vs))) ≡ cond b outside (read (r .build vs))
+      go true = refl
+      go false = ap read (is vs)
+
+  pub by-decimals : (s : List ℕ) {d : Decimals} {a : R} → d ≡ decimalsOf (made pick (readKind (r .kind) s)) → a ≡ answers d
+      → a ≡ answerOf beyond read outside unreadable (readAs r s)
+  by-decimals s e h = h ∙ ap answers e ∙ answer-by (readKind (r .kind) s)

@@ -28,10 +28,14 @@ abbrev pub orElse : {A : Type 0} → Option A → Option A → Option A
 orElse none other = other
 orElse (some a) other = some a
 
+-- what a line reads as, taken for one of the reader's kind
+abbrev pub readAs : {A : Type 0} → Reader A → List ℕ → Option A
+readAs r s = made (r .build) (readKind (r .kind) s)
+
 -- the kinds are tried in turn
 unfoldable pub readFirst : {A : Type 0} → List (Reader A) → List ℕ → Option A
 readFirst [] s = none
-readFirst (r ∷ rs) s = orElse (made (r .build) (readKind (r .kind) s)) (readFirst rs s)
+readFirst (r ∷ rs) s = orElse (readAs r s) (readFirst rs s)
 
 -- a number that no byte holds; it is outside every limit of a decimal
 abbrev pub noByte : ℕ → Bool

@@ -1,13 +1,15 @@
 // Lines whose fields are up to three decimals.
-ghost use mathlib.Core.Bool.{not};
+ghost use mathlib.Core.Bool.{_&&_, cond, not};
 ghost use mathlib.Core.List.{[], _∷_};
 ghost use mathlib.Core.Option.{none, some};
 ghost use mathlib.Core.Path.{_≡_};
+ghost use lib.ListN.{drop};
 ghost use Rattle.text_entry.specs.Decimals.{decimalField, decimalsOf, one as Decimals·one, two as Decimals·two, three as Decimals·three};
 ghost use Rattle.text_entry.specs.Fields.{kind};
-ghost use Rattle.text_entry.specs.Read.{readKind};
+ghost use Rattle.text_entry.specs.Read.{isEnd, readKind};
 ghost use Rattle.text_entry.specs.Table.{anyBeyond, made};
 use crate::fields;
+use crate::value::Value;
 use text_ascii::BYTE_NUMBERS;
 
 // Whether the line reads, whether each decimal fits a byte, and the decimals; what is not there is
@@ -39,18 +41,6 @@ pub fn bytes(a: u32, b: u32, c: u32, d: u32, e: u32) -> bool
     e < BYTE_NUMBERS
 }
 
-fn unreadable() -> Decimals
-    ensures { λ r. ⌜ r ≡ decimalsOf none ⌝ }
-{
-    Decimals {
-        readable: false,
-        fit: false,
-        first: 0,
-        second: 0,
-        third: 0,
-    }
-}
-
 fn found(a: u32, b: u32, c: u32) -> Decimals
     ensures { λ r. ⌜ r ≡ decimalsOf (some (a ∷ b ∷ c ∷ [])) ⌝ }
 {
@@ -72,16 +62,29 @@ fn found(a: u32, b: u32, c: u32) -> Decimals
     }
 }
 
+// The numbers of a line, if it ends after the last value.
+fn at_end(line: &[u8], last: Value, a: u32, b: u32, c: u32) -> Decimals
+    ensures { λ r. ⌜ r ≡ cond (last .readable && isEnd (drop (last .end) (now (line .entry)))) (decimalsOf (some (a ∷ b ∷ c ∷ []))) (decimalsOf none) ⌝ }
+{
+    if fields::ends(line, last) {
+        return found(a, b, c);
+    }
+    Decimals {
+        readable: false,
+        fit: false,
+        first: 0,
+        second: 0,
+        third: 0,
+    }
+}
+
 // A line of this name with this field.
 pub fn one(line: &[u8], name: &[u8], key: &[u8]) -> Decimals
     ensures { λ r. ⌜ r ≡ decimalsOf (made Decimals·one (readKind (kind (now (name .entry)) (decimalField (now (key .entry)) ∷ [])) (now (line .entry)))) ⌝ }
 {
     let start = fields::named(line, name);
     let a = fields::decimal(line, start, key);
-    if !fields::ends(line, a) {
-        return unreadable();
-    }
-    found(a.number, 0, 0)
+    at_end(line, a, a.number, 0, 0)
 }
 
 // A line of this name with these two fields.
@@ -91,10 +94,7 @@ pub fn two(line: &[u8], name: &[u8], key: &[u8], next: &[u8]) -> Decimals
     let start = fields::named(line, name);
     let a = fields::decimal(line, start, key);
     let b = fields::decimal(line, a, next);
-    if !fields::ends(line, b) {
-        return unreadable();
-    }
-    found(a.number, b.number, 0)
+    at_end(line, b, a.number, b.number, 0)
 }
 
 // A line of this name with these three fields.
@@ -105,8 +105,5 @@ pub fn three(line: &[u8], name: &[u8], key: &[u8], next: &[u8], last: &[u8]) -> 
     let a = fields::decimal(line, start, key);
     let b = fields::decimal(line, a, next);
     let c = fields::decimal(line, b, last);
-    if !fields::ends(line, c) {
-        return unreadable();
-    }
-    found(a.number, b.number, c.number)
+    at_end(line, c, a.number, b.number, c.number)
 }

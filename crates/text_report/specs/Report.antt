@@ -44,8 +44,12 @@ outcomeWord Open = ascii "open"
 outcomeWord Commit = ascii "commit"
 outcomeWord Abort = ascii "abort"
 
+-- a key and an outcome
+abbrev pub outcomeField : List ℕ → Outcome → List ℕ
+outcomeField key outcome = key ++ outcomeWord outcome
+
 abbrev pub txLine : ℕ → Outcome → ℕ → List ℕ
-txLine tx outcome group = field (ascii "tx=") tx ++ ascii " outcome=" ++ outcomeWord outcome ++ field (ascii " group=") group ++ end
+txLine tx outcome group = field (ascii "tx=") tx ++ outcomeField (ascii " outcome=") outcome ++ field (ascii " group=") group ++ end
 
 -- of a transaction with a kept vote
 abbrev pub txText : Log → ℕ → List ℕ
@@ -58,9 +62,13 @@ holderLine store holder = field (ascii "store=") store ++ field (ascii " holder=
 abbrev pub holderText : Log → ℕ → List ℕ
 holderText l store = cond (eqb (holderOf l store) 0) [] (holderLine store (holderOf l store))
 
+-- a key and an update
+abbrev pub updateField : List ℕ → ℕ → List ℕ
+updateField key update = key ++ hex updateDigits update
+
 abbrev pub replayLine : ℕ → Replayed → List ℕ
 replayLine store r =
-    field (ascii "store=") store ++ field (ascii " group=") (r .group) ++ field (ascii " tx=") (r .tx) ++ ascii " upd=" ++ hex updateDigits (r .update) ++ end
+    field (ascii "store=") store ++ field (ascii " group=") (r .group) ++ field (ascii " tx=") (r .tx) ++ updateField (ascii " upd=") (r .update) ++ end
 
 abbrev pub replayText : ℕ → List Replayed → List ℕ
 replayText store rows = each (λ i. replayLine store (getD rows i noReplayed)) (length rows)

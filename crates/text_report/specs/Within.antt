@@ -19,6 +19,10 @@ pub record Within (room : ℕ) (before : List ℕ) (at : ℕ) (text after : List
 abbrev pub longestField : List ℕ → ℕ
 longestField key = length key + byteDigits
 
+-- no outcome's word is longer
+abbrev pub outcomeBytes : ℕ
+outcomeBytes = length (ascii "commit")
+
 -- no printed line is longer than a replay's
 abbrev pub longestLine : ℕ
 longestLine = longestField (ascii "store=") + longestField (ascii " group=") + longestField (ascii " tx=") + length (ascii " upd=") + updateDigits + length end

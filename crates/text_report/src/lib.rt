@@ -1,12 +1,14 @@
 // What is printed of a log and of answers, line by line into a buffer. Each function answers the
 // next place in the buffer.
-ghost use Prim.Native.Nat.{_*_, _<_};
+ghost use Prim.Native.Nat.{_*_, _+_, _<_};
+ghost use lib.ListN.{length};
 ghost use Rattle.log_entry.specs.Limits.{stores, transactions};
+ghost use Rattle.text_ascii.specs.Hex.{updateDigits};
 ghost use Rattle.text_ascii.specs.Wrote.{Wrote};
 ghost use Rattle.log_core.specs.Replay.{replayRows};
 ghost use Rattle.text_lines.specs.Answers.{answersOf};
-ghost use Rattle.text_report.specs.Report.{answersText, each, field, holderLine, holderText, logText, outcomeWord, replayLine, replayText, rowsOf, stepLine, txLine, txText};
-ghost use Rattle.text_report.specs.Within.{Within, longestAnswers, longestLine, longestLog, longestReplay};
+ghost use Rattle.text_report.specs.Report.{answersText, each, end as end·end, field, holderLine, holderText, logText, outcomeField, outcomeWord, replayLine, replayText, rowsOf, stepLine, txLine, txText, updateField};
+ghost use Rattle.text_report.specs.Within.{Within, longestAnswers, longestField, longestLine, longestLog, longestReplay, outcomeBytes};
 use log_core::Log;
 use log_core::Replay;
 use log_entry::limits::STORE_PLACES;
@@ -32,16 +34,15 @@ pub fn field(out: &mut [u8], at: usize, key: &[u8], n: u32) -> usize
     text_ascii::decimal(out, at, n)
 }
 
-pub fn step_line(out: &mut [u8], at: usize, number: u16, answer: u8) -> usize
-    ensures { λ r. ⌜ Within longestLine (now (out .entry)) at (stepLine number answer) (now (out .exit)) r ⌝ }
+// A key and the decimal of a byte.
+pub fn byte_field(out: &mut [u8], at: usize, key: &[u8], n: u8) -> usize
+    ensures { λ r. ⌜ Within (longestField (now (key .entry))) (now (out .entry)) at (field (now (key .entry)) n) (now (out .exit)) r ⌝ }
 {
-    let at = field(out, at, b"step=", number as u32);
-    let at = field(out, at, b" answer=", answer as u32);
-    text_ascii::word(out, at, b"\n")
+    field(out, at, key, n as u32)
 }
 
 pub fn outcome_word(out: &mut [u8], at: usize, outcome: Outcome) -> usize
-    ensures { λ r. ⌜ Within 6 (now (out .entry)) at (outcomeWord outcome) (now (out .exit)) r ⌝ }
+    ensures { λ r. ⌜ Within outcomeBytes (now (out .entry)) at (outcomeWord outcome) (now (out .exit)) r ⌝ }
 {
     match outcome {
         Outcome::Open => text_ascii::word(out, at, b"open"),
@@ -50,33 +51,62 @@ pub fn outcome_word(out: &mut [u8], at: usize, outcome: Outcome) -> usize
     }
 }
 
+// A key and an outcome.
+pub fn outcome_field(out: &mut [u8], at: usize, key: &[u8], outcome: Outcome) -> usize
+    ensures { λ r. ⌜ Within (length (now (key .entry)) + outcomeBytes) (now (out .entry)) at (outcomeField (now (key .entry)) outcome) (now (out .exit)) r ⌝ }
+{
+    let at = text_ascii::word(out, at, key);
+    outcome_word(out, at, outcome)
+}
+
+// A key and an update.
+pub fn update_field(out: &mut [u8], at: usize, key: &[u8], update: u32) -> usize
+    ensures { λ r. ⌜ Within (length (now (key .entry)) + updateDigits) (now (out .entry)) at (updateField (now (key .entry)) update) (now (out .exit)) r ⌝ }
+{
+    let at = text_ascii::word(out, at, key);
+    text_ascii::hex(out, at, UPDATE_DIGITS, update)
+}
+
+// The end of a line.
+pub fn end(out: &mut [u8], at: usize) -> usize
+    ensures { λ r. ⌜ Within (length end·end) (now (out .entry)) at end·end (now (out .exit)) r ⌝ }
+{
+    text_ascii::word(out, at, b"\n")
+}
+
+pub fn step_line(out: &mut [u8], at: usize, number: u16, answer: u8) -> usize
+    ensures { λ r. ⌜ Within longestLine (now (out .entry)) at (stepLine number answer) (now (out .exit)) r ⌝ }
+{
+    let at = field(out, at, b"step=", number as u32);
+    let at = byte_field(out, at, b" answer=", answer);
+    end(out, at)
+}
+
 pub fn tx_line(out: &mut [u8], at: usize, tx: u8, outcome: Outcome, group: u8) -> usize
     ensures { λ r. ⌜ Within longestLine (now (out .entry)) at (txLine tx outcome group) (now (out .exit)) r ⌝ }
 {
-    let at = field(out, at, b"tx=", tx as u32);
-    let at = text_ascii::word(out, at, b" outcome=");
-    let at = outcome_word(out, at, outcome);
-    let at = field(out, at, b" group=", group as u32);
-    text_ascii::word(out, at, b"\n")
+    let at = byte_field(out, at, b"tx=", tx);
+    let at = outcome_field(out, at, b" outcome=", outcome);
+    let at = byte_field(out, at, b" group=", group);
+    end(out, at)
 }
 
 pub fn holder_line(out: &mut [u8], at: usize, store: u8, holder: u8) -> usize
     ensures { λ r. ⌜ Within longestLine (now (out .entry)) at (holderLine store holder) (now (out .exit)) r ⌝ }
 {
-    let at = field(out, at, b"store=", store as u32);
-    let at = field(out, at, b" holder=", holder as u32);
-    text_ascii::word(out, at, b"\n")
+    let at = byte_field(out, at, b"store=", store);
+    let at = byte_field(out, at, b" holder=", holder);
+    end(out, at)
 }
 
 pub fn replay_line(out: &mut [u8], at: usize, store: u8, group: u8, tx: u8, update: u32) -> usize
     ensures { λ r. ⌜ Within longestLine (now (out .entry)) at (replayLine store (record { group = group; tx = tx; update = update })) (now (out .exit)) r ⌝ }
 {
-    let at = field(out, at, b"store=", store as u32);
-    let at = field(out, at, b" group=", group as u32);
-    let at = field(out, at, b" tx=", tx as u32);
-    let at = text_ascii::word(out, at, b" upd=");
-    let at = text_ascii::hex(out, at, UPDATE_DIGITS, update);
-    text_ascii::word(out, at, b"\n")
+    let at = byte_field(out, at, b"store=", store);
+    let at = byte_field(out, at, b" group=", group);
+    let at = byte_field(out, at, b" tx=", tx);
+    let at = update_field(out, at, b" upd=", update);
+    end(out, at)
 }
 
 // The transaction's line, if a vote is kept.

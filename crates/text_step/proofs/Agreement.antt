@@ -6,6 +6,7 @@ use mathlib.Core.List.{List, [], _∷_, _++_}
 use mathlib.Core.Logic.{inl, inr}
 use mathlib.Core.Option.{some}
 use mathlib.Core.Path.{_≡_, refl, sym, _∙_, ap, subst}
+use lib.ListN.{length}
 use Rattle.text_ascii.specs.Decimal.{byteNumbers}
 use Rattle.text_ascii.proofs.Words.{clash}
 use Rattle.log_entry.specs.declared.Entry.{Entry}
@@ -15,17 +16,17 @@ use Rattle.model_steps.specs.declared.Step.{Step}
 use Rattle.model_steps.specs.declared.Step.the-variants.{Setup, Request, Open, Propose, Deliver, Tell, Restore, Crash}
 use Rattle.model_steps.specs.Limits.{outsideStep}
 use Rattle.text_entry.specs.Entry as entry
-use Rattle.text_entry.specs.Fields.{Field, Kind, lineText}
+use Rattle.text_entry.specs.Fields.{Field, lineText}
 use Rattle.text_entry.specs.Kinds.{voteKind}
-use Rattle.text_entry.specs.Table.{at, reader}
+use Rattle.text_entry.specs.Table.{Reader, at, reader}
 use Rattle.text_entry.proofs.ReadsText.{IndexedAll, LineAt}
-use Rattle.text_entry.proofs.Table.{Distinct, by-fields, first-reads, first-written, namesApart, outside-some, read-some, some-not, unreadable-none}
+use Rattle.text_entry.proofs.Table.{Distinct, by-fields, elements, first-reads, first-written, namesApart, outside-some, read-some, some-not, unreadable-none}
 use Rattle.text_entry.proofs.TextReads.{WritableAll, apart, clashAll}
 use Rattle.text_entry.proofs.Votes.{vote-back, vote-values, vote-writable}
 use Rattle.text_step.specs.declared.Reading.the-variants.{Read, Outside, Unreadable}
 use Rattle.text_step.specs.Claims.{IsText, OutsideLineIsText, ReadIsText, ReadLineIsText, TextReadsBack, TextWithinLimitsRead, UnreadableIsNoText}
 use Rattle.text_step.specs.Kinds.{sentTake, sentVote, setupKind, openKind, proposeKind, deliverKind, tellKind, restoreKind, crashKind, to}
-use Rattle.text_step.specs.Step.{HasText, beyond, crashOf, deliverOf, openOf, proposeOf, readStep, reading, readingOf, restoreOf, roleNumber, roleOf, setupOf, stepReaders, takeOf, tellOf, text, voteOf}
+use Rattle.text_step.specs.Step.{HasText, beyond, crashOf, deliverOf, openOf, proposeOf, readStep, readingOf, restoreOf, roleNumber, roleOf, setupOf, stepReaders, takeOf, tellOf, text, voteOf}
 use Rattle.text_step.proofs.Beyond.{beyond-is-outside}
 
 -- ---- what is written reads back
@@ -75,48 +76,25 @@ text-reads-back (Crash r id) h =
 
 -- ---- what reads was written
 
--- the line of a kind, by its values
-by-values : (k : Kind) (l vs us : List ℕ) → LineAt k l vs → vs ≡ us → l ≡ lineText k us
-by-values k l vs us r e = r .text ∙ ap (lineText k) e
+-- a kind whose text is that of its values, one by one
+module _ (r : Reader Step) (written : (vs : List ℕ) → text (r .build vs) ≡ lineText (r .kind) (elements (length (r .kind .fields)) 0 vs))
+    (has : (vs : List ℕ) → HasText (r .build vs)) (l vs : List ℕ) where
+  kind-is-text : LineAt (r .kind) l vs → IsText l (r .build vs)
+  kind-is-text h = record {
+    line = h .text ∙ ap (lineText (r .kind)) (by-fields (r .kind .fields) vs (h .indexed)) ∙ sym (written vs);
+    hasText = has vs;
+  }
 
 module _ (l vs : List ℕ) where
-  take-is-text : LineAt sentTake l vs → IsText l (takeOf vs)
-  unfolding text
-  take-is-text r = record { line = by-values sentTake l vs _ r (by-fields (sentTake .fields) vs (r .indexed)); hasText = inl refl }
-
   vote-is-text : LineAt sentVote l vs → IsText l (voteOf vs)
   unfolding text
   vote-is-text r =
       let e = by-fields (sentVote .fields) vs (r .indexed) in
       let k = subst (IndexedAll (sentVote .fields)) e (r .indexed) in
       record {
-        line = by-values sentVote l vs _ r (e ∙ ap (λ (us : List ℕ). us ++ at vs 7 ∷ []) (vote-values vs (k .1 .1 .1 .1 .1 .0)));
+        line = r .text ∙ ap (lineText sentVote) (e ∙ ap (λ (us : List ℕ). us ++ at vs 7 ∷ []) (vote-values vs (k .1 .1 .1 .1 .1 .0)));
         hasText = inr (refl, k .1 .1 .1 .1 .0, k .1 .1 .1 .1 .1 .1 .0);
       }
-
-  setup-is-text : LineAt setupKind l vs → IsText l (setupOf vs)
-  unfolding text
-  setup-is-text r = record { line = by-values setupKind l vs _ r (by-fields (setupKind .fields) vs (r .indexed)); hasText = tt }
-
-  open-is-text : LineAt openKind l vs → IsText l (openOf vs)
-  unfolding text
-  open-is-text r = record { line = by-values openKind l vs _ r (by-fields (openKind .fields) vs (r .indexed)); hasText = tt }
-
-  propose-is-text : LineAt proposeKind l vs → IsText l (proposeOf vs)
-  unfolding text
-  propose-is-text r = record { line = by-values proposeKind l vs _ r (by-fields (proposeKind .fields) vs (r .indexed)); hasText = tt }
-
-  deliver-is-text : LineAt deliverKind l vs → IsText l (deliverOf vs)
-  unfolding text
-  deliver-is-text r = record { line = by-values deliverKind l vs _ r (by-fields (deliverKind .fields) vs (r .indexed)); hasText = tt }
-
-  tell-is-text : LineAt tellKind l vs → IsText l (tellOf vs)
-  unfolding text
-  tell-is-text r = record { line = by-values tellKind l vs _ r (by-fields (tellKind .fields) vs (r .indexed)); hasText = tt }
-
-  restore-is-text : LineAt restoreKind l vs → IsText l (restoreOf vs)
-  unfolding text
-  restore-is-text r = record { line = by-values restoreKind l vs _ r (by-fields (restoreKind .fields) vs (r .indexed)); hasText = tt }
 
   role-number : (v : ℕ) → v < 3 → v ≡ roleNumber (roleOf v)
   role-number ℕ.zero h = refl
@@ -129,14 +107,35 @@ module _ (l vs : List ℕ) where
   crash-is-text r =
       let e = by-fields (crashKind .fields) vs (r .indexed) in
       let k = subst (IndexedAll (crashKind .fields)) e (r .indexed) in
-      record { line = by-values crashKind l vs _ r (e ∙ ap (λ (v : ℕ). v ∷ at vs 1 ∷ []) (role-number (at vs 0) (k .0))); hasText = tt }
+      record { line = r .text ∙ ap (lineText crashKind) (e ∙ ap (λ (v : ℕ). v ∷ at vs 1 ∷ []) (role-number (at vs 0) (k .0))); hasText = tt }
 
 pub read-is-text : ReadIsText
-unfolding readStep
+unfolding readStep text
 read-is-text l s h =
     first-written (IsText l) stepReaders l (
-      take-is-text l,
-      (vote-is-text l, (setup-is-text l, (open-is-text l, (propose-is-text l, (deliver-is-text l, (tell-is-text l, (restore-is-text l, (crash-is-text l, tt)))))))),
+      kind-is-text (reader sentTake takeOf) (λ vs. refl) (λ vs. inl refl) l,
+      (
+        vote-is-text l,
+        (
+          kind-is-text (reader setupKind setupOf) (λ vs. refl) (λ vs. tt) l,
+          (
+            kind-is-text (reader openKind openOf) (λ vs. refl) (λ vs. tt) l,
+            (
+              kind-is-text (reader proposeKind proposeOf) (λ vs. refl) (λ vs. tt) l,
+              (
+                kind-is-text (reader deliverKind deliverOf) (λ vs. refl) (λ vs. tt) l,
+                (
+                  kind-is-text (reader tellKind tellOf) (λ vs. refl) (λ vs. tt) l,
+                  (
+                    kind-is-text (reader restoreKind restoreOf) (λ vs. refl) (λ vs. tt) l,
+                    (crash-is-text l, tt),
+                  ),
+                ),
+              ),
+            ),
+          ),
+        ),
+      ),
     ) s h
 
 -- ---- the reader's answers

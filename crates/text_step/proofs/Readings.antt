@@ -1,10 +1,14 @@
 -- What the reader answers to a line, from the parts that it read.
-use Prim.Native.Nat.{ℕ, _≤_, _<_, min}
+use Prim.Native.Nat.{ℕ, suc, _≤_, _<_, _+_, min}
+use native.Mathlib.Numerals.{add-one}
+use native.Mathlib.Omega.{arith}
 use mathlib.Core.Bool.{Bool, true, false, _||_, cond, false≢true, true≢false}
 use mathlib.Core.List.{List, [], _∷_, _++_}
 use mathlib.Core.Option.{Option, none, some}
 use mathlib.Core.Path.{_≡_, refl, sym, _∙_, ap}
 use lib.Dec.{eqb}
+use lib.ListN.{drop, drop-of-length-le, length}
+use lib.Seq.{drop-cons}
 use borrow.Author.Tests.{lt-leb}
 use Rattle.log_entry.specs.declared.Entry.{Entry}
 use Rattle.log_entry.specs.Entry.{voteEntry}
@@ -15,9 +19,8 @@ use Rattle.text_entry.specs.declared.Reading.{Reading as EntryReading}
 use Rattle.text_entry.specs.declared.Reading.the-variants as variants
 use Rattle.text_entry.specs.Entry as entry
 use Rattle.text_entry.specs.Kinds.{voteKind}
-use Rattle.text_entry.specs.Read.{readKind}
 use Rattle.text_ascii.specs.Decimal.{byteNumbers}
-use Rattle.text_entry.specs.Table.{Reader, anyBeyond, at, made, noByte, orElse, readFirst}
+use Rattle.text_entry.specs.Table.{anyBeyond, at, noByte, orElse, readAs, readFirst, reader}
 use Rattle.text_entry.proofs.Counts.{at-counts, counted-same, no-byte}
 use Rattle.text_entry.proofs.Follows.{counts}
 use Rattle.text_entry.proofs.Votes as votes
@@ -25,7 +28,7 @@ use Rattle.text_step.specs.declared.Reading.{Reading}
 use Rattle.text_step.specs.declared.Reading.the-variants.{Read, Outside, Unreadable}
 use Rattle.text_step.specs.Answers.{isRead, requestOf}
 use Rattle.text_step.specs.Kinds.{crashKind, sentVote}
-use Rattle.text_step.specs.Step.{beyond, crashOf, readingOf, roleOf, voteOf}
+use Rattle.text_step.specs.Step.{beyond, crashOf, readStep, readerAt, reading, readingOf, roleOf, stepReaders, voteOf}
 
 -- ---- requests
 
@@ -92,12 +95,46 @@ read-other : (t v : Option Step) → isRead (readingOf t) ≡ false → readingO
 read-other none v h = refl
 read-other (some x) v h = absurd (read-next (beyond x) x h)
 
--- the answer to a line as one of this kind
-module _ (r : Reader Step) (rs : List (Reader Step)) (s : List ℕ) (a : Reading) (e : a ≡ readingOf (made (r .build) (readKind (r .kind) s))) where
-  pub decides : isRead a ≡ true → a ≡ readingOf (readFirst (r ∷ rs) s)
-  unfolding readFirst
-  decides h = e ∙ read-first (made (r .build) (readKind (r .kind) s)) (readFirst rs s) (ap isRead (sym e) ∙ h)
+-- the kind with this number
+pub as-kind : (k n : ℕ) (s : List ℕ) {a : Reading} → a ≡ readingOf (readAs (readerAt n) s) → k ≡ n → a ≡ readingOf (readAs (readerAt k) s)
+as-kind k n s h e = rw e h
 
-  pub passes : isRead a ≡ false → readingOf (readFirst rs s) ≡ readingOf (readFirst (r ∷ rs) s)
+-- none of the numbers below n
+abbrev NoneBelow : ℕ → ℕ → Type 0
+NoneBelow ℕ.zero k = Unit {0}
+NoneBelow (suc n) k = NoneBelow n k × (k ≡ n → ⊥)
+
+not-below : (n k : ℕ) → NoneBelow n k → n ≤ k
+not-below ℕ.zero k h = omega arith
+not-below (suc n) k h = let m = not-below n k (h .0) in let e = h .1 in omega arith
+
+pub last-kind : (n k : ℕ) → NoneBelow n k → k < suc n → k ≡ n
+last-kind n k h m = omega (arith, not-below n k h)
+
+-- the kinds from this number on decide
+pub record Left (k : ℕ) (s : List ℕ) : Type 0 where
+  pub left : readingOf (readFirst (drop k stepReaders) s) ≡ reading s
+
+pub all-left : (s : List ℕ) → Left 0 s
+unfolding readStep
+all-left s = record { left = refl }
+
+-- the answer to a line as one of this kind
+module _ {k : ℕ} {s : List ℕ} (l : Left k s) {a : Reading} (e : a ≡ readingOf (readAs (readerAt k) s)) where
+  first : k < length stepReaders → readingOf (readFirst (drop k stepReaders) s) ≡ readingOf (orElse (readAs (readerAt k) s) (readFirst (drop (suc k) stepReaders) s))
   unfolding readFirst
-  passes h = read-other (made (r .build) (readKind (r .kind) s)) (readFirst rs s) (ap isRead (sym e) ∙ h)
+  first h = rw (drop-cons stepReaders k (reader crashKind crashOf) h)
+
+  pub decides : k < length stepReaders → isRead a ≡ true → a ≡ reading s
+  decides h y = e ∙ read-first (readAs (readerAt k) s) (readFirst (drop (suc k) stepReaders) s) (ap isRead (sym e) ∙ y) ∙ sym (first h) ∙ l .left
+
+  pub passes : k < length stepReaders → isRead a ≡ false → Left (k + 1) s
+  passes h n = record {
+    left =
+        rw (add-one k)
+        (read-other (readAs (readerAt k) s) (readFirst (drop (suc k) stepReaders) s) (ap isRead (sym e) ∙ n) ∙ sym (first h) ∙ l .left);
+  }
+
+pub none-left : {k : ℕ} {s : List ℕ} → Left k s → length stepReaders ≤ k → Unreadable ≡ reading s
+unfolding readFirst
+none-left {k} {s} l h = rw (drop-of-length-le stepReaders {i = k} h) at (l .left)

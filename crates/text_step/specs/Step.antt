@@ -4,6 +4,7 @@ use mathlib.Core.Bool.{Bool, cond}
 use mathlib.Core.List.{List, [], _∷_, _++_}
 use mathlib.Core.Option.{Option}
 use lib.Dec.{eqb}
+use lib.ListN.{getD}
 use Rattle.model_steps.specs.declared.Role.{Role}
 use Rattle.model_steps.specs.declared.Role.the-variants.{Acceptor, Coord, Proc}
 use Rattle.model_steps.specs.declared.Step.{Step}
@@ -86,6 +87,10 @@ stepReaders =
     ∷ reader restoreKind restoreOf
     ∷ reader crashKind crashOf
     ∷ []
+
+-- the reader with this number; the last one for any other number
+abbrev pub readerAt : ℕ → Reader Step
+readerAt k = getD stepReaders k (reader crashKind crashOf)
 
 -- the step that a line reads as, whose numbers are of any size
 unfoldable pub readStep : List ℕ → Option Step

@@ -1,15 +1,17 @@
 // The lines of the world's steps: document 01's "Step files".
+ghost use Prim.Native.Nat.{_<_};
 ghost use mathlib.Core.Option.{some};
 ghost use mathlib.Core.Path.{_≡_};
+ghost use lib.ListN.{length};
 ghost use Rattle.model_steps.specs.declared.Step.the-variants.{Crash};
 ghost use Rattle.text_entry.specs.Decimals.{answerBy};
 ghost use Rattle.text_entry.specs.Read.{readKind, valueAfter};
 ghost use Rattle.text_entry.specs.Seen.{seen};
-ghost use Rattle.text_entry.specs.Table.{made};
+ghost use Rattle.text_entry.specs.Table.{made, readAs};
 ghost use Rattle.text_step.specs.declared.Reading.the-variants.{Read, Outside, Unreadable};
 ghost use Rattle.text_step.specs.Answers.{isRead, requestOf};
 ghost use Rattle.text_step.specs.Kinds.{role, sentTake, sentVote, setupKind, openKind, proposeKind, deliverKind, tellKind, restoreKind, crashKind};
-ghost use Rattle.text_step.specs.Step.{reading, readingOf, roleOf, takeOf, voteOf, setupOf, openOf, proposeOf, deliverOf, tellOf, restoreOf, crashOf};
+ghost use Rattle.text_step.specs.Step.{readerAt, reading, readingOf, roleOf, stepReaders, takeOf, voteOf, setupOf, openOf, proposeOf, deliverOf, tellOf, restoreOf, crashOf};
 use log_entry::Entry;
 use model_steps::Role;
 use model_steps::Step;
@@ -19,6 +21,9 @@ use text_entry::decimals::Decimals;
 use text_entry::fields;
 use text_entry::value;
 use text_entry::value::Value;
+
+// The kinds of lines: `stepReaders` of `specs/Step.antt` has them in their order.
+const KINDS: u8 = 9;
 
 // What a line is: a step; the text of a step with a number beyond a byte; or no text of a step.
 pub enum Reading {
@@ -213,41 +218,35 @@ fn is_read(r: Reading) -> bool
     }
 }
 
+// What the line reads as, taken for one of the kind with this number.
+fn read_kind(line: &[u8], kind: u8) -> Reading
+    requires { ⌜ kind < length stepReaders ⌝ }
+    ensures { λ r. ⌜ r ≡ readingOf (readAs (readerAt kind) (now (line .entry))) ⌝ }
+{
+    match kind {
+        0 => read_take(line),
+        1 => read_vote(line),
+        2 => read_setup(line),
+        3 => read_open(line),
+        4 => read_propose(line),
+        5 => read_deliver(line),
+        6 => read_tell(line),
+        7 => read_restore(line),
+        _ => read_crash(line),
+    }
+}
+
 // The step whose text the line is.
 pub fn read_step(line: &[u8]) -> Reading
     ensures { λ r. ⌜ r ≡ reading (now (line .entry)) ⌝ }
 {
-    let take = read_take(line);
-    if is_read(take) {
-        return take;
+    let mut kind: u8 = 0;
+    while kind < KINDS {
+        let r = read_kind(line, kind);
+        if is_read(r) {
+            return r;
+        }
+        kind += 1;
     }
-    let vote = read_vote(line);
-    if is_read(vote) {
-        return vote;
-    }
-    let setup = read_setup(line);
-    if is_read(setup) {
-        return setup;
-    }
-    let open = read_open(line);
-    if is_read(open) {
-        return open;
-    }
-    let propose = read_propose(line);
-    if is_read(propose) {
-        return propose;
-    }
-    let deliver = read_deliver(line);
-    if is_read(deliver) {
-        return deliver;
-    }
-    let tell = read_tell(line);
-    if is_read(tell) {
-        return tell;
-    }
-    let restore = read_restore(line);
-    if is_read(restore) {
-        return restore;
-    }
-    read_crash(line)
+    Reading::Unreadable
 }

@@ -11,7 +11,7 @@ use Rattle.log_votes.specs.declared.Outcome.the-variants.{Open}
 use Rattle.log_votes.specs.Outcome.{isOpen}
 use Rattle.model_protocol.specs.declared.Process.{Process}
 use Rattle.model_protocol.specs.World.{freshProcess}
-use Rattle.text_report.specs.Report.{each, end, field, outcomeWord, replayText, rowsOf}
+use Rattle.text_report.specs.Report.{each, end, field, outcomeField, replayText, rowsOf}
 
 -- the texts of the processes, by number: they are numbered from 1
 abbrev pub byProcess : (ℕ → Process → List ℕ) → List Process → List ℕ
@@ -19,7 +19,7 @@ byProcess text ps = each (λ i. text (suc i) (getD ps (suc i) freshProcess)) pro
 
 -- "`proc=1 tx=4 heard=commit` lines by process and tx"
 abbrev pub heardLine : ℕ → ℕ → Outcome → List ℕ
-heardLine proc tx outcome = field (ascii "proc=") proc ++ field (ascii " tx=") tx ++ ascii " heard=" ++ outcomeWord outcome ++ end
+heardLine proc tx outcome = field (ascii "proc=") proc ++ field (ascii " tx=") tx ++ outcomeField (ascii " heard=") outcome ++ end
 
 -- of an outcome that was heard; open if nothing was
 abbrev pub outcomeText : ℕ → ℕ → Outcome → List ℕ

@@ -6,14 +6,15 @@ ghost use Rattle.world_report.specs.Coordinators.{coordinatorLine, coord
 ghost use Rattle.world_report.specs.Longest.{longestCoordinator};
 use log_core::Log;
 use model_protocol::Coordinator;
+use model_protocol::limits::COORDINATOR_PLACES;
 use model_steps::limits::COORDINATORS;
 
 pub fn coordinator_line(out: &mut [u8], at: usize, coord: u8, applied: u8) -> usize
     ensures { λ r. ⌜ Within longestLine (now (out .entry)) at (coordinatorLine coord applied) (now (out .exit)) r ⌝ }
 {
-    let at = text_report::field(out, at, b"coord=", coord as u32);
-    let at = text_report::field(out, at, b" applied=", applied as u32);
-    text_ascii::word(out, at, b"\n")
+    let at = text_report::byte_field(out, at, b"coord=", coord);
+    let at = text_report::byte_field(out, at, b" applied=", applied);
+    text_report::end(out, at)
 }
 
 // Its line and its log.
@@ -24,7 +25,12 @@ pub fn put_coordinator(out: &mut [u8], at: usize, coord: u8, c: Coordinator, log
     text_report::put_log(out, at, log)
 }
 
-pub fn put_coordinators(out: &mut [u8], at: usize, cs: [Coordinator; 3], logs: [Log; 3]) -> usize
+pub fn put_coordinators(
+    out: &mut [u8],
+    at: usize,
+    cs: [Coordinator; COORDINATOR_PLACES],
+    logs: [Log; COORDINATOR_PLACES],
+) -> usize
     ensures { λ r. ⌜ Within (coordinators * longestCoordinator) (now (out .entry)) at (coordinatorsText cs logs) (now (out .exit)) r ⌝ }
 {
     let mut to = at;

@@ -8,15 +8,15 @@ use log_entry::limits::PROCESSES;
 use log_entry::limits::TRANSACTIONS;
 use log_votes::Outcome;
 use model_protocol::Process;
+use model_protocol::limits::PROCESS_PLACES;
 
 pub fn heard_line(out: &mut [u8], at: usize, proc: u8, tx: u8, outcome: Outcome) -> usize
     ensures { λ r. ⌜ Within longestLine (now (out .entry)) at (heardLine proc tx outcome) (now (out .exit)) r ⌝ }
 {
-    let at = text_report::field(out, at, b"proc=", proc as u32);
-    let at = text_report::field(out, at, b" tx=", tx as u32);
-    let at = text_ascii::word(out, at, b" heard=");
-    let at = text_report::outcome_word(out, at, outcome);
-    text_ascii::word(out, at, b"\n")
+    let at = text_report::byte_field(out, at, b"proc=", proc);
+    let at = text_report::byte_field(out, at, b" tx=", tx);
+    let at = text_report::outcome_field(out, at, b" heard=", outcome);
+    text_report::end(out, at)
 }
 
 // The transaction's line, if its outcome was heard.
@@ -45,7 +45,7 @@ pub fn put_heard(out: &mut [u8], at: usize, proc: u8, p: Process) -> usize
 }
 
 // What all processes heard.
-pub fn put_all_heard(out: &mut [u8], at: usize, ps: [Process; 16]) -> usize
+pub fn put_all_heard(out: &mut [u8], at: usize, ps: [Process; PROCESS_PLACES]) -> usize
     ensures { λ r. ⌜ Within (processes * longestHeard) (now (out .entry)) at (byProcess heardText ps) (now (out .exit)) r ⌝ }
 {
     let mut to = at;
@@ -61,10 +61,10 @@ pub fn put_all_heard(out: &mut [u8], at: usize, ps: [Process; 16]) -> usize
 pub fn restore_line(out: &mut [u8], at: usize, proc: u8, store: u8, position: u8) -> usize
     ensures { λ r. ⌜ Within longestLine (now (out .entry)) at (restoreLine proc store position) (now (out .exit)) r ⌝ }
 {
-    let at = text_report::field(out, at, b"proc=", proc as u32);
-    let at = text_report::field(out, at, b" store=", store as u32);
-    let at = text_report::field(out, at, b" position=", position as u32);
-    text_ascii::word(out, at, b"\n")
+    let at = text_report::byte_field(out, at, b"proc=", proc);
+    let at = text_report::byte_field(out, at, b" store=", store);
+    let at = text_report::byte_field(out, at, b" position=", position);
+    text_report::end(out, at)
 }
 
 // The restore that the process took, if it took one.

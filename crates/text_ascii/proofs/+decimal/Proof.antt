@@ -22,94 +22,6 @@ decimal-at t = and 1 decimal-kinds.ps (is 1 decimal-kinds.ps μ-decimal t) decim
 abbrev decimal-below : ℕ → In 1 decimal-kinds.ps
 decimal-below t = and 1 decimal-kinds.ps (falls 1 decimal-kinds.ps _<_ μ-decimal t) decimal.Pre
 
-decimal-cast-byte : (t : ℕ) → decimal-lts.Need-cast-byte (
-  byte-reads.Asked,
-  byte-reads.Learnt,
-  decimal-below t,
-  decimal.Post,
-) (decimal-at t) decimal.Post
-decimal-cast-byte t c = omega arith
-
-decimal-add-byte : (t : ℕ) → decimal-lts.Need-add-byte (
-  byte-reads.Asked,
-  byte-reads.Learnt,
-  decimal-below t,
-  decimal.Post,
-) (decimal-at t) decimal.Post
-decimal-add-byte t c = omega arith
-
-decimal-byte-requires : (t : ℕ) → decimal-lts.Need-byte-requires (
-  byte-reads.Asked,
-  byte-reads.Learnt,
-  decimal-below t,
-  decimal.Post,
-) (decimal-at t) decimal.Post
-decimal-byte-requires t c κs = tt
-
-decimal-same-length : (t : ℕ) → decimal-lts.Need-same-length (
-  byte-reads.Asked,
-  byte-reads.Learnt,
-  decimal-below t,
-  decimal.Post,
-) (decimal-at t) decimal.Post
-decimal-same-length t c = search needs
-
-decimal-returns : (t : ℕ) → decimal-lts.Need-returns (
-  byte-reads.Asked,
-  byte-reads.Learnt,
-  decimal-below t,
-  decimal.Post,
-) (decimal-at t) decimal.Post
-decimal-returns t c = wrote-as (sym (decimal-small (c .before .before .before .before .before .before .args .n) (c .before .before .before .before .if1 .taken))) (c .before .before .byte .ensures)
-
-decimal-decimal-requires : (t : ℕ) → decimal-lts.Need-decimal-requires (
-  byte-reads.Asked,
-  byte-reads.Learnt,
-  decimal-below t,
-  decimal.Post,
-) (decimal-at t) decimal.Post
-decimal-decimal-requires t c κs = (omega (arith, c .before .before .before .pre .0), tt)
-
-decimal-cast-byte-2 : (t : ℕ) → decimal-lts.Need-cast-byte-2 (
-  byte-reads.Asked,
-  byte-reads.Learnt,
-  decimal-below t,
-  decimal.Post,
-) (decimal-at t) decimal.Post
-decimal-cast-byte-2 t c = omega arith
-
-decimal-add-byte-2 : (t : ℕ) → decimal-lts.Need-add-byte-2 (
-  byte-reads.Asked,
-  byte-reads.Learnt,
-  decimal-below t,
-  decimal.Post,
-) (decimal-at t) decimal.Post
-decimal-add-byte-2 t c = omega arith
-
-decimal-byte-requires-2 : (t : ℕ) → decimal-lts.Need-byte-requires-2 (
-  byte-reads.Asked,
-  byte-reads.Learnt,
-  decimal-below t,
-  decimal.Post,
-) (decimal-at t) decimal.Post
-decimal-byte-requires-2 t c κs = tt
-
-decimal-same-length-2 : (t : ℕ) → decimal-lts.Need-same-length-2 (
-  byte-reads.Asked,
-  byte-reads.Learnt,
-  decimal-below t,
-  decimal.Post,
-) (decimal-at t) decimal.Post
-decimal-same-length-2 t c = search needs
-
-decimal-returns-2 : (t : ℕ) → decimal-lts.Need-returns-2 (
-  byte-reads.Asked,
-  byte-reads.Learnt,
-  decimal-below t,
-  decimal.Post,
-) (decimal-at t) decimal.Post
-decimal-returns-2 t c = wrote-as (sym (decimal-large (c .before .before .before .before .before .before .before .before .before .before .args .n) (c .before .before .before .before .before .before .before .before .if1 .left))) (wrote-more (c .before .before .before .before .before .before .decimal .ensures) (c .before .before .byte2 .ensures))
-
 pub +decimal-spec : {M : Type 1} → statement M
 +decimal-spec = close μ-decimal λ t. decimal-lts.spec (
   byte-reads.Asked,
@@ -119,14 +31,14 @@ pub +decimal-spec : {M : Type 1} → statement M
 )
     (decimal-at t)
     decimal.Post
-    (decimal-cast-byte t)
-    (decimal-add-byte t)
-    (decimal-byte-requires t)
-    (decimal-same-length t)
-    (decimal-returns t)
-    (decimal-decimal-requires t)
-    (decimal-cast-byte-2 t)
-    (decimal-add-byte-2 t)
-    (decimal-byte-requires-2 t)
-    (decimal-same-length-2 t)
-    (decimal-returns-2 t)
+    (λ c. omega arith)
+    (λ c. omega arith)
+    (λ c κs. tt)
+    (λ c. search needs)
+    (λ c. wrote-as (sym (decimal-small (c .before .before .before .before .before .before .args .n) (c .before .before .before .before .if1 .taken))) (c .before .before .byte .ensures))
+    (λ c κs. (omega (arith, c .before .before .before .pre .0), tt))
+    (λ c. omega arith)
+    (λ c. omega arith)
+    (λ c κs. tt)
+    (λ c. search needs)
+    (λ c. wrote-as (sym (decimal-large (c .before .before .before .before .before .before .before .before .before .before .args .n) (c .before .before .before .before .before .before .before .before .if1 .left))) (wrote-more (c .before .before .before .before .before .before .decimal .ensures) (c .before .before .byte2 .ensures)))

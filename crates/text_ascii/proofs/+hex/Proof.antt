@@ -25,66 +25,6 @@ hex-at t = and 1 hex-kinds.ps (is 1 hex-kinds.ps μ-hex t) hex.Pre
 abbrev hex-below : ℕ → In 1 hex-kinds.ps
 hex-below t = and 1 hex-kinds.ps (falls 1 hex-kinds.ps _<_ μ-hex t) hex.Pre
 
-hex-returns : (t : ℕ) → hex-lts.Need-returns (
-  hex-below t,
-  hex.Post,
-  hex-digit-reads.Asked,
-  hex-digit-reads.Learnt,
-  byte-reads.Asked,
-  byte-reads.Learnt,
-) (hex-at t) hex.Post
-hex-returns t c = wrote-as (sym (hex-none (c .before .before .args .digits) (c .before .before .args .n) (c .if1 .taken))) (wrote-nothing _ _)
-
-hex-sub-hex : (t : ℕ) → hex-lts.Need-sub-hex (
-  hex-below t,
-  hex.Post,
-  hex-digit-reads.Asked,
-  hex-digit-reads.Learnt,
-  byte-reads.Asked,
-  byte-reads.Learnt,
-) (hex-at t) hex.Post
-hex-sub-hex t c = omega arith
-
-hex-hex-requires : (t : ℕ) → hex-lts.Need-hex-requires (
-  hex-below t,
-  hex.Post,
-  hex-digit-reads.Asked,
-  hex-digit-reads.Learnt,
-  byte-reads.Asked,
-  byte-reads.Learnt,
-) (hex-at t) hex.Post
-hex-hex-requires t c κs = (omega (arith, c .before .before .before .pre .0), tt)
-
-hex-hex-digit-requires : (t : ℕ) → hex-lts.Need-hex-digit-requires (
-  hex-below t,
-  hex.Post,
-  hex-digit-reads.Asked,
-  hex-digit-reads.Learnt,
-  byte-reads.Asked,
-  byte-reads.Learnt,
-) (hex-at t) hex.Post
-hex-hex-digit-requires t c κs = omega arith
-
-hex-byte-requires : (t : ℕ) → hex-lts.Need-byte-requires (
-  hex-below t,
-  hex.Post,
-  hex-digit-reads.Asked,
-  hex-digit-reads.Learnt,
-  byte-reads.Asked,
-  byte-reads.Learnt,
-) (hex-at t) hex.Post
-hex-byte-requires t c κs = tt
-
-hex-same-length : (t : ℕ) → hex-lts.Need-same-length (
-  hex-below t,
-  hex.Post,
-  hex-digit-reads.Asked,
-  hex-digit-reads.Learnt,
-  byte-reads.Asked,
-  byte-reads.Learnt,
-) (hex-at t) hex.Post
-hex-same-length t c = search needs
-
 hex-returns-2 : (t : ℕ) → hex-lts.Need-returns-2 (
   hex-below t,
   hex.Post,
@@ -108,10 +48,10 @@ pub +hex-spec : {M : Type 1} → statement M
 )
     (hex-at t)
     hex.Post
-    (hex-returns t)
-    (hex-sub-hex t)
-    (hex-hex-requires t)
-    (hex-hex-digit-requires t)
-    (hex-byte-requires t)
-    (hex-same-length t)
+    (λ c. wrote-as (sym (hex-none (c .before .before .args .digits) (c .before .before .args .n) (c .if1 .taken))) (wrote-nothing _ _))
+    (λ c. omega arith)
+    (λ c κs. (omega (arith, c .before .before .before .pre .0), tt))
+    (λ c κs. omega arith)
+    (λ c κs. tt)
+    (λ c. search needs)
     (hex-returns-2 t)

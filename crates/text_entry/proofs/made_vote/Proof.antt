@@ -11,9 +11,6 @@ use borrow.Author.Needs.{needs}
 use Rattle.text_entry.proofs.made_vote.Statement.{statement}
 use Rattle.text_entry.proofs.made_vote.Tie as tie
 
-bytes-requires : tie.Need-bytes-requires
-bytes-requires c κs = search needs
-
 returns : tie.Need-returns
 returns c =
     let a = c .before .before .args in
@@ -45,4 +42,12 @@ returns-2 c =
 pub made-vote-spec : {M : Type 1} → statement M
 made-vote-spec =
     tie.close
-    (tie.spec bytes-requires returns cast-t10 cast-t11 cast-t12 cast-t13 cast-t14 returns-2)
+    (tie.spec
+    (λ c κs. search needs)
+    returns
+    cast-t10
+    cast-t11
+    cast-t12
+    cast-t13
+    cast-t14
+    returns-2)

@@ -11,21 +11,6 @@ use borrow.Author.Needs.{needs}
 use Rattle.text_entry.proofs.read_entry.Statement.{statement}
 use Rattle.text_entry.proofs.read_entry.Tie as tie
 
-read-take-requires : tie.Need-read-take-requires
-read-take-requires c κs = search needs
-
-enum-known-entry : tie.Need-enum-known-entry
-enum-known-entry c = search needs
-
-enum-told : tie.Need-enum-told
-enum-told c = search needs
-
-enum-told-2 : tie.Need-enum-told-2
-enum-told-2 c = search needs
-
-read-vote-requires : tie.Need-read-vote-requires
-read-vote-requires c κs = search needs
-
 returns : tie.Need-returns
 unfolding readEntry readFirst
 returns c =
@@ -48,11 +33,8 @@ pub read-entry-spec : {M : Type 1} → statement M
 read-entry-spec =
     tie.close
     (tie.spec
-    read-take-requires
-    enum-known-entry
-    enum-told
-    enum-told-2
-    read-vote-requires
+    (λ c κs. search needs) (λ c. search needs) (λ c. search needs) (λ c. search needs)
+    (λ c κs. search needs)
     returns
     returns-2
     returns-3)

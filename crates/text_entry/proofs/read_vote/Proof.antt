@@ -12,19 +12,10 @@ use borrow.Author.Needs.{needs}
 use Rattle.text_entry.proofs.read_vote.Statement.{statement}
 use Rattle.text_entry.proofs.read_vote.Tie as tie
 
-vote-parts-requires : tie.Need-vote-parts-requires
-vote-parts-requires c κs = search needs
-
-ends-requires : tie.Need-ends-requires
-ends-requires c κs = search needs
-
 returns : tie.Need-returns
 returns c =
     let s = c .before .before .before .before .args .line .now in
     line-unread voteKind voteOf readingOf vote-counts s (after (nameText voteKind) (part 0 s)) refl (voteParts s (c .before .before .vote-parts .result)) (as-parts (voteKind .fields) (after (nameText voteKind) (part 0 s)) _ (c .before .before .vote-parts .ensures)) (sym (c .before .ends .ensures) ∙ not-true _ (c .if1 .taken))
-
-made-vote-requires : tie.Need-made-vote-requires
-made-vote-requires c κs = search needs
 
 returns-2 : tie.Need-returns-2
 returns-2 c =
@@ -34,4 +25,9 @@ returns-2 c =
 
 pub read-vote-spec : {M : Type 1} → statement M
 read-vote-spec =
-    tie.close (tie.spec vote-parts-requires ends-requires returns made-vote-requires returns-2)
+    tie.close
+    (tie.spec
+    (λ c κs. search needs) (λ c κs. search needs)
+    returns
+    (λ c κs. search needs)
+    returns-2)

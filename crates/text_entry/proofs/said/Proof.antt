@@ -7,21 +7,6 @@ use borrow.Author.Needs.{needs}
 use Rattle.text_entry.proofs.said.Statement.{statement}
 use Rattle.text_entry.proofs.said.Tie as tie
 
-unreadable-requires : tie.Need-unreadable-requires
-unreadable-requires c κs = search needs
-
-slice-aggregate-word : tie.Need-slice-aggregate-word
-slice-aggregate-word c = search needs
-
-word-requires : tie.Need-word-requires
-word-requires c κs = search needs
-
-slice-aggregate-word-2 : tie.Need-slice-aggregate-word-2
-slice-aggregate-word-2 c = search needs
-
-word-requires-2 : tie.Need-word-requires-2
-word-requires-2 c κs = search needs
-
 returns : tie.Need-returns
 returns c =
     let a = c .before .before .before .before .before .before .args in
@@ -34,9 +19,6 @@ pub said-spec : {M : Type 1} → statement M
 said-spec =
     tie.close
     (tie.spec
-    unreadable-requires
-    slice-aggregate-word
-    word-requires
-    slice-aggregate-word-2
-    word-requires-2
+    (λ c κs. search needs) (λ c. search needs) (λ c κs. search needs) (λ c. search needs)
+    (λ c κs. search needs)
     returns)

@@ -5,19 +5,10 @@ use borrow.Author.Needs.{needs}
 use Rattle.text_report.proofs.holder.Statement.{statement}
 use Rattle.text_report.proofs.holder.Tie as tie
 
-holder-requires : tie.Need-holder-requires
-holder-requires c κs = search needs
-
 returns : tie.Need-returns
 returns c =
     let a = c .before .before .before .args in
     within-as (not-held (a .log) (a .store) (sym (c .before .holder .ensures) ∙ c .if1 .taken)) (within-nothing _ _ _)
-
-holder-line-requires : tie.Need-holder-line-requires
-holder-line-requires c κs = search needs
-
-same-length : tie.Need-same-length
-same-length c = search needs
 
 returns-2 : tie.Need-returns-2
 returns-2 c =
@@ -26,4 +17,9 @@ returns-2 c =
 
 pub holder-spec : {M : Type 1} → statement M
 holder-spec =
-    tie.close (tie.spec holder-requires returns holder-line-requires same-length returns-2)
+    tie.close
+    (tie.spec
+    (λ c κs. search needs)
+    returns
+    (λ c κs. search needs) (λ c. search needs)
+    returns-2)

@@ -1,47 +1,19 @@
+use Prim.Native.Nat.{_-_}
+use mathlib.Core.Path.{refl}
 use native.Mathlib.Omega.{arith}
 use borrow.Author.Needs.{needs}
-use native.Mathlib.Omega.{arith}
-use Prim.Native.Nat.{_≤_, _-_, _*_}
-use mathlib.Core.Path.{_≡_, ap}
 use Rattle.log_entry.specs.Limits.{stores}
-use Rattle.text_ascii.proofs.Writing.{wrote-length}
-use Rattle.text_report.specs.Report.{each, holderText}
-use Rattle.text_report.specs.Within.{Within, longestLine}
-use Rattle.text_report.proofs.Lengths.{each-more, each-none, within-as, within-more, within-nothing, within-room}
+use Rattle.text_report.specs.Report.{holderText}
+use Rattle.text_report.specs.Within.{longestLine}
+use Rattle.text_report.proofs.Each.{Put, none-put, put-all, put-length, put-more}
 use Rattle.text_report.proofs.holders.Statement.{statement}
 use Rattle.text_report.proofs.holders.Tie as tie
 
 abbrev Inv-loop : tie.InvT-loop
-Inv-loop out₀ at log to₀ i₀ out to i = (i ≤ stores) × Within (i * (longestLine)) out₀ at (each (holderText log) i) out to
+Inv-loop out₀ at log to₀ i₀ out to i = Put stores longestLine (holderText log) out₀ at out to i
 
 abbrev μ-loop : tie.MeasureT-loop
 μ-loop out₀ at log to₀ i₀ out to i = stores - i
-
-loop-holds : tie.Need-loop-holds Inv-loop μ-loop
-loop-holds c = (omega arith, within-as (each-none (holderText (c .before .args .log))) (within-nothing 0 _ _))
-
-holder-requires : tie.Need-holder-requires Inv-loop μ-loop
-holder-requires c κs = search needs
-
-add-i : tie.Need-add-i Inv-loop μ-loop
-add-i c = omega arith
-
-loop-less : tie.Need-loop-less Inv-loop μ-loop
-loop-less c = omega arith
-
-loop-again : tie.Need-loop-again Inv-loop μ-loop
-loop-again c =
-    let l = c .before .before .before .before .before .loop in
-    (omega arith, within-room (within-as (each-more (holderText (c .before .before .before .before .before .before .before .args .log)) (l .i)) (within-more (l .inv .1) (c .before .before .holder .ensures))) (omega arith))
-
-same-length : tie.Need-same-length Inv-loop μ-loop
-same-length c = wrote-length (c .before .loop .inv .1 .wrote)
-
-returns : tie.Need-returns Inv-loop μ-loop
-returns c =
-    let l = c .before .loop in
-    let e : l .i ≡ stores = omega arith in
-    within-room (within-as (ap (each (holderText (c .before .before .before .args .log))) e) (l .inv .1)) (omega arith)
 
 pub holders-spec : {M : Type 1} → statement M
 holders-spec =
@@ -49,10 +21,8 @@ holders-spec =
     (tie.spec
     Inv-loop
     μ-loop
-    loop-holds
-    holder-requires
-    add-i
-    loop-less
-    loop-again
-    same-length
-    returns)
+    (λ c. none-put)
+    (λ c κs. search needs) (λ c. omega arith) (λ c. omega arith)
+    (λ c. put-more (c .before .before .before .before .before .loop .inv) (omega arith) (c .before .before .holder .ensures) refl)
+    (λ c. put-length (c .before .loop .inv))
+    (λ c. put-all (c .before .loop .inv) (omega arith) (omega arith)))

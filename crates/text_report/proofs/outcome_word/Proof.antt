@@ -1,72 +1,29 @@
-use mathlib.Core.Path.{sym, ap}
-use Rattle.text_ascii.proofs.Writing.{wrote-as}
-use Rattle.text_report.specs.Report.{outcomeWord}
-use Rattle.text_report.proofs.Lengths.{outcome-length}
+use mathlib.Core.Path.{ap, sym}
+use native.Mathlib.Omega.{arith}
 use borrow.Author.Needs.{needs}
+use Rattle.text_report.specs.Report.{outcomeWord}
+use Rattle.text_report.proofs.Lengths.{within-as, written}
 use Rattle.text_report.proofs.outcome_word.Statement.{statement}
 use Rattle.text_report.proofs.outcome_word.Tie as tie
 
-enum-told : tie.Need-enum-told
-enum-told c = search needs
-
-slice-aggregate-word : tie.Need-slice-aggregate-word
-slice-aggregate-word c = search needs
-
-word-requires : tie.Need-word-requires
-word-requires c κs = search needs
-
-enum-told-2 : tie.Need-enum-told-2
-enum-told-2 c = search needs
-
-slice-aggregate-word-2 : tie.Need-slice-aggregate-word-2
-slice-aggregate-word-2 c = search needs
-
-word-requires-2 : tie.Need-word-requires-2
-word-requires-2 c κs = search needs
-
-enum-told-3 : tie.Need-enum-told-3
-enum-told-3 c = search needs
-
-slice-aggregate-word-3 : tie.Need-slice-aggregate-word-3
-slice-aggregate-word-3 c = search needs
-
-word-requires-3 : tie.Need-word-requires-3
-word-requires-3 c κs = search needs
-
-same-length : tie.Need-same-length
-same-length c = search needs
-
 returns : tie.Need-returns
-returns c = record { wrote = wrote-as (ap outcomeWord (sym (c .before .before .before .before .before .enum-told .given .1))) (c .before .before .word .ensures); within = outcome-length (c .before .before .before .before .before .before .before .before .args .outcome) }
-
-same-length-2 : tie.Need-same-length-2
-same-length-2 c = search needs
+returns c = within-as (ap outcomeWord (sym (c .before .before .before .before .before .enum-told .given .1))) (written (c .before .before .word .ensures) (omega arith))
 
 returns-2 : tie.Need-returns-2
-returns-2 c = record { wrote = wrote-as (ap outcomeWord (sym (c .before .before .before .before .before .enum-told2 .given .1))) (c .before .before .word2 .ensures); within = outcome-length (c .before .before .before .before .before .before .before .before .args .outcome) }
-
-same-length-3 : tie.Need-same-length-3
-same-length-3 c = search needs
+returns-2 c = within-as (ap outcomeWord (sym (c .before .before .before .before .before .enum-told2 .given .1))) (written (c .before .before .word2 .ensures) (omega arith))
 
 returns-3 : tie.Need-returns-3
-returns-3 c = record { wrote = wrote-as (ap outcomeWord (sym (c .before .before .before .before .before .enum-told3 .given .1))) (c .before .before .word3 .ensures); within = outcome-length (c .before .before .before .before .before .before .before .before .args .outcome) }
+returns-3 c = within-as (ap outcomeWord (sym (c .before .before .before .before .before .enum-told3 .given .1))) (written (c .before .before .word3 .ensures) (omega arith))
 
 pub outcome-word-spec : {M : Type 1} → statement M
 outcome-word-spec =
     tie.close
     (tie.spec
-    enum-told
-    slice-aggregate-word
-    word-requires
-    enum-told-2
-    slice-aggregate-word-2
-    word-requires-2
-    enum-told-3
-    slice-aggregate-word-3
-    word-requires-3
-    same-length
+    (λ c. search needs) (λ c. search needs) (λ c κs. search needs) (λ c. search needs)
+    (λ c. search needs) (λ c κs. search needs) (λ c. search needs) (λ c. search needs)
+    (λ c κs. search needs) (λ c. search needs)
     returns
-    same-length-2
+    (λ c. search needs)
     returns-2
-    same-length-3
+    (λ c. search needs)
     returns-3)

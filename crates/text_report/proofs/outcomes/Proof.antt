@@ -1,47 +1,19 @@
+use Prim.Native.Nat.{_-_}
+use mathlib.Core.Path.{refl}
 use native.Mathlib.Omega.{arith}
 use borrow.Author.Needs.{needs}
-use native.Mathlib.Omega.{arith}
-use Prim.Native.Nat.{_≤_, _-_, _*_}
-use mathlib.Core.Path.{_≡_, ap}
 use Rattle.log_entry.specs.Limits.{transactions}
-use Rattle.text_ascii.proofs.Writing.{wrote-length}
-use Rattle.text_report.specs.Report.{each, txText}
-use Rattle.text_report.specs.Within.{Within, longestLine}
-use Rattle.text_report.proofs.Lengths.{each-more, each-none, within-as, within-more, within-nothing, within-room}
+use Rattle.text_report.specs.Report.{txText}
+use Rattle.text_report.specs.Within.{longestLine}
+use Rattle.text_report.proofs.Each.{Put, none-put, put-all, put-length, put-more}
 use Rattle.text_report.proofs.outcomes.Statement.{statement}
 use Rattle.text_report.proofs.outcomes.Tie as tie
 
 abbrev Inv-loop : tie.InvT-loop
-Inv-loop out₀ at log to₀ i₀ out to i = (i ≤ transactions) × Within (i * (longestLine)) out₀ at (each (txText log) i) out to
+Inv-loop out₀ at log to₀ i₀ out to i = Put transactions longestLine (txText log) out₀ at out to i
 
 abbrev μ-loop : tie.MeasureT-loop
 μ-loop out₀ at log to₀ i₀ out to i = transactions - i
-
-loop-holds : tie.Need-loop-holds Inv-loop μ-loop
-loop-holds c = (omega arith, within-as (each-none (txText (c .before .args .log))) (within-nothing 0 _ _))
-
-tx-requires : tie.Need-tx-requires Inv-loop μ-loop
-tx-requires c κs = search needs
-
-add-i : tie.Need-add-i Inv-loop μ-loop
-add-i c = omega arith
-
-loop-less : tie.Need-loop-less Inv-loop μ-loop
-loop-less c = omega arith
-
-loop-again : tie.Need-loop-again Inv-loop μ-loop
-loop-again c =
-    let l = c .before .before .before .before .before .loop in
-    (omega arith, within-room (within-as (each-more (txText (c .before .before .before .before .before .before .before .args .log)) (l .i)) (within-more (l .inv .1) (c .before .before .tx .ensures))) (omega arith))
-
-same-length : tie.Need-same-length Inv-loop μ-loop
-same-length c = wrote-length (c .before .loop .inv .1 .wrote)
-
-returns : tie.Need-returns Inv-loop μ-loop
-returns c =
-    let l = c .before .loop in
-    let e : l .i ≡ transactions = omega arith in
-    within-room (within-as (ap (each (txText (c .before .before .before .args .log))) e) (l .inv .1)) (omega arith)
 
 pub outcomes-spec : {M : Type 1} → statement M
 outcomes-spec =
@@ -49,10 +21,8 @@ outcomes-spec =
     (tie.spec
     Inv-loop
     μ-loop
-    loop-holds
-    tx-requires
-    add-i
-    loop-less
-    loop-again
-    same-length
-    returns)
+    (λ c. none-put)
+    (λ c κs. search needs) (λ c. omega arith) (λ c. omega arith)
+    (λ c. put-more (c .before .before .before .before .before .loop .inv) (omega arith) (c .before .before .tx .ensures) refl)
+    (λ c. put-length (c .before .loop .inv))
+    (λ c. put-all (c .before .loop .inv) (omega arith) (omega arith)))

@@ -1,22 +1,9 @@
 use native.Mathlib.Omega.{arith}
-use native.Mathlib.Omega.{arith}
 use Rattle.text_report.specs.Report.{logText}
 use Rattle.text_report.proofs.Lengths.{within-more, within-room}
 use borrow.Author.Needs.{needs}
 use Rattle.text_report.proofs.put_log.Statement.{statement}
 use Rattle.text_report.proofs.put_log.Tie as tie
-
-outcomes-requires : tie.Need-outcomes-requires
-outcomes-requires c κs = search needs
-
-holders-requires : tie.Need-holders-requires
-holders-requires c κs = search needs
-
-replays-requires : tie.Need-replays-requires
-replays-requires c κs = search needs
-
-same-length : tie.Need-same-length
-same-length c = search needs
 
 returns : tie.Need-returns
 unfolding logText
@@ -24,4 +11,7 @@ returns c = within-room (within-more (within-more (c .before .before .before .be
 
 pub put-log-spec : {M : Type 1} → statement M
 put-log-spec =
-    tie.close (tie.spec outcomes-requires holders-requires replays-requires same-length returns)
+    tie.close
+    (tie.spec
+    (λ c κs. search needs) (λ c κs. search needs) (λ c κs. search needs) (λ c. search needs)
+    returns)

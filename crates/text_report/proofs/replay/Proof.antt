@@ -9,15 +9,6 @@ use Rattle.log_core.proofs.ReplayedRows.{replay-taken}
 use Rattle.text_report.proofs.replay.Statement.{statement}
 use Rattle.text_report.proofs.replay.Tie as tie
 
-replay-requires : tie.Need-replay-requires
-replay-requires c κs = search needs
-
-put-replay-requires : tie.Need-put-replay-requires
-put-replay-requires c κs = search needs
-
-same-length : tie.Need-same-length
-same-length c = search needs
-
 returns : tie.Need-returns
 returns c =
     let s = c .before .before .before .before .before .before in
@@ -27,4 +18,8 @@ returns c =
     (c .before .before .put-replay .ensures)
 
 pub replay-spec : {M : Type 1} → statement M
-replay-spec = tie.close (tie.spec replay-requires put-replay-requires same-length returns)
+replay-spec =
+    tie.close
+    (tie.spec
+    (λ c κs. search needs) (λ c κs. search needs) (λ c. search needs)
+    returns)

@@ -6,28 +6,10 @@ use borrow.Author.Needs.{needs}
 use Rattle.text_report.proofs.tx.Statement.{statement}
 use Rattle.text_report.proofs.tx.Tie as tie
 
-mul-row : tie.Need-mul-row
-mul-row c = search needs
-
-element-copy-out-row : tie.Need-element-copy-out-row
-element-copy-out-row c = search needs
-
-any-kept-requires : tie.Need-any-kept-requires
-any-kept-requires c κs = search needs
-
 returns : tie.Need-returns
 returns c =
     let a = c .before .before .before .before .args in
     within-as (not-voted (a .t3) (a .tx) (sym (c .before .any-kept .ensures) ∙ not-true _ (c .if1 .taken))) (within-nothing _ _ _)
-
-outcome-requires : tie.Need-outcome-requires
-outcome-requires c κs = search needs
-
-tx-line-requires : tie.Need-tx-line-requires
-tx-line-requires c κs = search needs
-
-same-length : tie.Need-same-length
-same-length c = search needs
 
 returns-2 : tie.Need-returns-2
 returns-2 c =
@@ -38,11 +20,7 @@ pub tx-spec : {M : Type 1} → statement M
 tx-spec =
     tie.close
     (tie.spec
-    mul-row
-    element-copy-out-row
-    any-kept-requires
+    (λ c. search needs) (λ c. search needs) (λ c κs. search needs)
     returns
-    outcome-requires
-    tx-line-requires
-    same-length
+    (λ c κs. search needs) (λ c κs. search needs) (λ c. search needs)
     returns-2)

@@ -8,11 +8,8 @@ use Rattle.text_step.proofs.made_crash.Tie as tie
 returns : tie.Need-returns
 returns c = sym (crash-outside (c .before .args .role) (c .before .args .id) (c .if1 .taken))
 
-cast-t4 : tie.Need-cast-t4
-cast-t4 c = search needs
-
 returns-2 : tie.Need-returns-2
 returns-2 c = rw (lt-leb 256 (c .before .args .id) (c .if1 .left))
 
 pub made-crash-spec : {M : Type 1} → statement M
-made-crash-spec = tie.close (tie.spec returns cast-t4 returns-2)
+made-crash-spec = tie.close (tie.spec returns (λ c. search needs) returns-2)

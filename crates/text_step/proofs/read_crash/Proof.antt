@@ -15,30 +15,6 @@ use borrow.Author.Needs.{needs}
 use Rattle.text_step.proofs.read_crash.Statement.{statement}
 use Rattle.text_step.proofs.read_crash.Tie as tie
 
-slice-aggregate-named : tie.Need-slice-aggregate-named
-slice-aggregate-named c = search needs
-
-named-requires : tie.Need-named-requires
-named-requires c κs = search needs
-
-slice-aggregate-keyed : tie.Need-slice-aggregate-keyed
-slice-aggregate-keyed c = search needs
-
-keyed-requires : tie.Need-keyed-requires
-keyed-requires c κs = search needs
-
-role-word-requires : tie.Need-role-word-requires
-role-word-requires c κs = search needs
-
-slice-aggregate-decimal : tie.Need-slice-aggregate-decimal
-slice-aggregate-decimal c = search needs
-
-decimal-requires : tie.Need-decimal-requires
-decimal-requires c κs = search needs
-
-ends-requires : tie.Need-ends-requires
-ends-requires c κs = search needs
-
 -- the values of the line
 abbrev parts : tie.After-ends → List Part
 parts c = let s = c .before .before .before .before .before .before .before .before .before .args .line .now in seen s (c .before .before .before .role-word .result) ∷ seen s (c .before .decimal .result) ∷ []
@@ -51,12 +27,6 @@ returns c =
     let s = c .before .before .before .before .before .before .before .before .before .before .args .line .now in
     line-unread crashKind crashOf readingOf crash-counts s (seen s (c .before .before .before .before .before .before .before .named .result)) (c .before .before .before .before .before .before .before .named .ensures) (parts (c .before)) (chain (c .before)) (sym (c .before .ends .ensures) ∙ not-true _ (c .if1 .taken))
 
-role-of-requires : tie.Need-role-of-requires
-role-of-requires c κs = search needs
-
-made-crash-requires : tie.Need-made-crash-requires
-made-crash-requires c κs = search needs
-
 returns-2 : tie.Need-returns-2
 returns-2 c =
     let s = c .before .before .before .before .before .before .before .before .before .before .before .before .args .line .now in
@@ -68,15 +38,8 @@ pub read-crash-spec : {M : Type 1} → statement M
 read-crash-spec =
     tie.close
     (tie.spec
-    slice-aggregate-named
-    named-requires
-    slice-aggregate-keyed
-    keyed-requires
-    role-word-requires
-    slice-aggregate-decimal
-    decimal-requires
-    ends-requires
+    (λ c. search needs) (λ c κs. search needs) (λ c. search needs) (λ c κs. search needs)
+    (λ c κs. search needs) (λ c. search needs) (λ c κs. search needs) (λ c κs. search needs)
     returns
-    role-of-requires
-    made-crash-requires
+    (λ c κs. search needs) (λ c κs. search needs)
     returns-2)

@@ -18,18 +18,6 @@ use borrow.Author.Needs.{needs}
 use Rattle.text_step.proofs.read_vote.Statement.{statement}
 use Rattle.text_step.proofs.read_vote.Tie as tie
 
-vote-parts-requires : tie.Need-vote-parts-requires
-vote-parts-requires c κs = search needs
-
-slice-aggregate-decimal : tie.Need-slice-aggregate-decimal
-slice-aggregate-decimal c = search needs
-
-decimal-requires : tie.Need-decimal-requires
-decimal-requires c κs = search needs
-
-ends-requires : tie.Need-ends-requires
-ends-requires c κs = search needs
-
 -- the values of the line
 abbrev parts : tie.After-ends → List Part
 parts c = let s = c .before .before .before .before .before .args .line .now in voteParts s (c .before .before .before .vote-parts .result) ++ seen s (c .before .decimal .result) ∷ []
@@ -45,12 +33,6 @@ returns c =
     let s = c .before .before .before .before .before .before .args .line .now in
     line-unread sentVote voteOf readingOf vote-counts s (after (nameText sentVote) (part 0 s)) refl (parts (c .before)) (chain (c .before)) (sym (c .before .ends .ensures) ∙ not-true _ (c .if1 .taken))
 
-made-vote-requires : tie.Need-made-vote-requires
-made-vote-requires c κs = search needs
-
-request-requires : tie.Need-request-requires
-request-requires c κs = search needs
-
 returns-2 : tie.Need-returns-2
 returns-2 c =
     let s = c .before .before .before .before .before .before .before .before .args .line .now in
@@ -63,11 +45,7 @@ pub read-vote-spec : {M : Type 1} → statement M
 read-vote-spec =
     tie.close
     (tie.spec
-    vote-parts-requires
-    slice-aggregate-decimal
-    decimal-requires
-    ends-requires
+    (λ c κs. search needs) (λ c. search needs) (λ c κs. search needs) (λ c κs. search needs)
     returns
-    made-vote-requires
-    request-requires
+    (λ c κs. search needs) (λ c κs. search needs)
     returns-2)

@@ -6,20 +6,11 @@ use Rattle.host_records.proofs.Numbers.read.Tie as tie
 bytes : (c : tie.Else2) → Bytes (c .before .before .before .before .args .self)
 bytes c = bytes-of (c .before .before .before .before .args .self) (cc)
 
-unreadable-requires : tie.Need-unreadable-requires
-unreadable-requires c κs = search needs
-
 returns : tie.Need-returns
 returns c = read-unreadable (c .before .before .args .self) (cc)
 
-beyond-byte-requires : tie.Need-beyond-byte-requires
-beyond-byte-requires c κs = search needs
-
 returns-2 : tie.Need-returns-2
 returns-2 c = read-beyond (c .before .before .before .before .args .self) (cc) (cc)
-
-cast-t5 : tie.Need-cast-t5
-cast-t5 c = search needs
 
 cast-t7 : tie.Need-cast-t7
 cast-t7 c = record { fits = bytes (c .before .before) .process }
@@ -36,12 +27,6 @@ cast-t10 c = record { fits = bytes (c .before .before .before .before .before) .
 cast-t11 : tie.Need-cast-t11
 cast-t11 c = record { fits = bytes (c .before .before .before .before .before .before) .list }
 
-cast-t12 : tie.Need-cast-t12
-cast-t12 c = search needs
-
-outside-requires : tie.Need-outside-requires
-outside-requires c κs = search needs
-
 returns-3 : tie.Need-returns-3
 returns-3 c = read-outside (c .before .before .before .before .before .before .before .before .before .before .before .before .before .args .self) (cc) (cc)
 
@@ -52,17 +37,16 @@ pub read-spec : {M : Type 1} → statement M
 read-spec =
     tie.close
     (tie.spec
-    unreadable-requires
+    (λ c κs. search needs)
     returns
-    beyond-byte-requires
+    (λ c κs. search needs)
     returns-2
-    cast-t5
+    (λ c. search needs)
     cast-t7
     cast-t8
     cast-t9
     cast-t10
     cast-t11
-    cast-t12
-    outside-requires
+    (λ c. search needs) (λ c κs. search needs)
     returns-3
     returns-4)

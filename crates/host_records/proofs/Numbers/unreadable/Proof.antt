@@ -3,17 +3,8 @@ use Rattle.host_records.proofs.NumbersLaws.{other-kind, take-by, take-l
 use Rattle.host_records.proofs.Numbers.unreadable.Statement.{statement}
 use Rattle.host_records.proofs.Numbers.unreadable.Tie as tie
 
-cast-if1 : tie.Need-cast-if1
-cast-if1 c = search needs
-
-cast-result : tie.Need-cast-result
-cast-result c = search needs
-
 returns : tie.Need-returns
 returns c = search vote-say
-
-cast-if2 : tie.Need-cast-if2
-cast-if2 c = search needs
 
 returns-2 : tie.Need-returns-2
 returns-2 c = search other-kind
@@ -37,10 +28,9 @@ pub unreadable-spec : {M : Type 1} → statement M
 unreadable-spec =
     tie.close
     (tie.spec
-    cast-if1
-    cast-result
+    (λ c. search needs) (λ c. search needs)
     returns
-    cast-if2
+    (λ c. search needs)
     returns-2
     returns-3
     returns-4

@@ -21,15 +21,6 @@ Inv-loop out₀ replay count rows at₀ i₀ out at i =
 abbrev μ-loop : tie.MeasureT-loop
 μ-loop out₀ replay count rows at₀ i₀ out at i = rows - i
 
-cast-rows : tie.Need-cast-rows Inv-loop μ-loop
-cast-rows c = omega arith
-
-mul-if1 : tie.Need-mul-if1 Inv-loop μ-loop
-mul-if1 c = omega arith
-
-add-if1 : tie.Need-add-if1 Inv-loop μ-loop
-add-if1 c = omega arith
-
 returns : tie.Need-returns Inv-loop μ-loop
 returns c =
     let start = c .before .before in
@@ -37,23 +28,8 @@ returns c =
     let size = value-length r (replay-places r _ (start .good .1 .0)) (start .pre) in
     no-place (replayValue (take (r .count) (r .rows))) (start .args .out .now) (omega arith)
 
-slice-write-out : tie.Need-slice-write-out Inv-loop μ-loop
-slice-write-out c = omega arith
-
 loop-holds : tie.Need-loop-holds Inv-loop μ-loop
 loop-holds c = (omega arith, refl, refl, refl)
-
-mul-row-bytes : tie.Need-mul-row-bytes Inv-loop μ-loop
-mul-row-bytes c = omega arith
-
-element-copy-out-row-bytes : tie.Need-element-copy-out-row-bytes Inv-loop μ-loop
-element-copy-out-row-bytes c = omega arith
-
-row-bytes-requires : tie.Need-row-bytes-requires Inv-loop μ-loop
-row-bytes-requires c κs = search needs
-
-slice-aggregate-store : tie.Need-slice-aggregate-store Inv-loop μ-loop
-slice-aggregate-store c = search needs
 
 store-requires : tie.Need-store-requires Inv-loop μ-loop
 store-requires c κs =
@@ -62,15 +38,6 @@ store-requires c κs =
     let room = simp length-set at (turn .inv .2) in
     omega arith
 
-add-at : tie.Need-add-at Inv-loop μ-loop
-add-at c = omega arith
-
-add-i : tie.Need-add-i Inv-loop μ-loop
-add-i c = omega arith
-
-loop-less : tie.Need-loop-less Inv-loop μ-loop
-loop-less c = omega arith
-
 loop-again : tie.Need-loop-again Inv-loop μ-loop
 loop-again c =
     let turn = c .before .before .before .before .before .before .before .before .loop in
@@ -78,9 +45,6 @@ loop-again c =
     let r = start .args .t2 in
     let size = replay-places r _ (start .good .1 .0) in
     (omega arith, omega arith, ap length (c .before .before .store .ensures) ∙ simp length-sets (turn .inv .2), turn .inv .3 ∙ row-stored (r .rows) (r .count) (turn .i) (omega arith) (turn .out) (turn .at) (omega arith) (c .before .before .before .before .before .row-bytes .ensures) (c .before .before .store .ensures))
-
-cast-result : tie.Need-cast-result Inv-loop μ-loop
-cast-result c = omega arith
 
 same-length : tie.Need-same-length Inv-loop μ-loop
 same-length c = simp length-set at (c .before .loop .inv .2)
@@ -105,21 +69,14 @@ answer-rows-spec =
     (tie.spec
     Inv-loop
     μ-loop
-    cast-rows
-    mul-if1
-    add-if1
+    (λ c. omega arith) (λ c. omega arith) (λ c. omega arith)
     returns
-    slice-write-out
+    (λ c. omega arith)
     loop-holds
-    mul-row-bytes
-    element-copy-out-row-bytes
-    row-bytes-requires
-    slice-aggregate-store
+    (λ c. omega arith) (λ c. omega arith) (λ c κs. search needs) (λ c. search needs)
     store-requires
-    add-at
-    add-i
-    loop-less
+    (λ c. omega arith) (λ c. omega arith) (λ c. omega arith)
     loop-again
-    cast-result
+    (λ c. omega arith)
     same-length
     returns-2)

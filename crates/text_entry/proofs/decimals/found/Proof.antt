@@ -8,9 +8,6 @@ use borrow.Author.Needs.{needs}
 use Rattle.text_entry.proofs.decimals.found.Statement.{statement}
 use Rattle.text_entry.proofs.decimals.found.Tie as tie
 
-bytes-requires : tie.Need-bytes-requires
-bytes-requires c κs = search needs
-
 returns : tie.Need-returns
 returns c =
     let a = c .before .before .args in
@@ -34,4 +31,12 @@ returns-2 c =
     sym (found-inside (a .a ∷ a .b ∷ a .c ∷ []) (fitting c))
 
 pub found-spec : {M : Type 1} → statement M
-found-spec = tie.close (tie.spec bytes-requires returns cast-t6 cast-t7 cast-t8 returns-2)
+found-spec =
+    tie.close
+    (tie.spec
+    (λ c κs. search needs)
+    returns
+    cast-t6
+    cast-t7
+    cast-t8
+    returns-2)

@@ -1,59 +1,27 @@
-use mathlib.Core.List.{List, [], _∷_}
-use mathlib.Core.Path.{sym, _∙_}
-use borrow.Author.Tests.{not-true, not-false}
+use mathlib.Core.List.{[], _∷_}
+use mathlib.Core.Path.{_∙_}
+use borrow.Author.Needs.{needs}
 use Rattle.text_entry.specs.Decimals.{decimalField, decimalsOf, one}
 use Rattle.text_entry.specs.Fields.{kind}
-use Rattle.text_entry.proofs.Follows.{Follows}
-use Rattle.text_entry.specs.Read.{Part}
 use Rattle.text_entry.specs.Seen.{seen}
-use Rattle.text_entry.proofs.Counts.{line-read, line-unread}
+use Rattle.text_entry.proofs.Counts.{line-answer}
 use Rattle.text_entry.proofs.DecimalLaws.{one-counts}
-use borrow.Author.Needs.{needs}
 use Rattle.text_entry.proofs.decimals.one.Statement.{statement}
 use Rattle.text_entry.proofs.decimals.one.Tie as tie
 
-named-requires : tie.Need-named-requires
-named-requires c κs = search needs
-
-decimal-requires : tie.Need-decimal-requires
-decimal-requires c κs = search needs
-
-ends-requires : tie.Need-ends-requires
-ends-requires c κs = search needs
-
-unreadable-requires : tie.Need-unreadable-requires
-unreadable-requires c κs = search needs
-
--- the values of the line
-abbrev parts : tie.After-ends → List Part
-parts c = let s = c .before .before .before .before .before .before .args .line .now in seen s (c .before .decimal .result) ∷ []
-
-chain : (c : tie.After-ends) → let a = c .before .before .before .before .before .before .args in Follows (decimalField (a .key .now) ∷ []) (seen (a .line .now) (c .before .before .named .result)) (parts c)
-chain c = (c .before .decimal .ensures, tt)
-
 returns : tie.Need-returns
 returns c =
-    let a = c .before .before .before .before .before .before .before .before .args in
+    let a = c .before .before .before .before .before .before .args in
     let s = a .line .now in
-    c .unreadable .ensures ∙ line-unread (kind (a .name .now) (decimalField (a .key .now) ∷ [])) one decimalsOf (one-counts (a .key .now) [] []) s (seen s (c .before .before .before .before .named .result)) (c .before .before .before .before .named .ensures) (parts (c .before .before)) (chain (c .before .before)) (sym (c .before .before .ends .ensures) ∙ not-true _ (c .before .if1 .taken))
-
-found-requires : tie.Need-found-requires
-found-requires c κs = search needs
-
-returns-2 : tie.Need-returns-2
-returns-2 c =
-    let a = c .before .before .before .before .before .before .before .before .args in
-    let s = a .line .now in
-    c .found .ensures ∙ line-read (kind (a .name .now) (decimalField (a .key .now) ∷ [])) one decimalsOf (one-counts (a .key .now) [] []) s (seen s (c .before .before .before .before .named .result)) (c .before .before .before .before .named .ensures) (parts (c .before .before)) (chain (c .before .before)) (sym (c .before .before .ends .ensures) ∙ not-false _ (c .before .if1 .left))
+    c .at-end .ensures
+    ∙ line-answer (kind (a .name .now) (decimalField (a .key .now) ∷ [])) one decimalsOf (one-counts (a .key .now))
+    s (seen s (c .before .before .named .result)) (c .before .before .named .ensures)
+    (seen s (c .before .decimal .result) ∷ [])
+    (c .before .decimal .ensures, tt)
 
 pub one-spec : {M : Type 1} → statement M
 one-spec =
     tie.close
     (tie.spec
-    named-requires
-    decimal-requires
-    ends-requires
-    unreadable-requires
-    returns
-    found-requires
-    returns-2)
+    (λ c κs. search needs) (λ c κs. search needs) (λ c κs. search needs)
+    returns)

@@ -6,14 +6,8 @@ use borrow.Author.Needs.{needs}
 use Rattle.text_entry.proofs.fields.decimal.Statement.{statement}
 use Rattle.text_entry.proofs.fields.decimal.Tie as tie
 
-keyed-requires : tie.Need-keyed-requires
-keyed-requires c κs = search needs
-
-decimal-requires : tie.Need-decimal-requires
-decimal-requires c κs = search needs
-
 returns : tie.Need-returns
 returns c = c .decimal .ensures ∙ ap (λ (p : Part). capped (valueAfter inDecimal p)) (c .before .keyed .ensures)
 
 pub decimal-spec : {M : Type 1} → statement M
-decimal-spec = tie.close (tie.spec keyed-requires decimal-requires returns)
+decimal-spec = tie.close (tie.spec (λ c κs. search needs) (λ c κs. search needs) returns)

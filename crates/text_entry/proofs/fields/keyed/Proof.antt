@@ -8,21 +8,6 @@ use borrow.Author.Needs.{needs}
 use Rattle.text_entry.proofs.fields.keyed.Statement.{statement}
 use Rattle.text_entry.proofs.fields.keyed.Tie as tie
 
-slice-aggregate-after : tie.Need-slice-aggregate-after
-slice-aggregate-after c = search needs
-
-after-requires : tie.Need-after-requires
-after-requires c κs = search needs
-
-after-requires-2 : tie.Need-after-requires-2
-after-requires-2 c κs = search needs
-
-slice-aggregate-after-2 : tie.Need-slice-aggregate-after-2
-slice-aggregate-after-2 c = search needs
-
-after-requires-3 : tie.Need-after-requires-3
-after-requires-3 c κs = search needs
-
 returns : tie.Need-returns
 returns c =
     let a = c .before .before .before .before .before .before .before .args in
@@ -37,9 +22,6 @@ pub keyed-spec : {M : Type 1} → statement M
 keyed-spec =
     tie.close
     (tie.spec
-    slice-aggregate-after
-    after-requires
-    after-requires-2
-    slice-aggregate-after-2
-    after-requires-3
+    (λ c. search needs) (λ c κs. search needs) (λ c κs. search needs) (λ c. search needs)
+    (λ c κs. search needs)
     returns)

@@ -11,19 +11,10 @@ use borrow.Author.Needs.{needs}
 use Rattle.text_entry.proofs.value.after.Statement.{statement}
 use Rattle.text_entry.proofs.value.after.Tie as tie
 
-unreadable-requires : tie.Need-unreadable-requires
-unreadable-requires c κs = search needs
-
 returns : tie.Need-returns
 returns c =
     let a = c .before .before .before .before .before .args in
     c .unreadable .ensures ∙ after-stopped (a .word .now) (seen (a .line .now) (a .before)) (not-true _ (c .before .if1 .taken))
-
-starts-requires : tie.Need-starts-requires
-starts-requires c κs = search needs
-
-unreadable-requires-2 : tie.Need-unreadable-requires-2
-unreadable-requires-2 c κs = search needs
 
 returns-2 : tie.Need-returns-2
 returns-2 c =
@@ -46,10 +37,9 @@ pub after-spec : {M : Type 1} → statement M
 after-spec =
     tie.close
     (tie.spec
-    unreadable-requires
+    (λ c κs. search needs)
     returns
-    starts-requires
-    unreadable-requires-2
+    (λ c κs. search needs) (λ c κs. search needs)
     returns-2
     add-t8
     returns-3)

@@ -9,19 +9,10 @@ use borrow.Author.Needs.{needs}
 use Rattle.text_entry.proofs.value.decimal.Statement.{statement}
 use Rattle.text_entry.proofs.value.decimal.Tie as tie
 
-unreadable-requires : tie.Need-unreadable-requires
-unreadable-requires c κs = search needs
-
 returns : tie.Need-returns
 returns c =
     let a = c .before .before .before .before .args in
     c .unreadable .ensures ∙ ap capped (value-stopped inDecimal (seen (a .line .now) (a .before)) (not-true _ (c .before .if1 .taken)))
-
-is-digit-requires : tie.Need-is-digit-requires
-is-digit-requires c κs = search needs
-
-unreadable-requires-2 : tie.Need-unreadable-requires-2
-unreadable-requires-2 c κs = search needs
 
 returns-2 : tie.Need-returns-2
 returns-2 c =
@@ -29,20 +20,11 @@ returns-2 c =
     c .unreadable2 .ensures
     ∙ ap capped (decimal-none (drop (a .before .end) (a .line .now)) (sym (c .before .before .is-digit .ensures) ∙ not-true _ (c .before .if2 .taken)) ∙ value-there inDecimal (seen (a .line .now) (a .before)) (not-false _ (c .before .before .before .if1 .left)))
 
-leading-zero-requires : tie.Need-leading-zero-requires
-leading-zero-requires c κs = search needs
-
-unreadable-requires-3 : tie.Need-unreadable-requires-3
-unreadable-requires-3 c κs = search needs
-
 returns-3 : tie.Need-returns-3
 returns-3 c =
     let a = c .before .before .before .before .before .before .before .before .args in
     c .unreadable3 .ensures
     ∙ ap capped (decimal-zero (drop (a .before .end) (a .line .now)) (sym (c .before .before .before .before .is-digit .ensures) ∙ not-false _ (c .before .before .before .if2 .left)) (sym (c .before .before .leading-zero .ensures) ∙ c .before .if3 .taken) ∙ value-there inDecimal (seen (a .line .now) (a .before)) (not-false _ (c .before .before .before .before .before .if1 .left)))
-
-digits-requires : tie.Need-digits-requires
-digits-requires c κs = search needs
 
 returns-4 : tie.Need-returns-4
 returns-4 c =
@@ -54,13 +36,11 @@ pub decimal-spec : {M : Type 1} → statement M
 decimal-spec =
     tie.close
     (tie.spec
-    unreadable-requires
+    (λ c κs. search needs)
     returns
-    is-digit-requires
-    unreadable-requires-2
+    (λ c κs. search needs) (λ c κs. search needs)
     returns-2
-    leading-zero-requires
-    unreadable-requires-3
+    (λ c κs. search needs) (λ c κs. search needs)
     returns-3
-    digits-requires
+    (λ c κs. search needs)
     returns-4)

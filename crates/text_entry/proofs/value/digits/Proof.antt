@@ -20,12 +20,6 @@ abbrev μ-loop : tie.MeasureT-loop
 loop-holds : tie.Need-loop-holds Inv-loop μ-loop
 loop-holds c = (omega arith, refl)
 
-is-digit-requires : tie.Need-is-digit-requires Inv-loop μ-loop
-is-digit-requires c κs = search needs
-
-mul-least : tie.Need-mul-least Inv-loop μ-loop
-mul-least c = omega arith
-
 digit : (c : tie.Then1 Inv-loop μ-loop) → beginsDigit (drop (c .before .before .loop .i) (c .before .before .before .before .args .line .now)) ≡ true
 digit c = sym (c .before .is-digit .ensures) ∙ c .if1 .taken
 
@@ -55,9 +49,6 @@ add-least : tie.Need-add-least Inv-loop μ-loop
 add-least c =
     let t = there (c .before) in
     omega arith
-
-least-requires : tie.Need-least-requires Inv-loop μ-loop
-least-requires c κs = search needs
 
 add-i : tie.Need-add-i Inv-loop μ-loop
 add-i c =
@@ -94,13 +85,12 @@ digits-spec =
     Inv-loop
     μ-loop
     loop-holds
-    is-digit-requires
-    mul-least
+    (λ c κs. search needs) (λ c. omega arith)
     shared-slice-read-least
     sub-least
     cast-least
     add-least
-    least-requires
+    (λ c κs. search needs)
     add-i
     loop-less
     loop-again

@@ -22,9 +22,6 @@ Inv-loop line count number₀ left₀ i₀ number left i = (left ≤ count) × (
 abbrev μ-loop : tie.MeasureT-loop
 μ-loop line count number₀ left₀ i₀ number left i = left
 
-unreadable-requires : tie.Need-unreadable-requires Inv-loop μ-loop
-unreadable-requires c κs = search needs
-
 returns : tie.Need-returns Inv-loop μ-loop
 returns c =
     let a = c .before .before .before .before .args in
@@ -54,23 +51,11 @@ loop-holds c =
     let z : 0 ≡ n - n = omega arith in
     (omega arith, subst (λ (k : ℕ). 0 < 16 ^ k) z (lit< tt), refl)
 
-unreadable-requires-2 : tie.Need-unreadable-requires-2 Inv-loop μ-loop
-unreadable-requires-2 c κs = search needs
-
 returns-2 : tie.Need-returns-2 Inv-loop μ-loop
 returns-2 c =
     let a = c .before .before .before .before .before .before .before .args in
     let l = c .before .before .before .loop in
     c .unreadable2 .ensures ∙ sym (value-is (c .before .before .before .before) _ (c .before .before .before .loop .inv .2 ∙ hex-far (a .line .now) (l .i) (l .left) (l .number) (c .before .before .loop-test .taken) (c .before .if2 .taken)))
-
-shared-slice-read-c : tie.Need-shared-slice-read-c Inv-loop μ-loop
-shared-slice-read-c c = omega arith
-
-is-hex-digit-requires : tie.Need-is-hex-digit-requires Inv-loop μ-loop
-is-hex-digit-requires c κs = search needs
-
-unreadable-requires-3 : tie.Need-unreadable-requires-3 Inv-loop μ-loop
-unreadable-requires-3 c κs = search needs
 
 returns-3 : tie.Need-returns-3 Inv-loop μ-loop
 returns-3 c =
@@ -91,15 +76,6 @@ add-number : tie.Need-add-number Inv-loop μ-loop
 add-number c =
     let d = grows (c .before) (c .hex-number .result) (small c) in
     omega arith
-
-sub-left : tie.Need-sub-left Inv-loop μ-loop
-sub-left c = omega arith
-
-add-i : tie.Need-add-i Inv-loop μ-loop
-add-i c = omega arith
-
-loop-less : tie.Need-loop-less Inv-loop μ-loop
-loop-less c = omega arith
 
 loop-again : tie.Need-loop-again Inv-loop μ-loop
 loop-again c =
@@ -125,20 +101,16 @@ hex-spec =
     (tie.spec
     Inv-loop
     μ-loop
-    unreadable-requires
+    (λ c κs. search needs)
     returns
     loop-holds
-    unreadable-requires-2
+    (λ c κs. search needs)
     returns-2
-    shared-slice-read-c
-    is-hex-digit-requires
-    unreadable-requires-3
+    (λ c. omega arith) (λ c κs. search needs) (λ c κs. search needs)
     returns-3
     mul-number
     hex-number-requires
     add-number
-    sub-left
-    add-i
-    loop-less
+    (λ c. omega arith) (λ c. omega arith) (λ c. omega arith)
     loop-again
     returns-4)

@@ -7,21 +7,22 @@ use Rattle.text_entry.proofs.value.hex_number.Tie as tie
 sub-result : tie.Need-sub-result
 sub-result c = hex-low (c .before .args .c) (c .before .pre)
 
-cast-result : tie.Need-cast-result
-cast-result c = search needs
-
 returns : tie.Need-returns
 returns c = rw (le-leb (c .before .args .c) 57 (c .if1 .taken))
 
 sub-result-2 : tie.Need-sub-result-2
 sub-result-2 c = hex-high (c .before .args .c) (c .before .pre) (c .if1 .left)
 
-cast-result-2 : tie.Need-cast-result-2
-cast-result-2 c = search needs
-
 returns-2 : tie.Need-returns-2
 returns-2 c = rw (lt-leb (c .before .args .c) 57 (c .if1 .left))
 
 pub hex-number-spec : {M : Type 1} → statement M
 hex-number-spec =
-    tie.close (tie.spec sub-result cast-result returns sub-result-2 cast-result-2 returns-2)
+    tie.close
+    (tie.spec
+    sub-result
+    (λ c. search needs)
+    returns
+    sub-result-2
+    (λ c. search needs)
+    returns-2)

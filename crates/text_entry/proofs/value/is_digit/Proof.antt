@@ -9,16 +9,10 @@ use Rattle.text_entry.proofs.value.is_digit.Tie as tie
 returns : tie.Need-returns
 returns c = sym (digit-far (c .before .args .line .now) (c .before .args .at) (c .if1 .taken))
 
-shared-slice-read-if2 : tie.Need-shared-slice-read-if2
-shared-slice-read-if2 c = search needs
-
 returns-2 : tie.Need-returns-2
 returns-2 c =
     let a = c .before .before .before .args in
     sym (digit-at (a .line .now) (a .at) (c .before .before .if1 .left) ∙ rw (lt-leb 48 (getD (a .line .now) (a .at) 0) (c .if2 .taken)))
-
-shared-slice-read-result : tie.Need-shared-slice-read-result
-shared-slice-read-result c = search needs
 
 returns-3 : tie.Need-returns-3
 returns-3 c =
@@ -27,4 +21,10 @@ returns-3 c =
 
 pub is-digit-spec : {M : Type 1} → statement M
 is-digit-spec =
-    tie.close (tie.spec returns shared-slice-read-if2 returns-2 shared-slice-read-result returns-3)
+    tie.close
+    (tie.spec
+    returns
+    (λ c. search needs)
+    returns-2
+    (λ c. search needs)
+    returns-3)

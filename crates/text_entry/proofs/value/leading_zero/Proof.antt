@@ -9,19 +9,10 @@ use Rattle.text_entry.proofs.value.leading_zero.Tie as tie
 returns : tie.Need-returns
 returns c = sym (zero-far (c .before .before .args .line .now) (c .before .before .args .at) (c .if1 .taken))
 
-shared-slice-read-if2 : tie.Need-shared-slice-read-if2
-shared-slice-read-if2 c = search needs
-
 returns-2 : tie.Need-returns-2
 returns-2 c =
     let a = c .before .before .before .before .args in
     sym (zero-at (a .line .now) (a .at) (c .before .before .if1 .left) ∙ rw (ne-eqb (getD (a .line .now) (a .at) 0) 48 (c .if2 .taken)))
-
-add-is-digit : tie.Need-add-is-digit
-add-is-digit c = search needs
-
-is-digit-requires : tie.Need-is-digit-requires
-is-digit-requires c κs = search needs
 
 returns-3 : tie.Need-returns-3
 returns-3 c =
@@ -31,4 +22,9 @@ returns-3 c =
 pub leading-zero-spec : {M : Type 1} → statement M
 leading-zero-spec =
     tie.close
-    (tie.spec returns shared-slice-read-if2 returns-2 add-is-digit is-digit-requires returns-3)
+    (tie.spec
+    returns
+    (λ c. search needs)
+    returns-2
+    (λ c. search needs) (λ c κs. search needs)
+    returns-3)

@@ -7,9 +7,6 @@ use borrow.Author.Needs.{needs}
 use Rattle.text_entry.proofs.value.word.Statement.{statement}
 use Rattle.text_entry.proofs.value.word.Tie as tie
 
-after-requires : tie.Need-after-requires
-after-requires c κs = search needs
-
 returns : tie.Need-returns
 returns c =
     let a = c .before .before .before .before .before .args in
@@ -24,4 +21,4 @@ returns-2 c =
     ∙ word-there (a .word .now) (a .number) (seen s (a .before)) (seen s (a .other)) (sym (ap (λ (p : Part). p .readable) (c .before .before .after .ensures)) ∙ not-false _ (c .if1 .left))
 
 pub word-spec : {M : Type 1} → statement M
-word-spec = tie.close (tie.spec after-requires returns returns-2)
+word-spec = tie.close (tie.spec (λ c κs. search needs) returns returns-2)

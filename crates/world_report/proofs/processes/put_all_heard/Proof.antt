@@ -1,62 +1,28 @@
+use Prim.Native.Nat.{suc, _-_}
 use native.Mathlib.Omega.{arith}
 use borrow.Author.Needs.{needs}
-use Prim.Native.Nat.{suc, _≤_, _-_, _*_}
-use mathlib.Core.Path.{_≡_, ap}
 use lib.ListN.{getD}
-use Rattle.text_ascii.proofs.Writing.{wrote-length}
-use Rattle.text_report.specs.Report.{each}
-use Rattle.text_report.specs.Within.{Within}
-use Rattle.text_report.proofs.Lengths.{each-none, within-as, within-more, within-nothing, within-room}
 use Rattle.log_entry.specs.Limits.{processes}
 use Rattle.model_protocol.specs.World.{freshProcess}
-use Rattle.world_report.proofs.Elements.{next-from-1}
 use Rattle.world_report.specs.Longest.{longestHeard}
 use Rattle.world_report.specs.Processes.{heardText}
+use Rattle.world_report.proofs.Elements.{element-from-1}
+use Rattle.text_report.proofs.Each.{Put, none-put, put-all, put-length, put-more}
 use Rattle.world_report.proofs.processes.put_all_heard.Statement.{statement}
 use Rattle.world_report.proofs.processes.put_all_heard.Tie as tie
 
 abbrev Inv-loop : tie.InvT-loop
-Inv-loop out₀ at ps to₀ i₀ out to i = (i ≤ processes) × Within (i * longestHeard) out₀ at (each (λ j. heardText (suc j) (getD (ps) (suc j) freshProcess)) i) out to
+Inv-loop out₀ at ps to₀ i₀ out to i =
+    Put processes longestHeard (λ j. heardText (suc j) (getD ps (suc j) freshProcess)) out₀ at out to i
 
 abbrev μ-loop : tie.MeasureT-loop
 μ-loop out₀ at ps to₀ i₀ out to i = processes - i
 
-loop-holds : tie.Need-loop-holds Inv-loop μ-loop
-loop-holds c = let a = c .before .args in (omega arith, within-as (each-none (λ j. heardText (suc j) (getD (a .t3) (suc j) freshProcess))) (within-nothing 0 _ _))
-
-cast-p : tie.Need-cast-p Inv-loop μ-loop
-cast-p c = omega arith
-
-mul-p : tie.Need-mul-p Inv-loop μ-loop
-mul-p c = omega arith
-
-array-copy-out-p : tie.Need-array-copy-out-p Inv-loop μ-loop
-array-copy-out-p c = omega arith
-
-put-heard-requires : tie.Need-put-heard-requires Inv-loop μ-loop
-put-heard-requires c κs = search needs
-
-add-i : tie.Need-add-i Inv-loop μ-loop
-add-i c = omega arith
-
-loop-less : tie.Need-loop-less Inv-loop μ-loop
-loop-less c = omega arith
-
 loop-again : tie.Need-loop-again Inv-loop μ-loop
 loop-again c =
     let l = c .before .before .before .before .before .before .loop in
-    let a = c .before .before .before .before .before .before .before .before .args in
-    (omega arith, within-room (within-as (next-from-1 heardText (a .t3) (l .i) _ freshProcess (omega arith)) (within-more (l .inv .1) (c .before .before .put-heard .ensures))) (omega arith))
-
-same-length : tie.Need-same-length Inv-loop μ-loop
-same-length c = wrote-length (c .before .loop .inv .1 .wrote)
-
-returns : tie.Need-returns Inv-loop μ-loop
-returns c =
-    let l = c .before .loop in
-    let a = c .before .before .before .args in
-    let e : l .i ≡ processes = omega arith in
-    within-room (within-as (ap (each (λ j. heardText (suc j) (getD (a .t3) (suc j) freshProcess))) e) (l .inv .1)) (omega arith)
+    put-more (l .inv) (omega arith) (c .before .before .put-heard .ensures)
+    (element-from-1 heardText (c .before .before .before .before .before .before .before .before .args .t3) (l .i) _ freshProcess (omega arith))
 
 pub put-all-heard-spec : {M : Type 1} → statement M
 put-all-heard-spec =
@@ -64,13 +30,9 @@ put-all-heard-spec =
     (tie.spec
     Inv-loop
     μ-loop
-    loop-holds
-    add-i
-    cast-p
-    mul-p
-    array-copy-out-p
-    put-heard-requires
-    loop-less
+    (λ c. none-put)
+    (λ c. omega arith) (λ c. omega arith) (λ c. omega arith) (λ c. omega arith)
+    (λ c κs. search needs) (λ c. omega arith)
     loop-again
-    same-length
-    returns)
+    (λ c. put-length (c .before .loop .inv))
+    (λ c. put-all (c .before .loop .inv) (omega arith) (omega arith)))

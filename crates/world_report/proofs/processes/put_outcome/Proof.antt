@@ -4,15 +4,6 @@ use Rattle.world_report.proofs.ProcessTexts.{nothing-heard, outcome-hea
 use Rattle.world_report.proofs.processes.put_outcome.Statement.{statement}
 use Rattle.world_report.proofs.processes.put_outcome.Tie as tie
 
-enum-told : tie.Need-enum-told
-enum-told c = search needs
-
-heard-line-requires : tie.Need-heard-line-requires
-heard-line-requires c κs = search needs
-
-same-length : tie.Need-same-length
-same-length c = search needs
-
 returns : tie.Need-returns
 returns c =
     let a = c .before .before .before .args in
@@ -24,4 +15,10 @@ returns-2 c =
     within-as (outcome-heard (a .proc) (a .tx) (a .outcome) (c .before .before .before .before .match .keys2)) (c .before .before .heard-line .ensures)
 
 pub put-outcome-spec : {M : Type 1} → statement M
-put-outcome-spec = tie.close (tie.spec enum-told returns heard-line-requires same-length returns-2)
+put-outcome-spec =
+    tie.close
+    (tie.spec
+    (λ c. search needs)
+    returns
+    (λ c κs. search needs) (λ c. search needs)
+    returns-2)
