@@ -19,11 +19,10 @@ use Rattle.model_paxos.proofs.Grow.{AccOk, CoOk}
 use Rattle.model_paxos.proofs.Sets.{few-zero, has-zero, has←, meet}
 use Rattle.model_protocol.specs.declared.Batch.{Batch}
 use Rattle.model_protocol.specs.declared.Heard.{Heard}
-use Rattle.model_protocol.specs.declared.Message.{Message}
 use Rattle.model_protocol.specs.declared.World.{World}
 use Rattle.model_protocol.specs.Batch.{noEntry}
 use Rattle.model_protocol.specs.Limits.{slotPlaces, processPlaces, queuePlaces}
-use Rattle.model_protocol.specs.Message.{noMessage}
+use Rattle.model_protocol.specs.Message.{noMessage, noReplay}
 use Rattle.model_protocol.specs.Queue.{queueOf}
 use Rattle.model_protocol.specs.Step.{run, stepOf}
 use Rattle.model_protocol.specs.World.{emptySlot, freshCoordinator, freshProcess, freshWorld}
@@ -40,16 +39,16 @@ use Rattle.model_agreement.proofs.LogsAndProcesses.{CoFact, Later, Rest
 use Rattle.model_agreement.proofs.Shape.{QueueOk, Shape, shape-move}
 use Rattle.model_agreement.proofs.StepEffects.{Move, Trans, asks, counts, crashes, hears, is-told, joins, moves, opens, passes-accept, passes-accepted, passes-prepare, passes-promise, passes-request, passes-restore, promises, proposes, refused, restores, sets-up, takes, tells, trans, votes}
 use Rattle.model_agreement.proofs.StepEffects as t
-use Rattle.model_agreement.proofs.SentMessages.{At, Posts, Sent}
+use Rattle.model_agreement.proofs.SentMessages.{At, Outbox, Posts, Sent, outboxOf}
 use Rattle.model_agreement.proofs.ChangedWorld.{withAcceptors}
 
 -- ---- what was delivered was sent
 
-pub record GotIn (ms : List Message) (k : ℕ) (h : List Event) : Type 0 where
+pub record GotIn (ms : Outbox) (k : ℕ) (h : List Event) : Type 0 where
   pub was : {x : Content} → Got x h → Sent ms k x
 
 abbrev pub Delivered : World → List Event → Type 0
-Delivered w h = GotIn (w .messages) (w .sent) h
+Delivered w h = GotIn (outboxOf w) (w .sent) h
 
 pub record Good (w : World) (h : List Event) : Type 0 where
   pub shape : Shape w
@@ -64,8 +63,8 @@ pub record Good (w : World) (h : List Event) : Type 0 where
   -- before setup nothing happens
   pub unset : w .acceptors ≡ 0 → (w ≡ freshWorld) × (h ≡ [])
 
-module _ {ms : List Message} {k : ℕ} {h : List Event} (G : GotIn ms k h) where
-  got-more : {ms′ : List Message} {k′ : ℕ} {P : ℕ → Content → Type 0} → Posts ms k ms′ k′ P → GotIn ms′ k′ h
+module _ {ms : Outbox} {k : ℕ} {h : List Event} (G : GotIn ms k h) where
+  got-more : {ms′ : Outbox} {k′ : ℕ} {P : ℕ → Content → Type 0} → Posts ms k ms′ k′ P → GotIn ms′ k′ h
   got-more p = record { was = λ g. sent-up p (G .was g) }
 
   -- the message of number j is delivered
@@ -172,11 +171,15 @@ no-majority : {n m k i : ℕ} {h : List Event} → Blank m h → Learns n k i h 
 no-majority {n} z (learns b q m f) = let t = meet n q q m m in no-since z (f (t .0) (has← q (t .0) (t .1)))
 no-majority (only-setup m) (before y) = no-majority nothing y
 
-nothing-sent : {ms : List Message} {m : Paxos Batch} → Said ms 0 m → ⊥
+nothing-sent : {ms : Outbox} {m : Paxos Batch} → Said ms 0 m → ⊥
 nothing-sent s = omega (arith, s .sent .at .below)
 
-at-none : {ms : List Message} {j : ℕ} {x : Content} → At ms 0 j x → ⊥
+at-none : {ms : Outbox} {j : ℕ} {x : Content} → At ms 0 j x → ⊥
 at-none a = omega (arith, a .below)
+
+-- the rows of the fresh world
+abbrev emptyBox : Outbox
+emptyBox = record { messages = replicate messages noMessage; replays = replicate messages noReplay }
 
 -- an element of a row of equals
 same-each : {A : Type 0} (n i : ℕ) (a : A) → a ≡ getD (replicate n a) i a
@@ -193,8 +196,12 @@ silent tx = sym (ap (λ x. x .outcome) (same-each transactions tx unheard))
 
 fresh-keeps : {n : ℕ} {h : List Event} → Blank n h → (p : ℕ) → Keeps (restoredOf p h) (λ tx. heardOf p tx h) freshProcess
 unfolding freshProcess
-fresh-keeps nothing p = record { store = refl; position = refl; replay = refl; heard = silent }
-fresh-keeps (only-setup m) p = record { store = refl; position = refl; replay = refl; heard = silent }
+fresh-keeps nothing p = record { store = refl; position = refl; heard = silent }
+fresh-keeps (only-setup m) p = record { store = refl; position = refl; heard = silent }
+
+fresh-replay : {n : ℕ} {h : List Event} → Blank n h → (p : ℕ) → noReplay ≡ restoredOf p h .replay
+fresh-replay nothing p = refl
+fresh-replay (only-setup m) p = refl
 
 not-taken : {n : ℕ} {h : List Event} → Blank n h → (p : ℕ) → 0 < restoredOf p h .position → ⊥
 not-taken nothing p l = omega arith
@@ -212,7 +219,8 @@ module _ (n : ℕ) where
     co-row = length-replicate coordinators freshCoordinator;
     log-row = length-replicate coordinators emptyLog;
     process-row = length-replicate processPlaces freshProcess;
-    message-row = length-replicate messages noMessage;
+    restored-row = length-replicate processPlaces noReplay;
+    room = record { message-row = length-replicate messages noMessage; replay-row = length-replicate messages noReplay };
     sent-most = omega arith;
     heard = λ p. subst (λ x. length (x .heard) ≡ transactions) (same-each processPlaces p freshProcess) heard;
     queues = λ k. subst (λ c. QueueOk (c .queue)) (same-each coordinators k freshCoordinator) queue;
@@ -241,7 +249,7 @@ module _ (n : ℕ) where
         });
   }
 
-  fresh-core : {ms : List Message} → Core n (Said ms 0)
+  fresh-core : {ms : Outbox} → Core n (Said ms 0)
   fresh-core = record {
     last = λ s. absurd (nothing-sent s);
     asked = λ s. absurd (nothing-sent s);
@@ -253,7 +261,7 @@ module _ (n : ℕ) where
     prior = λ s. absurd (nothing-sent s);
   }
 
-  fresh-co : {ms : List Message} (k : ℕ) → CoOk n (Said ms 0) k (freshCoordinator .applied) (attempt (freshCoordinator .round))
+  fresh-co : {ms : Outbox} (k : ℕ) → CoOk n (Said ms 0) k (freshCoordinator .applied) (attempt (freshCoordinator .round))
   unfolding freshCoordinator
   fresh-co k = record {
     room = λ h. absurd (omega arith);
@@ -270,10 +278,10 @@ module _ (n : ℕ) where
   fresh-inv = record {
     core = fresh-core;
     acc =
-        λ a i g. subst (λ x. AccOk (Said (replicate messages noMessage) 0) a i (holding x)) (same-each slotPlaces (a * instances + i) emptySlot)
+        λ a i g. subst (λ x. AccOk (Said emptyBox 0) a i (holding x)) (same-each slotPlaces (a * instances + i) emptySlot)
         (record { promises = λ s. absurd (nothing-sent s); votes = λ s. absurd (nothing-sent s); order = omega arith; pair = inl refl });
     co =
-        λ k. subst (λ c. CoOk n (Said (replicate messages noMessage) 0) k (c .applied) (attempt (c .round)))
+        λ k. subst (λ c. CoOk n (Said emptyBox 0) k (c .applied) (attempt (c .round)))
         (same-each coordinators k freshCoordinator)
         (fresh-co k);
   }
@@ -297,7 +305,7 @@ module _ (n : ℕ) where
     unfolding freshWorld
     fresh-hist = record {
       acc =
-          λ a i g. subst (λ x. AccHist h (Said (replicate messages noMessage) 0) a i (x .promised)) (same-each slotPlaces (a * instances + i) emptySlot)
+          λ a i g. subst (λ x. AccHist h (Said emptyBox 0) a i (x .promised)) (same-each slotPlaces (a * instances + i) emptySlot)
           (record {
             top = record { prepares = λ y. absurd (no-got z y); accepts = λ y. absurd (no-got z y) };
             least = λ b N. omega arith;
@@ -309,7 +317,7 @@ module _ (n : ℕ) where
           (fresh-says k);
     }
 
-    fresh-fact : {ms : List Message} → CoFact n h (Said ms 0) freshCoordinator emptyLog
+    fresh-fact : {ms : Outbox} → CoFact n h (Said ms 0) freshCoordinator emptyLog
     unfolding freshCoordinator plainLog feed queueOf
     fresh-fact = record {
       fed = record { batches = []; size = refl; front = record { each = λ j g. absurd (omega arith) }; is = refl };
@@ -321,14 +329,15 @@ module _ (n : ℕ) where
     fresh-rest = record {
       sent = λ a. absurd (at-none a);
       cos =
-          λ k. subst (λ c. CoFact n h (Said (replicate messages noMessage) 0) c (getD (replicate coordinators emptyLog) k emptyLog)) (same-each coordinators k freshCoordinator)
-          (subst (λ l. CoFact n h (Said (replicate messages noMessage) 0) freshCoordinator l) (same-each coordinators k emptyLog) fresh-fact);
+          λ k. subst (λ c. CoFact n h (Said emptyBox 0) c (getD (replicate coordinators emptyLog) k emptyLog)) (same-each coordinators k freshCoordinator)
+          (subst (λ l. CoFact n h (Said emptyBox 0) freshCoordinator l) (same-each coordinators k emptyLog) fresh-fact);
     }
 
   fresh-kept : {h : List Event} → Blank n h → Kept (withAcceptors freshWorld n) h
   unfolding freshWorld
   fresh-kept {h} z = record {
     each = λ p. subst (λ x. Keeps (restoredOf p h) (λ tx. heardOf p tx h) x) (same-each processPlaces p freshProcess) (fresh-keeps z p);
+    replays = λ p. sym (same-each processPlaces p noReplay) ∙ fresh-replay z p;
     taken = λ p l. absurd (not-taken z p l);
   }
 
@@ -376,7 +385,7 @@ good-trans G (sets-up n e (inr d)) = good-setup n (omega arith) (omega arith) (G
 good-trans G (moves l m) = good-move l G m
 
 good-step : (s : Step) (w : World) (h : List Event) → Good w h → Good (stepOf w s .world) (noted w s h)
-good-step s w h G = good-trans G (trans w h (G .shape .message-row) (G .few) (λ _ _ a. G .range .sent a) s)
+good-step s w h G = good-trans G (trans w h (G .shape .room) (G .few) (λ _ _ a. G .range .sent a) s)
 
 good-run : (steps : List Step) (w : World) (h : List Event) → Good w h → Good (run w steps) (historyFrom w h steps)
 unfolding run historyFrom
@@ -421,7 +430,7 @@ extends-run : (steps : List Step) (w : World) (h : List Event) → Good w h → 
 unfolding historyFrom
 extends-run [] w h G = extends-same h
 extends-run (s ∷ steps) w h G =
-    extends-trans (extends-step G (trans w h (G .shape .message-row) (G .few) (λ _ _ a. G .range .sent a) s)) (extends-run steps (stepOf w s .world) (noted w s h) (good-step s w h G))
+    extends-trans (extends-step G (trans w h (G .shape .room) (G .few) (λ _ _ a. G .range .sent a) s)) (extends-run steps (stepOf w s .world) (noted w s h) (good-step s w h G))
 
 history-append : (steps next : List Step) (w : World) (h : List Event)
     → historyFrom w h (steps ++ next) ≡ historyFrom (run w steps) (historyFrom w h steps) next

@@ -18,7 +18,6 @@ use Rattle.model_paxos.proofs.Sets.{majority→, with-lt}
 use Rattle.model_protocol.specs.declared.Batch.{Batch}
 use Rattle.model_protocol.specs.declared.AcceptorSlot.{AcceptorSlot}
 use Rattle.model_protocol.specs.declared.Coordinator.{Coordinator}
-use Rattle.model_protocol.specs.declared.Message.{Message}
 use Rattle.model_protocol.specs.declared.Round.{Round}
 use Rattle.model_protocol.specs.declared.World.{World}
 use Rattle.model_protocol.specs.Batch.{noBatch}
@@ -31,18 +30,18 @@ use Rattle.model_agreement.proofs.Arrays.{slot-ind, set-ind}
 use Rattle.model_agreement.proofs.Range.{Range}
 use Rattle.model_agreement.proofs.Shape.{Shape}
 use Rattle.model_agreement.proofs.StepEffects.{Higher, Move, asks, counts, crashes, hears, is-told, joins, learns, opens, ours, passes-accept, passes-accepted, passes-prepare, passes-promise, passes-request, passes-restore, promises, proposes, restores, takes, tells, theirs, votes}
-use Rattle.model_agreement.proofs.SentMessages.{AllNew, At, OneNew, Posts, Sent}
+use Rattle.model_agreement.proofs.SentMessages.{AllNew, At, OneNew, Outbox, Posts, Sent, outboxOf}
 
 -- ---- the sent messages of the ballots
 
 -- the message of the ballots was sent
-pub record Said (ms : List Message) (k : ℕ) (m : Paxos Batch) : Type 0 where
+pub record Said (ms : Outbox) (k : ℕ) (m : Paxos Batch) : Type 0 where
   pub sent : Sent ms k (paxos m)
 
-pub said-at : {ms : List Message} {k j : ℕ} {m : Paxos Batch} → At ms k j (paxos m) → Said ms k m
+pub said-at : {ms : Outbox} {k j : ℕ} {m : Paxos Batch} → At ms k j (paxos m) → Said ms k m
 said-at a = record { sent = record { number = _; at = a } }
 
-module _ {ms : List Message} {k : ℕ} {ms′ : List Message} {k′ : ℕ} where
+module _ {ms : Outbox} {k : ℕ} {ms′ : Outbox} {k′ : ℕ} where
   pub sent-up : {P : ℕ → Content → Type 0} → Posts ms k ms′ k′ P → {x : Content} → Sent ms k x → Sent ms′ k′ x
   sent-up p s = record { number = s .number; at = p .keeps (s .at) }
 
@@ -99,7 +98,7 @@ no-direct-message (is-request k e) t = elim t [ ]
 no-direct-message (is-tell p t o) t′ = elim t′ [ ]
 no-direct-message (is-restore p s i r) t = elim t [ ]
 
-pub said-direct-message : {ms : List Message} {k : ℕ} {ms′ : List Message} {k′ : ℕ} {y : Content} → Mail y → Posts ms k ms′ k′ (OneNew k y)
+pub said-direct-message : {ms : Outbox} {k : ℕ} {ms′ : Outbox} {k′ : ℕ} {y : Content} → Mail y → Posts ms k ms′ k′ (OneNew k y)
     → (m : Paxos Batch) → Said ms′ k′ m → Said ms k m
 said-direct-message {ms} {k} {ms′} {k′} {y} z p m s = go z (p .splits (s .sent .at))
   where
@@ -133,7 +132,7 @@ pub record Ballots (n : ℕ) (S : Paxos Batch → Type 0) (slots : List Acceptor
   pub co : (k : ℕ) → CoAt n S k (getD cos k freshCoordinator)
 
 abbrev pub Inv : World → Type 0
-Inv w = Ballots (w .acceptors) (Said (w .messages) (w .sent)) (w .slots) (w .coordinators)
+Inv w = Ballots (w .acceptors) (Said (outboxOf w) (w .sent)) (w .slots) (w .coordinators)
 
 -- nothing of the ballots is sent
 inv-same : {n : ℕ} {S S′ : Paxos Batch → Type 0} {slots : List AcceptorSlot} {cos : List Coordinator}
@@ -192,7 +191,7 @@ inv-acc {n} {S} {S′} {slots} {cos} a i y x g l I up dn old C A e p q =
 
 module _ {w : World} (s : Shape w) (few : w .acceptors ≤ mostAcceptors) (R : Range w) (I : Inv w) where
   abbrev S : Paxos Batch → Type 0
-  S = Said (w .messages) (w .sent)
+  S = Said (outboxOf w) (w .sent)
 
   owner-in : (b : ℕ) → owner b < length (w .coordinators)
   owner-in b = rw (s .co-row) (omega arith)
@@ -201,14 +200,14 @@ module _ {w : World} (s : Shape w) (few : w .acceptors ≤ mostAcceptors) (R : R
   co-in h = rw (s .co-row) h
 
   -- the ballot of an acceptance is that of a proposal
-  pub accepted-positive : {j i b a : ℕ} → At (w .messages) (w .sent) j (paxos (accepted i b a)) → 0 < b
+  pub accepted-positive : {j i b a : ℕ} → At (outboxOf w) (w .sent) j (paxos (accepted i b a)) → 0 < b
   accepted-positive t = I .core .positive (I .core .asked (said-at t) .1)
 
-  inv-promise : (i b a : ℕ) (ms : List Message) (c : ℕ)
+  inv-promise : (i b a : ℕ) (ms : Outbox) (c : ℕ)
       → i < instances
       → a < w .acceptors
       → slotOf w a i .promised < b
-      → Posts (w .messages) (w .sent) ms c (OneNew (w .sent) (paxos (promise i b a (slotOf w a i .ballot) (slotOf w a i .batch))))
+      → Posts (outboxOf w) (w .sent) ms c (OneNew (w .sent) (paxos (promise i b a (slotOf w a i .ballot) (slotOf w a i .batch))))
       → Ballots (w .acceptors) (Said ms c)
       (set (w .slots) (a * instances + i) (record { promised = b; ballot = slotOf w a i .ballot; batch = slotOf w a i .batch }))
       (w .coordinators)
@@ -233,12 +232,12 @@ module _ {w : World} (s : Shape w) (few : w .acceptors ≤ mostAcceptors) (R : R
       not-accepted : {b′ a′ i′ : ℕ} → New x (accepted i′ b′ a′) → ⊥
       not-accepted t = elim t [ ]
 
-  inv-vote : (i b a : ℕ) (v : Batch) (ms : List Message) (c : ℕ)
+  inv-vote : (i b a : ℕ) (v : Batch) (ms : Outbox) (c : ℕ)
       → i < instances
       → a < w .acceptors
       → S (accept i b a v)
       → slotOf w a i .promised ≤ b
-      → Posts (w .messages) (w .sent) ms c (OneNew (w .sent) (paxos (accepted i b a)))
+      → Posts (outboxOf w) (w .sent) ms c (OneNew (w .sent) (paxos (accepted i b a)))
       → Ballots (w .acceptors) (Said ms c)
       (set (w .slots) (a * instances + i) (record { promised = b; ballot = b; batch = v }))
       (w .coordinators)
@@ -316,7 +315,7 @@ module _ {w : World} (s : Shape w) (few : w .acceptors ≤ mostAcceptors) (R : R
       c₀ : ℕ
       c₀ = c
 
-      old : (m : Paxos Batch) → kind m ≢ 0 → Said ms c m → Said (w .messages) (w .sent) m
+      old : (m : Paxos Batch) → kind m ≢ 0 → Said ms c m → Said (outboxOf w) (w .sent) m
       old = said-others 0 (λ a. refl) p
   inv-move (proposes k i b v ms c h d e z f q _ u p) =
       record {
@@ -337,14 +336,14 @@ module _ {w : World} (s : Shape w) (few : w .acceptors ≤ mostAcceptors) (R : R
       most : Majority (w .acceptors) (x .round .promises)
       most = majority→ (w .acceptors) (x .round .promises) (R .cos k .promises) q
 
-      p′ : Posts (w .messages) (w .sent) ms c (AllNew (w .acceptors) (λ a. paxos (accept (x .applied) (x .round .ballot) a v)))
+      p′ : Posts (outboxOf w) (w .sent) ms c (AllNew (w .acceptors) (λ a. paxos (accept (x .applied) (x .round .ballot) a v)))
       p′ = rw (d, e) at p
 
       dn : (m : Paxos Batch) → Said ms c m
-          → Said (w .messages) (w .sent) m ⊎ NewAll (w .acceptors) (λ a. accept (x .applied) (x .round .ballot) a v) m
+          → Said (outboxOf w) (w .sent) m ⊎ NewAll (w .acceptors) (λ a. accept (x .applied) (x .round .ballot) a v) m
       dn = said-all p′
 
-      old : (m : Paxos Batch) → kind m ≢ 2 → Said ms c m → Said (w .messages) (w .sent) m
+      old : (m : Paxos Batch) → kind m ≢ 2 → Said ms c m → Said (outboxOf w) (w .sent) m
       old = said-others 2 (λ a. refl) p
   inv-move (tells k q tx ms c _ _ _ p) = inv-same (said-up p) (said-direct-message (is-tell q tx _) p) I
   inv-move (restores k q ms c _ _ _ p) = inv-same (said-up p) (said-direct-message (is-restore q _ _ _) p) I

@@ -2,7 +2,9 @@
 use Prim.Native.Nat.{ℕ, suc, _+_, _*_}
 use mathlib.Core.Path.{_≡_, ap, refl, _∙_}
 use lib.ListN.{set}
+use Rattle.log_core.specs.declared.Replay.{Replay}
 use Rattle.log_core.specs.Enter.{feed}
+use Rattle.log_core.specs.Replay.{replayOf}
 use Rattle.model_steps.specs.Limits.{instances}
 use Rattle.model_protocol.specs.declared.Batch.{Batch}
 use Rattle.model_protocol.specs.declared.AcceptorSlot.{AcceptorSlot}
@@ -12,12 +14,13 @@ use Rattle.model_protocol.specs.declared.Message.{Message}
 use Rattle.model_protocol.specs.declared.Places.{Places}
 use Rattle.model_protocol.specs.declared.Process.{Process}
 use Rattle.model_protocol.specs.declared.World.{World}
-use Rattle.model_protocol.specs.Batch.{entriesOf, noBatch}
-use Rattle.model_protocol.specs.Change.{acceptorsNow, slotNow, coordinatorNow, done, downNow, learns, processNow, sending}
+use Rattle.model_protocol.specs.Batch.{entriesOf}
+use Rattle.model_protocol.specs.Change.{acceptorsNow, slotNow, coordinatorNow, done, downNow, givesReplay, learns, processNow, sending, takesReplay}
 use Rattle.model_protocol.specs.Message.{acceptTo, prepareTo}
 use Rattle.model_protocol.specs.Send.{copyOf, sendToAll}
 use Rattle.model_protocol.specs.Step.{changed, partsAt, putBack}
 use Rattle.model_protocol.specs.World.{logOf, withMessage}
+use Rattle.model_agreement.proofs.SentMessages.{addingBoth, outboxOf, posted}
 use Rattle.model_protocol.proofs.PutBack.{all-back, none-sent, nothing-changed, same-slots, same-coordinators, same-logs, same-processes}
 
 abbrev pub withAcceptors : World → ℕ → World
@@ -27,8 +30,10 @@ withAcceptors w n = record {
   coordinators = w .coordinators;
   logs = w .logs;
   processes = w .processes;
+  restored = w .restored;
   down = w .down;
   messages = w .messages;
+  replays = w .replays;
   sent = w .sent;
 }
 
@@ -39,8 +44,10 @@ withSlot w a i x = record {
   coordinators = w .coordinators;
   logs = w .logs;
   processes = w .processes;
+  restored = w .restored;
   down = w .down;
   messages = w .messages;
+  replays = w .replays;
   sent = w .sent;
 }
 
@@ -51,8 +58,10 @@ withCoordinator w c x = record {
   coordinators = set (w .coordinators) c x;
   logs = w .logs;
   processes = w .processes;
+  restored = w .restored;
   down = w .down;
   messages = w .messages;
+  replays = w .replays;
   sent = w .sent;
 }
 
@@ -63,8 +72,25 @@ withProcess w p x = record {
   coordinators = w .coordinators;
   logs = w .logs;
   processes = set (w .processes) p x;
+  restored = w .restored;
   down = w .down;
   messages = w .messages;
+  replays = w .replays;
+  sent = w .sent;
+}
+
+-- and takes the replay r
+abbrev pub withTaken : World → ℕ → Process → Replay → World
+withTaken w p x r = record {
+  acceptors = w .acceptors;
+  slots = w .slots;
+  coordinators = w .coordinators;
+  logs = w .logs;
+  processes = set (w .processes) p x;
+  restored = set (w .restored) p r;
+  down = w .down;
+  messages = w .messages;
+  replays = w .replays;
   sent = w .sent;
 }
 
@@ -75,8 +101,10 @@ withDown w d = record {
   coordinators = w .coordinators;
   logs = w .logs;
   processes = w .processes;
+  restored = w .restored;
   down = d;
   messages = w .messages;
+  replays = w .replays;
   sent = w .sent;
 }
 
@@ -88,8 +116,10 @@ withLearned w c x b = record {
   coordinators = set (w .coordinators) c x;
   logs = set (w .logs) c (feed (logOf w c) (entriesOf b));
   processes = w .processes;
+  restored = w .restored;
   down = w .down;
   messages = w .messages;
+  replays = w .replays;
   sent = w .sent;
 }
 
@@ -118,68 +148,96 @@ accept-copy i b v (suc k) = refl
 
 -- ---- what a step changes
 
-module _ (w : World) (at : Places) (d : Message) where
-  coordinator-back : (c : Coordinator) → putBack w at (coordinatorNow (partsAt w at d) c) noBatch ≡ withCoordinator w (at .coordinator) c
+module _ (w : World) (at : Places) (r : Replay) (d : Message) where
+  coordinator-back : (c : Coordinator) → putBack w at r (done (coordinatorNow (partsAt w at d) c)) ≡ withCoordinator w (at .coordinator) c
   coordinator-back c = λ i. record {
     acceptors = w .acceptors;
     slots = same-slots w at i;
     coordinators = set (w .coordinators) (at .coordinator) c;
     logs = same-logs w at i;
     processes = same-processes w at i;
+    restored = w .restored;
     down = w .down;
     messages = w .messages;
+    replays = w .replays;
     sent = w .sent;
   }
 
-  pub nothing : changed w at (done (partsAt w at d)) ≡ w
-  nothing = nothing-changed w at d 0
+  pub nothing : changed w at r (done (partsAt w at d)) ≡ w
+  nothing = nothing-changed w at d r 0
 
-  pub acceptors-changed : (n : ℕ) → changed w at (done (acceptorsNow (partsAt w at d) n)) ≡ withAcceptors w n
-  acceptors-changed n = none-sent _ _ ∙ ap (λ (v : World). withAcceptors v n) (all-back w at d)
+  pub acceptors-changed : (n : ℕ) → changed w at r (done (acceptorsNow (partsAt w at d) n)) ≡ withAcceptors w n
+  acceptors-changed n = none-sent _ _ ∙ ap (λ (v : World). withAcceptors v n) (all-back w at d r 0)
 
-  pub down-changed : (x : Down) → changed w at (done (downNow (partsAt w at d) x)) ≡ withDown w x
-  down-changed x = none-sent _ _ ∙ ap (λ (v : World). withDown v x) (all-back w at d)
+  pub down-changed : (x : Down) → changed w at r (done (downNow (partsAt w at d) x)) ≡ withDown w x
+  down-changed x = none-sent _ _ ∙ ap (λ (v : World). withDown v x) (all-back w at d r 0)
 
-  pub coordinator-changed : (c : Coordinator) → changed w at (done (coordinatorNow (partsAt w at d) c)) ≡ withCoordinator w (at .coordinator) c
+  pub coordinator-changed : (c : Coordinator) → changed w at r (done (coordinatorNow (partsAt w at d) c)) ≡ withCoordinator w (at .coordinator) c
   coordinator-changed c = none-sent _ _ ∙ coordinator-back c
 
   pub coordinator-learns : (c : Coordinator) (b : Batch)
-      → changed w at (learns (coordinatorNow (partsAt w at d) c) b) ≡ withLearned w (at .coordinator) c b
+      → changed w at r (learns (coordinatorNow (partsAt w at d) c) b) ≡ withLearned w (at .coordinator) c b
   coordinator-learns c b = none-sent _ _ ∙ (λ i. record {
     acceptors = w .acceptors;
     slots = same-slots w at i;
     coordinators = set (w .coordinators) (at .coordinator) c;
     logs = set (w .logs) (at .coordinator) (feed (logOf w (at .coordinator)) (entriesOf b));
     processes = same-processes w at i;
+    restored = w .restored;
     down = w .down;
     messages = w .messages;
+    replays = w .replays;
     sent = w .sent;
   })
 
-  pub process-changed : (h : Process) → changed w at (done (processNow (partsAt w at d) h)) ≡ withProcess w (at .process) h
+  pub process-changed : (h : Process) → changed w at r (done (processNow (partsAt w at d) h)) ≡ withProcess w (at .process) h
   process-changed h = none-sent _ _ ∙ (λ i. record {
     acceptors = w .acceptors;
     slots = same-slots w at i;
     coordinators = same-coordinators w at i;
     logs = same-logs w at i;
     processes = set (w .processes) (at .process) h;
+    restored = w .restored;
     down = w .down;
     messages = w .messages;
+    replays = w .replays;
     sent = w .sent;
   })
 
-  pub only-sends : (m : Message) → changed w at (sending (partsAt w at d) 1 m) ≡ withMessage w m
-  only-sends m = one-sent _ m ∙ ap (λ (v : World). withMessage v m) (all-back w at d)
+  pub process-takes : (h : Process) → changed w at r (takesReplay (processNow (partsAt w at d) h)) ≡ withTaken w (at .process) h r
+  process-takes h = none-sent _ _ ∙ (λ i. record {
+    acceptors = w .acceptors;
+    slots = same-slots w at i;
+    coordinators = same-coordinators w at i;
+    logs = same-logs w at i;
+    processes = set (w .processes) (at .process) h;
+    restored = set (w .restored) (at .process) r;
+    down = w .down;
+    messages = w .messages;
+    replays = w .replays;
+    sent = w .sent;
+  })
+
+  pub only-sends : (m : Message) → changed w at r (sending (partsAt w at d) 1 m) ≡ withMessage w m
+  only-sends m = one-sent _ m ∙ ap (λ (v : World). withMessage v m) (all-back w at d r 0)
+
+  -- with its store's replay
+  pub restore-sent : (m : Message)
+      → changed w at r (givesReplay (partsAt w at d) m)
+      ≡ posted w (addingBoth (outboxOf w) (w .sent) m (replayOf (logOf w (at .coordinator)) (m .store))) (w .sent + 1)
+  restore-sent m =
+      one-sent _ m
+      ∙ ap (λ (v : World). posted v (addingBoth (outboxOf v) (v .sent) m (replayOf (logOf w (at .coordinator)) (m .store))) (v .sent + 1)) (all-back w at d r 0)
 
   pub prepares-sent : (c : Coordinator) (n i b : ℕ)
-      → changed w at (sending (coordinatorNow (partsAt w at d) c) n (prepareTo i b 0))
+      → changed w at r (sending (coordinatorNow (partsAt w at d) c) n (prepareTo i b 0))
       ≡ sendToAll (withCoordinator w (at .coordinator) c) n (prepareTo i b)
   prepares-sent c n i b =
       same-sent _ (copyOf (prepareTo i b 0)) (prepareTo i b) (prepare-copy i b) n
       ∙ ap (λ (v : World). sendToAll v n (prepareTo i b)) (coordinator-back c)
 
   pub accepts-sent : (c : Coordinator) (n i b : ℕ) (v : Batch)
-      → changed w at (sending (coordinatorNow (partsAt w at d) c) n (acceptTo i b v 0))
+      → changed w at r (sending (coordinatorNow (partsAt w at d) c) n (acceptTo i b v 0))
       ≡ sendToAll (withCoordinator w (at .coordinator) c) n (acceptTo i b v)
   accepts-sent c n i b v =
       same-sent _ (copyOf (acceptTo i b v 0)) (acceptTo i b v) (accept-copy i b v) n
@@ -189,15 +247,17 @@ module _ (w : World) (at : Places) (d : Message) where
 abbrev pub slotAt : ℕ → ℕ → Places
 slotAt a i = record { coordinator = 0; slot = a * instances + i; process = 0 }
 
-pub slot-answers : (w : World) (d : Message) (a i : ℕ) (x : AcceptorSlot) (m : Message)
-    → changed w (slotAt a i) (sending (slotNow (partsAt w (slotAt a i) d) x) 1 m) ≡ withMessage (withSlot w a i x) m
-slot-answers w d a i x m = one-sent _ m ∙ (λ k. withMessage (record {
+pub slot-answers : (w : World) (r : Replay) (d : Message) (a i : ℕ) (x : AcceptorSlot) (m : Message)
+    → changed w (slotAt a i) r (sending (slotNow (partsAt w (slotAt a i) d) x) 1 m) ≡ withMessage (withSlot w a i x) m
+slot-answers w r d a i x m = one-sent _ m ∙ (λ k. withMessage (record {
   acceptors = w .acceptors;
   slots = set (w .slots) (a * instances + i) x;
   coordinators = same-coordinators w (slotAt a i) k;
   logs = same-logs w (slotAt a i) k;
   processes = same-processes w (slotAt a i) k;
+  restored = w .restored;
   down = w .down;
   messages = w .messages;
+  replays = w .replays;
   sent = w .sent;
 }) m)

@@ -5,13 +5,11 @@ use mathlib.Core.Logic.{_⊎_, inl, inr}
 use mathlib.Core.List.{List, [], _∷_, List·Memᴰ, List·Memᴰ·cases-cons, List·Memᴰ·head, List·Memᴰ·not-nil, List·Memᴰ·tail}
 use native.Mathlib.Decide.{ℕ-discrete}
 use native.Mathlib.Omega.{arith}
-use lib.ListN.{getD}
 use Rattle.model_paxos.specs.Messages.{Paxos}
 use Rattle.model_protocol.specs.declared.Batch.{Batch}
-use Rattle.model_protocol.specs.declared.Message.{Message}
-use Rattle.model_protocol.specs.Message.{noMessage}
-use Rattle.model_agreement.specs.Content.{Content, contentOf, paxos, request, restore, tell}
+use Rattle.model_agreement.specs.Content.{Content, paxos, request, restore, tell}
 use Rattle.model_agreement.proofs.BallotInvariant.{Said, said-at}
+use Rattle.model_agreement.proofs.SentMessages.{Outbox, contentIn}
 
 abbrev add : Content → List (Paxos Batch) → List (Paxos Batch)
 add (paxos m) l = m ∷ l
@@ -20,11 +18,11 @@ add (tell p t o) l = l
 add (restore p s i r) l = l
 
 -- those among the first k
-abbrev pub collected : List Message → ℕ → List (Paxos Batch)
+abbrev pub collected : Outbox → ℕ → List (Paxos Batch)
 collected ms zero = []
-collected ms (suc k) = add (contentOf (getD ms k noMessage)) (collected ms k)
+collected ms (suc k) = add (contentIn ms k) (collected ms k)
 
-pub is-collected : (ms : List Message) (k : ℕ) (m : Paxos Batch) → Said ms k m → List·Memᴰ m (collected ms k)
+pub is-collected : (ms : Outbox) (k : ℕ) (m : Paxos Batch) → Said ms k m → List·Memᴰ m (collected ms k)
 is-collected ms zero m s = absurd (omega (arith, s .sent .at .below))
 is-collected ms (suc k) m s = go (is-collected ms k m) (ℕ-discrete (s .sent .number) k)
   where
@@ -36,19 +34,19 @@ is-collected ms (suc k) m s = go (is-collected ms k m) (ℕ-discrete (s .sent .n
 
     go : (Said ms k m → List·Memᴰ m (collected ms k)) → Dec (s .sent .number ≡ k) → List·Memᴰ m (collected ms (suc k))
     go r (yes e) =
-        let d : contentOf (getD ms k noMessage) ≡ paxos m = rw e at (s .sent .at .is) in
+        let d : contentIn ms k ≡ paxos m = rw e at (s .sent .at .is) in
         subst (λ x. List·Memᴰ m (add x (collected ms k))) (sym d) (List·Memᴰ·head refl)
     go r (no e) =
-        skip (contentOf (getD ms k noMessage)) (r (said-at (record { below = omega (arith, s .sent .at .below); is = s .sent .at .is })))
+        skip (contentIn ms k) (r (said-at (record { below = omega (arith, s .sent .at .below); is = s .sent .at .is })))
 
-pub was-said : (ms : List Message) (k : ℕ) (m : Paxos Batch) → List·Memᴰ m (collected ms k) → Said ms k m
+pub was-said : (ms : Outbox) (k : ℕ) (m : Paxos Batch) → List·Memᴰ m (collected ms k) → Said ms k m
 was-said ms zero m t = absurd (List·Memᴰ·not-nil t)
-was-said ms (suc k) m t = go (contentOf (getD ms k noMessage)) refl (was-said ms k m) t
+was-said ms (suc k) m t = go (contentIn ms k) refl (was-said ms k m) t
   where
     older : Said ms k m → Said ms (suc k) m
     older s = said-at (record { below = omega (arith, s .sent .at .below); is = s .sent .at .is })
 
-    go : (x : Content) → contentOf (getD ms k noMessage) ≡ x → (List·Memᴰ m (collected ms k) → Said ms k m)
+    go : (x : Content) → contentIn ms k ≡ x → (List·Memᴰ m (collected ms k) → Said ms k m)
         → List·Memᴰ m (add x (collected ms k)) → Said ms (suc k) m
     go (paxos x) e r t = two (List·Memᴰ·cases-cons t)
       where

@@ -10,7 +10,7 @@ use Rattle.log_core.specs.Log.{holderOf, outcomeOf}
 use Rattle.log_core.specs.Replay.{noReplayed}
 use Rattle.model_steps.specs.declared.Step.{Step}
 use Rattle.model_steps.specs.declared.Step.the-variants.{Setup, Request, Open, Propose, Deliver, Tell, Restore}
-use Rattle.model_protocol.specs.World.{coordinatorOf, logOf, processOf}
+use Rattle.model_protocol.specs.World.{coordinatorOf, logOf, processOf, restoredTo}
 use Rattle.model_protocol.proofs.Agreeing.{highest, highest-agree}
 use Rattle.model_protocol.proofs.Compute.{computed}
 use Rattle.model_agreement.specs.Claim.{keptOf}
@@ -61,11 +61,11 @@ process-1-heard-commit = refl
 -- process 2 took a restore of store 1 at position 2, with a row
 pub process-2-restored : (processOf (computed whole) 2 .store ≡ 1)
     × (processOf (computed whole) 2 .position ≡ 2)
-    × (processOf (computed whole) 2 .replay .count ≡ 1)
+    × (restoredTo (computed whole) 2 .count ≡ 1)
 unfolding computed
 process-2-restored = (refl, refl, refl)
 
-pub row-restored : getD (processOf (computed whole) 2 .replay .rows) 0 noReplayed ≡ record { group = 1; tx = 4; update = 11 }
+pub row-restored : getD (restoredTo (computed whole) 2 .rows) 0 noReplayed ≡ record { group = 1; tx = 4; update = 11 }
 unfolding computed
 row-restored = refl
 

@@ -17,7 +17,6 @@ use Rattle.model_paxos.proofs.Sets.{majority←, majority→, with-lt}
 use Rattle.model_protocol.specs.declared.Batch.{Batch}
 use Rattle.model_protocol.specs.declared.AcceptorSlot.{AcceptorSlot}
 use Rattle.model_protocol.specs.declared.Coordinator.{Coordinator}
-use Rattle.model_protocol.specs.declared.Message.{Message}
 use Rattle.model_protocol.specs.declared.World.{World}
 use Rattle.model_protocol.specs.Coordinator.{counting, learning}
 use Rattle.model_protocol.specs.World.{slotOf, coordinatorOf, emptySlot, freshCoordinator}
@@ -29,7 +28,7 @@ use Rattle.model_agreement.proofs.Range.{Range}
 use Rattle.model_agreement.proofs.Recorded.{AccHist, CoHist, acc-frame, acc-passes, acc-prepares, acc-sent, acc-votes, co-counts, co-frame, co-learns, co-opens}
 use Rattle.model_agreement.proofs.Shape.{Shape}
 use Rattle.model_agreement.proofs.StepEffects.{Move, asks, counts, crashes, hears, is-told, joins, learns, opens, passes-accept, passes-accepted, passes-prepare, passes-promise, passes-request, passes-restore, promises, proposes, restores, takes, tells, votes}
-use Rattle.model_agreement.proofs.SentMessages.{At, OneNew, Posts}
+use Rattle.model_agreement.proofs.SentMessages.{At, OneNew, Outbox, Posts, outboxOf}
 
 -- ---- what an event leaves as it was
 
@@ -104,7 +103,7 @@ pub record HistOf (n : ℕ) (h : List Event) (S : Paxos Batch → Type 0) (slots
   pub co : (k : ℕ) → CoSays n h k (getD cos k freshCoordinator)
 
 abbrev pub Hist : World → List Event → Type 0
-Hist w h = HistOf (w .acceptors) h (Said (w .messages) (w .sent)) (w .slots) (w .coordinators)
+Hist w h = HistOf (w .acceptors) h (Said (outboxOf w) (w .sent)) (w .slots) (w .coordinators)
 
 module _ {n : ℕ} {h : List Event} {S : Paxos Batch → Type 0} {slots : List AcceptorSlot} {cos : List Coordinator} (H : HistOf n h S slots cos) where
   -- messages are sent, no acceptance among them
@@ -146,7 +145,7 @@ learns′ j a H g d e f = rw (d, e) (co-learns j a H (rw e at g) f)
 
 module _ {w : World} {h : List Event} (s : Shape w) (few : w .acceptors ≤ mostAcceptors) (R : Range w) (I : Inv w) (H : Hist w h) where
   abbrev S : Paxos Batch → Type 0
-  S = Said (w .messages) (w .sent)
+  S = Said (outboxOf w) (w .sent)
 
   co-in : {k : ℕ} → k < coordinators → k < length (w .coordinators)
   co-in g = rw (s .co-row) g
@@ -174,8 +173,8 @@ module _ {w : World} {h : List Event} (s : Shape w) (few : w .acceptors ≤ most
         acc-frame up (H .acc a′ i′ g′) _ (λ c s. old _ (omega arith) s) (λ c z. other f z) (λ c v z. got-kind (omega arith) z)
         (λ c v z. accepts-kind (omega arith) z)
 
-    hist-promises : (ms : List Message) (c : ℕ) → a < w .acceptors → slotOf w a i .promised < b
-        → Posts (w .messages) (w .sent) ms c (OneNew (w .sent) (paxos (promise i b a (slotOf w a i .ballot) (slotOf w a i .batch))))
+    hist-promises : (ms : Outbox) (c : ℕ) → a < w .acceptors → slotOf w a i .promised < b
+        → Posts (outboxOf w) (w .sent) ms c (OneNew (w .sent) (paxos (promise i b a (slotOf w a i .ballot) (slotOf w a i .batch))))
         → HistOf (w .acceptors) (delivered j (paxos (prepare i b a)) ∷ h) (Said ms c)
         (set (w .slots) (a * instances + i) (record { promised = b; ballot = slotOf w a i .ballot; batch = slotOf w a i .batch }))
         (w .coordinators)
@@ -231,8 +230,8 @@ module _ {w : World} {h : List Event} (s : Shape w) (few : w .acceptors ≤ most
     far (inl f) (inr new) = absurd (f refl)
     far (inr f) (inr new) = absurd (f refl)
 
-    hist-votes : (ms : List Message) (c : ℕ) → a < w .acceptors → S (accept i b a v) → slotOf w a i .promised ≤ b
-        → Posts (w .messages) (w .sent) ms c (OneNew (w .sent) (paxos (accepted i b a)))
+    hist-votes : (ms : Outbox) (c : ℕ) → a < w .acceptors → S (accept i b a v) → slotOf w a i .promised ≤ b
+        → Posts (outboxOf w) (w .sent) ms c (OneNew (w .sent) (paxos (accepted i b a)))
         → Said ms c (accepted i b a)
         → HistOf (w .acceptors) (delivered j (paxos (accept i b a v)) ∷ h) (Said ms c)
         (set (w .slots) (a * instances + i) (record { promised = b; ballot = b; batch = v }))
@@ -257,7 +256,7 @@ module _ {w : World} {h : List Event} (s : Shape w) (few : w .acceptors ≤ most
 
   -- ---- an acceptance
 
-  module _ (j i b a : ℕ) (t : At (w .messages) (w .sent) j (paxos (accepted i b a))) where
+  module _ (j i b a : ℕ) (t : At (outboxOf w) (w .sent) j (paxos (accepted i b a))) where
     abbrev after : List Event
     after = delivered j (paxos (accepted i b a)) ∷ h
 
@@ -291,7 +290,7 @@ module _ {w : World} {h : List Event} (s : Shape w) (few : w .acceptors ≤ most
     within = with-lt _ a _ (R .sent t .acceptor) (R .cos (owner b) .acceptances)
 
   -- an event aside, and no acceptance is sent
-  aside : {ms : List Message} {c : ℕ} {e : Event} → Aside e
+  aside : {ms : Outbox} {c : ℕ} {e : Event} → Aside e
       → ((m : Paxos Batch) → S m → Said ms c m)
       → ((m : Paxos Batch) → Said ms c m → S m)
       → ((k : ℕ) → CoSays (w .acceptors) (e ∷ h) k (coordinatorOf w k))

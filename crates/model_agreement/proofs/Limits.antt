@@ -9,9 +9,9 @@ use Rattle.model_agreement.specs.History.{history}
 use Rattle.model_agreement.proofs.AllInvariants.{Good, good}
 use Rattle.model_agreement.proofs.BallotInvariant.{said-at}
 use Rattle.model_agreement.proofs.LogsAndProcesses.{fine-of, given-of}
-use Rattle.model_agreement.proofs.SentMessages.{At}
+use Rattle.model_agreement.proofs.SentMessages.{At, outboxOf}
 
-at : {w : World} {j : ℕ} {x : Content} → Says w j x → At (w .messages) (w .sent) j x
+at : {w : World} {j : ℕ} {x : Content} → Says w j x → At (outboxOf w) (w .sent) j x
 at s = record { below = s .sent; is = s .content }
 
 -- no index, count or ballot leaves its range

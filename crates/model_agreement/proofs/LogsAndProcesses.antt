@@ -30,7 +30,6 @@ use Rattle.model_paxos.proofs.Local.{co-count, learns-chosen}
 use Rattle.model_paxos.proofs.Sets.{majority→, with-lt}
 use Rattle.model_protocol.specs.declared.Batch.{Batch}
 use Rattle.model_protocol.specs.declared.Coordinator.{Coordinator}
-use Rattle.model_protocol.specs.declared.Message.{Message}
 use Rattle.model_protocol.specs.declared.Queue.{Queue}
 use Rattle.model_protocol.specs.declared.World.{World}
 use Rattle.model_protocol.specs.Batch.{batchOf, entriesOf, noBatch, noEntry}
@@ -51,7 +50,7 @@ use Rattle.model_agreement.proofs.Range.{Range}
 use Rattle.model_agreement.proofs.Shape.{QueueOk, Shape}
 use Rattle.model_agreement.proofs.Tests.{neqb→ne}
 use Rattle.model_agreement.proofs.StepEffects.{Move, asks, counts, crashes, hears, is-told, joins, learns, opens, passes-accept, passes-accepted, passes-prepare, passes-promise, passes-request, passes-restore, promises, proposes, restores, takes, tells, votes}
-use Rattle.model_agreement.proofs.SentMessages.{AllNew, At, OneNew, Posts}
+use Rattle.model_agreement.proofs.SentMessages.{AllNew, At, OneNew, Outbox, Posts, outboxOf}
 
 -- ---- what is said of a message, a queue and a log, by the number n of acceptors, the history h
 -- and the sent messages S of the ballots
@@ -118,12 +117,12 @@ pub record CoFact (n : ℕ) (h : List Event) (S : Paxos Batch → Type 0) (c : C
   pub fed : Fed n S (c .applied) l
   pub queue : (e : Entry) → List·Memᴰ e (queued (c .queue)) → Happened (asked e) h
 
-pub record RestOf (n : ℕ) (h : List Event) (ms : List Message) (k : ℕ) (coords : List Coordinator) (logs : List Log) : Type 0 where
+pub record RestOf (n : ℕ) (h : List Event) (ms : Outbox) (k : ℕ) (coords : List Coordinator) (logs : List Log) : Type 0 where
   pub sent : {j : ℕ} {x : Content} → At ms k j x → SentFact n h (Said ms k) j x
   pub cos : (i : ℕ) → CoFact n h (Said ms k) (getD coords i freshCoordinator) (getD logs i emptyLog)
 
 abbrev pub Rest : World → List Event → Type 0
-Rest w h = RestOf (w .acceptors) h (w .messages) (w .sent) (w .coordinators) (w .logs)
+Rest w h = RestOf (w .acceptors) h (outboxOf w) (w .sent) (w .coordinators) (w .logs)
 
 -- ---- a longer history, and more messages
 
@@ -178,7 +177,7 @@ fact-up up l (requested f) = requested (asked-up l f)
 fact-up up l (told f) = told (told-up up f)
 fact-up up l (given f) = given (given-up up l f)
 
-module _ {n : ℕ} {h h′ : List Event} {ms : List Message} {k : ℕ} {cos : List Coordinator} {logs : List Log} (O : RestOf n h ms k cos logs) (l : Later h h′) where
+module _ {n : ℕ} {h h′ : List Event} {ms : Outbox} {k : ℕ} {cos : List Coordinator} {logs : List Log} (O : RestOf n h ms k cos logs) (l : Later h h′) where
   -- nothing is sent
   sent-same : {j : ℕ} {x : Content} → At ms k j x → SentFact n h′ (Said ms k) j x
   sent-same {j} {x} a = fact-up (λ m s. s) l (O .sent a)
@@ -186,7 +185,7 @@ module _ {n : ℕ} {h h′ : List Event} {ms : List Message} {k : ℕ} {cos : Li
   cos-same : (i : ℕ) → CoFact n h′ (Said ms k) (getD cos i freshCoordinator) (getD logs i emptyLog)
   cos-same i = co-up (λ m s. s) l (O .cos i)
 
-  module _ {ms′ : List Message} {k′ : ℕ} {P : ℕ → Content → Type 0} (p : Posts ms k ms′ k′ P) where
+  module _ {ms′ : Outbox} {k′ : ℕ} {P : ℕ → Content → Type 0} (p : Posts ms k ms′ k′ P) where
     sent-more : ((j : ℕ) (x : Content) → P j x → SentFact n h′ (Said ms′ k′) j x) → {j : ℕ} {x : Content}
         → At ms′ k′ j x → SentFact n h′ (Said ms′ k′) j x
     sent-more f {j} {x} a = go (p .splits a)
@@ -252,7 +251,7 @@ module _ {w : World} {h : List Event} (s : Shape w) (O : Rest w h) (I : Inv w) w
       some : (n : ℕ) → T (not (eqb n 0)) → 0 < n
       some n t = omega (arith, neqb→ne n 0 t)
 
-      kept : Best (Said (w .messages) (w .sent)) (c .applied) (attempt (c .round)) → c .round .accepted ≢ 0 → Fine h (c .round .batch)
+      kept : Best (Said (outboxOf w) (w .sent)) (c .applied) (attempt (c .round)) → c .round .accepted ≢ 0 → Fine h (c .round .batch)
       kept (inl e) d = absurd (d e)
       kept (inr t) d = fine-of (O .sent (t .1 .1 .sent .at))
 
@@ -302,7 +301,7 @@ row-length bs l e = ap (λ x. length (x .holders)) e ∙ holders-length (allEntr
 
 module _ {w : World} {h : List Event} (s : Shape w) (R : Range w) (I : Inv w) (H : Hist w h) (O : Rest w h) where
   abbrev S : Paxos Batch → Type 0
-  S = Said (w .messages) (w .sent)
+  S = Said (outboxOf w) (w .sent)
 
   co-in : {k : ℕ} → k < coordinators → k < length (w .coordinators)
   co-in g = rw (s .co-row) g
@@ -310,7 +309,7 @@ module _ {w : World} {h : List Event} (s : Shape w) (R : Range w) (I : Inv w) (H
   owner-in : (b : ℕ) → owner b < length (w .coordinators)
   owner-in b = rw (s .co-row) (omega arith)
 
-  co-set : {h′ : List Event} {ms : List Message} {c : ℕ} (k : ℕ) (x : Coordinator) → k < length (w .coordinators)
+  co-set : {h′ : List Event} {ms : Outbox} {c : ℕ} (k : ℕ) (x : Coordinator) → k < length (w .coordinators)
       → CoFact (w .acceptors) h′ (Said ms c) x (logOf w k)
       → ((i : ℕ) → CoFact (w .acceptors) h′ (Said ms c) (coordinatorOf w i) (logOf w i))
       → (i : ℕ) → CoFact (w .acceptors) h′ (Said ms c) (getD (set (w .coordinators) k x) i freshCoordinator) (logOf w i)

@@ -14,9 +14,9 @@ use Rattle.log_votes.specs.declared.Outcome.{Outcome}
 use Rattle.log_votes.specs.declared.Outcome.the-variants.{Open}
 use Rattle.log_core.specs.declared.Replay.{Replay}
 use Rattle.model_protocol.specs.declared.Heard.{Heard}
-use Rattle.model_protocol.specs.declared.Message.{Message}
 use Rattle.model_protocol.specs.declared.Process.{Process}
 use Rattle.model_protocol.specs.declared.World.{World}
+use Rattle.model_protocol.specs.Message.{noReplay}
 use Rattle.model_protocol.specs.Process.{hearingOutcome, taking}
 use Rattle.model_protocol.specs.World.{freshProcess, processOf}
 use Rattle.model_agreement.specs.Content.{Content, restore, tell}
@@ -26,39 +26,42 @@ use Rattle.model_agreement.proofs.Range.{Range}
 use Rattle.model_agreement.proofs.Shape.{Shape}
 use Rattle.model_agreement.proofs.Tests.{is-false, is-true}
 use Rattle.model_agreement.proofs.StepEffects.{Move, asks, counts, crashes, hears, is-told, joins, learns, opens, passes-accept, passes-accepted, passes-prepare, passes-promise, passes-request, passes-restore, promises, proposes, restores, takes, tells, votes}
-use Rattle.model_agreement.proofs.SentMessages.{At, Posts}
+use Rattle.model_agreement.proofs.SentMessages.{At, Outbox, Posts, outboxOf}
 
 abbrev outcomeIn : List Heard → ℕ → Outcome
 outcomeIn hs tx = getD hs tx (record { outcome = Open }) .outcome
 
--- the process x keeps the restore r, and the outcomes f
+-- the process x keeps the restore r, all but its replay, and the outcomes f
 pub record Keeps (r : Restored) (f : ℕ → Outcome) (x : Process) : Type 0 where
   pub store : x .store ≡ r .store
   pub position : x .position ≡ r .position
-  pub replay : x .replay ≡ r .replay
   pub heard : (tx : ℕ) → outcomeIn (x .heard) tx ≡ f tx
 
-abbrev IsMessage : List Message → ℕ → ℕ → Restored → Type 0
+abbrev IsMessage : Outbox → ℕ → ℕ → Restored → Type 0
 IsMessage ms k p r = 0 < r .position → At ms k (r .number) (restore p (r .store) (r .position) (r .replay))
 
-pub record KeptOf (rs : ℕ → Restored) (fs : ℕ → ℕ → Outcome) (ms : List Message) (k : ℕ) (ps : List Process) : Type 0 where
+pub record KeptOf (rs : ℕ → Restored) (fs : ℕ → ℕ → Outcome) (ms : Outbox) (k : ℕ) (ps : List Process) (ys : List Replay) : Type 0 where
   pub each : (p : ℕ) → Keeps (rs p) (fs p) (getD ps p freshProcess)
+  pub replays : (p : ℕ) → getD ys p noReplay ≡ rs p .replay
   pub taken : (p : ℕ) → IsMessage ms k p (rs p)
 
 abbrev pub Kept : World → List Event → Type 0
-Kept w h = KeptOf (λ p. restoredOf p h) (λ p tx. heardOf p tx h) (w .messages) (w .sent) (w .processes)
+Kept w h = KeptOf (λ p. restoredOf p h) (λ p tx. heardOf p tx h) (outboxOf w) (w .sent) (w .processes) (w .restored)
 
 module _ {w : World} (h : List Event) (s : Shape w) (R : Range w) (K : Kept w h) where
-  more : {ms : List Message} {c : ℕ} {P : ℕ → Content → Type 0} → Posts (w .messages) (w .sent) ms c P
-      → KeptOf (λ p. restoredOf p h) (λ p tx. heardOf p tx h) ms c (w .processes)
-  more p = record { each = K .each; taken = λ q z. p .keeps (K .taken q z) }
+  more : {ms : Outbox} {c : ℕ} {P : ℕ → Content → Type 0} → Posts (outboxOf w) (w .sent) ms c P
+      → KeptOf (λ p. restoredOf p h) (λ p tx. heardOf p tx h) ms c (w .processes) (w .restored)
+  more p = record { each = K .each; replays = K .replays; taken = λ q z. p .keeps (K .taken q z) }
 
   process-in : {p : ℕ} → p ≤ processes → p < length (w .processes)
   process-in g = rw (s .process-row) (omega arith)
 
+  restored-in : {p : ℕ} → p ≤ processes → p < length (w .restored)
+  restored-in g = rw (s .restored-row) (omega arith)
+
   -- ---- a tell
 
-  module _ (j q t : ℕ) (o : Outcome) (a : At (w .messages) (w .sent) j (tell q t o)) where
+  module _ (j q t : ℕ) (o : Outcome) (a : At (outboxOf w) (w .sent) j (tell q t o)) where
     abbrev said : ℕ → ℕ → Outcome
     said p tx = cond (eqb p q && eqb tx t) o (heardOf p tx h)
 
@@ -74,18 +77,19 @@ module _ {w : World} (h : List Event) (s : Shape w) (R : Range w) (K : Kept w h)
     other : (p : ℕ) → q ≢ p → (tx : ℕ) → outcomeIn (processOf w p .heard) tx ≡ said p tx
     other p d tx = rw (ne-eqb p q (λ e. d (sym e))) (K .each p .heard tx)
 
-    kept-told : KeptOf (λ p. restoredOf p h) said (w .messages) (w .sent) (set (w .processes) q (hearingOutcome (processOf w q) t o))
+    kept-told : KeptOf (λ p. restoredOf p h) said (outboxOf w) (w .sent) (set (w .processes) q (hearingOutcome (processOf w q) t o)) (w .restored)
     kept-told = record {
       each =
           set-ind (λ p x. Keeps (restoredOf p h) (said p) x) (w .processes) freshProcess q _ (process-in (R .sent a .0))
-          (let k = K .each q in record { store = k .store; position = k .position; replay = k .replay; heard = mine })
-          (λ p d. let k = K .each p in record { store = k .store; position = k .position; replay = k .replay; heard = other p d });
+          (let k = K .each q in record { store = k .store; position = k .position; heard = mine })
+          (λ p d. let k = K .each p in record { store = k .store; position = k .position; heard = other p d });
+      replays = K .replays;
       taken = K .taken;
     }
 
   -- ---- a restore
 
-  module _ (j q z i : ℕ) (r : Replay) (a : At (w .messages) (w .sent) j (restore q z i r)) where
+  module _ (j q z i : ℕ) (r : Replay) (a : At (outboxOf w) (w .sent) j (restore q z i r)) where
     abbrev test : ℕ → Bool
     test p = eqb p q && ltb (restoredOf p h .position) i
 
@@ -108,28 +112,33 @@ module _ {w : World} (h : List Event) (s : Shape w) (R : Range w) (K : Kept w h)
     unchanged p e = rw e
 
     kept-takes : T (ltb (processOf w q .position) i)
-        → KeptOf then (λ p tx. heardOf p tx h) (w .messages) (w .sent) (set (w .processes) q (taking (processOf w q) z i r))
+        → KeptOf then (λ p tx. heardOf p tx h) (outboxOf w) (w .sent) (set (w .processes) q (taking (processOf w q) z i)) (set (w .restored) q r)
     kept-takes g =
         record {
           each =
               set-ind (λ p x. Keeps (then p) (λ tx. heardOf p tx h) x) (w .processes) freshProcess q _ (process-in (R .sent a .1))
-              (subst (λ y. Keeps y (λ tx. heardOf q tx h) (taking (processOf w q) z i r)) (changed q yes′)
-              (record { store = refl; position = refl; replay = refl; heard = K .each q .heard }))
+              (subst (λ y. Keeps y (λ tx. heardOf q tx h) (taking (processOf w q) z i)) (changed q yes′)
+              (record { store = refl; position = refl; heard = K .each q .heard }))
               (λ p d. subst (λ y. Keeps y (λ tx. heardOf p tx h) (processOf w p)) (unchanged p (test-other p d)) (K .each p));
+          replays =
+              set-ind (λ p y. y ≡ then p .replay) (w .restored) noReplay q r (restored-in (R .sent a .1))
+              (ap (λ y. y .replay) (changed q yes′))
+              (λ p d. K .replays p ∙ ap (λ y. y .replay) (unchanged p (test-other p d)));
           taken =
-              each-case (λ p. IsMessage (w .messages) (w .sent) p (then p)) q
-              (subst (λ y. IsMessage (w .messages) (w .sent) q y) (changed q yes′) (λ _. a))
-              (λ p d. subst (λ y. IsMessage (w .messages) (w .sent) p y) (unchanged p (test-other p d)) (K .taken p));
+              each-case (λ p. IsMessage (outboxOf w) (w .sent) p (then p)) q
+              (subst (λ y. IsMessage (outboxOf w) (w .sent) q y) (changed q yes′) (λ _. a))
+              (λ p d. subst (λ y. IsMessage (outboxOf w) (w .sent) p y) (unchanged p (test-other p d)) (K .taken p));
         }
       where
         yes′ : test q ≡ true
         yes′ = sym test-mine ∙ is-true (ltb (processOf w q .position) i) g
 
-    kept-passes : T (not (ltb (processOf w q .position) i)) → KeptOf then (λ p tx. heardOf p tx h) (w .messages) (w .sent) (w .processes)
+    kept-passes : T (not (ltb (processOf w q .position) i)) → KeptOf then (λ p tx. heardOf p tx h) (outboxOf w) (w .sent) (w .processes) (w .restored)
     kept-passes g =
         record {
           each = λ p. subst (λ y. Keeps y (λ tx. heardOf p tx h) (processOf w p)) (unchanged p (none p)) (K .each p);
-          taken = λ p. subst (λ y. IsMessage (w .messages) (w .sent) p y) (unchanged p (none p)) (K .taken p);
+          replays = λ p. K .replays p ∙ ap (λ y. y .replay) (unchanged p (none p));
+          taken = λ p. subst (λ y. IsMessage (outboxOf w) (w .sent) p y) (unchanged p (none p)) (K .taken p);
         }
       where
         none : (p : ℕ) → test p ≡ false

@@ -13,7 +13,6 @@ use Rattle.model_paxos.proofs.Sets.{with-lt}
 use Rattle.model_protocol.specs.declared.Batch.{Batch}
 use Rattle.model_protocol.specs.declared.AcceptorSlot.{AcceptorSlot}
 use Rattle.model_protocol.specs.declared.Coordinator.{Coordinator}
-use Rattle.model_protocol.specs.declared.Message.{Message}
 use Rattle.model_protocol.specs.declared.World.{World}
 use Rattle.model_protocol.specs.Coordinator.{hearing, learning}
 use Rattle.model_protocol.specs.World.{coordinatorOf, emptySlot, freshCoordinator}
@@ -22,32 +21,32 @@ use Rattle.model_agreement.specs.Content.{Content}
 use Rattle.model_agreement.specs.History.{Event}
 use Rattle.model_agreement.proofs.Arrays.{set-all}
 use Rattle.model_agreement.proofs.StepEffects.{Higher, Move, asks, counts, crashes, hears, is-told, joins, learns, opens, ours, passes-accept, passes-accepted, passes-prepare, passes-promise, passes-request, passes-restore, promises, proposes, restores, takes, tells, theirs, votes}
-use Rattle.model_agreement.proofs.SentMessages.{AllNew, At, OneNew, Posts}
+use Rattle.model_agreement.proofs.SentMessages.{AllNew, At, OneNew, Outbox, Posts, outboxOf}
 
 pub record Range (w : World) : Type 0 where
-  pub sent : {j : ℕ} {x : Content} → At (w .messages) (w .sent) j x → InRange (w .acceptors) x
+  pub sent : {j : ℕ} {x : Content} → At (outboxOf w) (w .sent) j x → InRange (w .acceptors) x
   pub slots : (k : ℕ) → CellRange (getD (w .slots) k emptySlot)
   pub cos : (k : ℕ) → CoRange (w .acceptors) (coordinatorOf w k)
 
 module _ {w : World} (R : Range w) where
-  more-one : {ms : List Message} {c : ℕ} {y : Content} → Posts (w .messages) (w .sent) ms c (OneNew (w .sent) y) → InRange (w .acceptors) y
+  more-one : {ms : Outbox} {c : ℕ} {y : Content} → Posts (outboxOf w) (w .sent) ms c (OneNew (w .sent) y) → InRange (w .acceptors) y
       → {j : ℕ} {x : Content} → At ms c j x → InRange (w .acceptors) x
   more-one {ms} {c} {y} p g a = go g (p .splits a)
     where
       go : {j : ℕ} {x : Content} → InRange (w .acceptors) y
-          → At (w .messages) (w .sent) j x ⊎ OneNew (w .sent) y j x → InRange (w .acceptors) x
+          → At (outboxOf w) (w .sent) j x ⊎ OneNew (w .sent) y j x → InRange (w .acceptors) x
       go g (inl s) = R .sent s
       go g (inr t) = one g (t .1)
         where
           one : {x : Content} → InRange (w .acceptors) y → New y x → InRange (w .acceptors) x
           one g new = g
 
-  more-all : {ms : List Message} {c : ℕ} {f : ℕ → Content} → Posts (w .messages) (w .sent) ms c (AllNew (w .acceptors) f)
+  more-all : {ms : Outbox} {c : ℕ} {f : ℕ → Content} → Posts (outboxOf w) (w .sent) ms c (AllNew (w .acceptors) f)
       → ((a : ℕ) → a < w .acceptors → InRange (w .acceptors) (f a))
       → {j : ℕ} {x : Content} → At ms c j x → InRange (w .acceptors) x
   more-all {ms} {c} {f} p g a = go (p .splits a)
     where
-      go : {j : ℕ} {x : Content} → At (w .messages) (w .sent) j x ⊎ NewAll (w .acceptors) f x → InRange (w .acceptors) x
+      go : {j : ℕ} {x : Content} → At (outboxOf w) (w .sent) j x ⊎ NewAll (w .acceptors) f x → InRange (w .acceptors) x
       go (inl s) = R .sent s
       go (inr (newAt a l)) = g a l
 

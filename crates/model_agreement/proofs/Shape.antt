@@ -9,13 +9,13 @@ use lib.ListN.{getD, length, length-replicate, length-set, length-take, replicat
 use lib.Seq.{length-sets}
 use Rattle.log_entry.specs.declared.Entry.{Entry}
 use Rattle.log_entry.specs.Limits.{transactions}
+use Rattle.log_core.specs.declared.Replay.{Replay}
 use Rattle.model_steps.specs.Limits.{coordinators, instances, messages}
 use Rattle.model_paxos.specs.Ballot.{owner}
 use Rattle.model_protocol.specs.declared.Batch.{Batch}
 use Rattle.model_protocol.specs.declared.AcceptorSlot.{AcceptorSlot}
 use Rattle.model_protocol.specs.declared.Coordinator.{Coordinator}
 use Rattle.model_protocol.specs.declared.Down.{Down}
-use Rattle.model_protocol.specs.declared.Message.{Message}
 use Rattle.model_protocol.specs.declared.Process.{Process}
 use Rattle.model_protocol.specs.declared.Queue.{Queue}
 use Rattle.model_protocol.specs.declared.World.{World}
@@ -29,8 +29,8 @@ use Rattle.model_agreement.specs.History.{Event}
 use Rattle.model_agreement.proofs.Arrays.{set-all}
 use Rattle.model_agreement.proofs.Queue.{without-shorter}
 use Rattle.model_agreement.proofs.StepEffects.{Move, asks, counts, crashes, hears, is-told, joins, learns, opens, passes-accept, passes-accepted, passes-prepare, passes-promise, passes-request, passes-restore, promises, proposes, restores, takes, tells, votes}
-use Rattle.model_agreement.proofs.SentMessages.{Posts, posted}
-use Rattle.model_agreement.proofs.ChangedWorld.{withSlot, withCoordinator, withDown, withLearned, withProcess}
+use Rattle.model_agreement.proofs.SentMessages.{Outbox, Posts, Roomy, outboxOf, posted}
+use Rattle.model_agreement.proofs.ChangedWorld.{withSlot, withCoordinator, withDown, withLearned, withProcess, withTaken}
 
 pub record QueueOk (q : Queue) : Type 0 where
   pub places : length (q .entries) ≡ queuePlaces
@@ -41,7 +41,8 @@ pub record Shape (w : World) : Type 0 where
   pub co-row : length (w .coordinators) ≡ coordinators
   pub log-row : length (w .logs) ≡ coordinators
   pub process-row : length (w .processes) ≡ processPlaces
-  pub message-row : length (w .messages) ≡ messages
+  pub restored-row : length (w .restored) ≡ processPlaces
+  pub room : Roomy (outboxOf w)
   pub sent-most : w .sent ≤ messages
   pub heard : (p : ℕ) → length (processOf w p .heard) ≡ transactions
   pub queues : (k : ℕ) → QueueOk (coordinatorOf w k .queue)
@@ -62,9 +63,9 @@ left-ok q b o =
 
 module _ {w : World} (s : Shape w) where
   -- messages are sent
-  more : {ms : List Message} {c : ℕ} {P : ℕ → Content → Type 0} → Posts (w .messages) (w .sent) ms c P
-      → (length ms ≡ messages) × (c ≤ messages)
-  more p = (p .size ∙ s .message-row, p .most)
+  more : {ms : Outbox} {c : ℕ} {P : ℕ → Content → Type 0} → Posts (outboxOf w) (w .sent) ms c P
+      → Roomy ms × (c ≤ messages)
+  more p = (p .room, p .most)
 
   -- a coordinator changes
   queues-set : (k : ℕ) (c : Coordinator) → QueueOk (c .queue) → (j : ℕ)
@@ -76,14 +77,15 @@ module _ {w : World} (s : Shape w) where
   heard-set p x o = set-all (λ y. length (y .heard) ≡ transactions) (w .processes) freshProcess p x o (s .heard)
 
   -- messages are sent, and a coordinator changes
-  co-changes : (k : ℕ) (c : Coordinator) (ms : List Message) (n : ℕ) → (length ms ≡ messages) × (n ≤ messages) → QueueOk (c .queue)
+  co-changes : (k : ℕ) (c : Coordinator) (ms : Outbox) (n : ℕ) → Roomy ms × (n ≤ messages) → QueueOk (c .queue)
       → Shape (posted (withCoordinator w k c) ms n)
   co-changes k c ms n m q = record {
     slot-row = s .slot-row;
     co-row = length-set (w .coordinators) k c ∙ s .co-row;
     log-row = s .log-row;
     process-row = s .process-row;
-    message-row = m .0;
+    restored-row = s .restored-row;
+    room = m .0;
     sent-most = m .1;
     heard = s .heard;
     queues = queues-set k c q;
@@ -95,21 +97,23 @@ module _ {w : World} (s : Shape w) where
     co-row = length-set (w .coordinators) k c ∙ s .co-row;
     log-row = length-set (w .logs) k _ ∙ s .log-row;
     process-row = s .process-row;
-    message-row = s .message-row;
+    restored-row = s .restored-row;
+    room = s .room;
     sent-most = s .sent-most;
     heard = s .heard;
     queues = queues-set k c q;
   }
 
   -- messages are sent, and a slot changes
-  slot-changes : (a i : ℕ) (x : AcceptorSlot) (ms : List Message) (n : ℕ) → (length ms ≡ messages) × (n ≤ messages)
+  slot-changes : (a i : ℕ) (x : AcceptorSlot) (ms : Outbox) (n : ℕ) → Roomy ms × (n ≤ messages)
       → Shape (posted (withSlot w a i x) ms n)
   slot-changes a i x ms n m = record {
     slot-row = length-set (w .slots) (a * instances + i) x ∙ s .slot-row;
     co-row = s .co-row;
     log-row = s .log-row;
     process-row = s .process-row;
-    message-row = m .0;
+    restored-row = s .restored-row;
+    room = m .0;
     sent-most = m .1;
     heard = s .heard;
     queues = s .queues;
@@ -121,27 +125,42 @@ module _ {w : World} (s : Shape w) where
     co-row = s .co-row;
     log-row = s .log-row;
     process-row = length-set (w .processes) p x ∙ s .process-row;
-    message-row = s .message-row;
+    restored-row = s .restored-row;
+    room = s .room;
+    sent-most = s .sent-most;
+    heard = heard-set p x o;
+    queues = s .queues;
+  }
+
+  process-takes : (p : ℕ) (x : Process) (r : Replay) → length (x .heard) ≡ transactions → Shape (withTaken w p x r)
+  process-takes p x r o = record {
+    slot-row = s .slot-row;
+    co-row = s .co-row;
+    log-row = s .log-row;
+    process-row = length-set (w .processes) p x ∙ s .process-row;
+    restored-row = length-set (w .restored) p r ∙ s .restored-row;
+    room = s .room;
     sent-most = s .sent-most;
     heard = heard-set p x o;
     queues = s .queues;
   }
 
   -- messages are sent, or parties crash
-  only-sent : (d : Down) (ms : List Message) (n : ℕ) → (length ms ≡ messages) × (n ≤ messages) → Shape (posted (withDown w d) ms n)
+  only-sent : (d : Down) (ms : Outbox) (n : ℕ) → Roomy ms × (n ≤ messages) → Shape (posted (withDown w d) ms n)
   only-sent d ms n m = record {
     slot-row = s .slot-row;
     co-row = s .co-row;
     log-row = s .log-row;
     process-row = s .process-row;
-    message-row = m .0;
+    restored-row = s .restored-row;
+    room = m .0;
     sent-most = m .1;
     heard = s .heard;
     queues = s .queues;
   }
 
-  none-sent : (length (w .messages) ≡ messages) × (w .sent ≤ messages)
-  none-sent = (s .message-row, s .sent-most)
+  none-sent : Roomy (outboxOf w) × (w .sent ≤ messages)
+  none-sent = (s .room, s .sent-most)
 
   joins-ok : (k : ℕ) (e : Entry) → T (not (isFull (coordinatorOf w k .queue))) → QueueOk (joined (coordinatorOf w k .queue) e)
   joins-ok k e f = joined-ok _ e (s .queues k) (nleb→lt queuePlaces (coordinatorOf w k .queue .count) f)
@@ -153,7 +172,7 @@ module _ {w : World} (s : Shape w) where
   shape-move (proposes k i b v ms c _ _ _ _ _ _ _ _ p) = co-changes k _ ms c (more p) (s .queues k)
   shape-move (tells k q tx ms c _ _ _ p) = only-sent (w .down) ms c (more p)
   shape-move (restores k q ms c _ _ _ p) = only-sent (w .down) ms c (more p)
-  shape-move (crashes d) = only-sent d (w .messages) (w .sent) none-sent
+  shape-move (crashes d) = only-sent d (outboxOf w) (w .sent) none-sent
   shape-move (promises j i b a ms c _ _ p) = slot-changes a i _ ms c (more p)
   shape-move (passes-prepare j i b a _ _) = s
   shape-move (votes j i b a v ms c _ _ p _) = slot-changes a i _ ms c (more p)
@@ -166,5 +185,5 @@ module _ {w : World} (s : Shape w) where
   shape-move (joins j k e _ f) = co-changes k _ _ _ none-sent (joins-ok k e f)
   shape-move (passes-request j k e _) = s
   shape-move (is-told j p tx o _) = process-changes p _ (length-set (processOf w p .heard) tx _ ∙ s .heard p)
-  shape-move (takes j p z i r _ _) = process-changes p _ (s .heard p)
+  shape-move (takes j p z i r _ _) = process-takes p _ r (s .heard p)
   shape-move (passes-restore j p z i r _ _) = s

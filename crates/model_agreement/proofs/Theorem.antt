@@ -38,6 +38,7 @@ use Rattle.model_agreement.proofs.AllInvariants.{Extends, Good, good, h
 use Rattle.model_agreement.proofs.BallotInvariant.{Said}
 use Rattle.model_agreement.proofs.Plain.{plain-split}
 use Rattle.model_agreement.proofs.LogsAndProcesses.{Front, Told, fine-of, given-of, told-of}
+use Rattle.model_agreement.proofs.SentMessages.{outboxOf}
 
 -- ---- sequences of one history, and of a longer one
 
@@ -112,7 +113,7 @@ module _ {w : World} {h : List Event} (G : Good w h) where
   n = w .acceptors
 
   abbrev S : Paxos Batch → Type 0
-  S = Said (w .messages) (w .sent)
+  S = Said (outboxOf w) (w .sent)
 
   -- what is decided is of an instance within the limits, since it was sent
   in-limits : {i b : ℕ} {v : Batch} → Decided n i b v h → i < instances
@@ -146,7 +147,7 @@ module _ {w : World} {h : List Event} (G : Good w h) where
   -- ---- the sequence
 
   abbrev all : List (Paxos Batch)
-  all = collected (w .messages) (w .sent)
+  all = collected (outboxOf w) (w .sent)
 
   pub sequence : List Batch
   sequence = seqFrom n all instances 0
@@ -154,17 +155,17 @@ module _ {w : World} {h : List Event} (G : Good w h) where
   in-sequence : {i b : ℕ} {v : Batch} → Chosen n S i b v → (i < length sequence) × (batchAt sequence i ≡ v)
   unfolding sequence
   in-sequence c = (
-    chosen-in (G .inv .core) all (is-collected (w .messages) (w .sent)) (was-said (w .messages) (w .sent)) noBatch c,
-    chosen-is (G .inv .core) all (is-collected (w .messages) (w .sent)) (was-said (w .messages) (w .sent)) noBatch c,
+    chosen-in (G .inv .core) all (is-collected (outboxOf w) (w .sent)) (was-said (outboxOf w) (w .sent)) noBatch c,
+    chosen-is (G .inv .core) all (is-collected (outboxOf w) (w .sent)) (was-said (outboxOf w) (w .sent)) noBatch c,
   )
 
   at-sequence : (i : ℕ) → i < length sequence → (b : ℕ) × Chosen n S i b (batchAt sequence i)
   unfolding sequence
-  at-sequence = seq-chosen (G .inv .core) all (is-collected (w .messages) (w .sent)) (was-said (w .messages) (w .sent)) noBatch
+  at-sequence = seq-chosen (G .inv .core) all (is-collected (outboxOf w) (w .sent)) (was-said (outboxOf w) (w .sent)) noBatch
 
   front : (l : List Batch) → Front n S l → (length l ≤ length sequence) × (l ≡ take (length l) sequence)
   unfolding sequence
-  front l f = chosen-front (G .inv .core) all (is-collected (w .messages) (w .sent)) (was-said (w .messages) (w .sent)) noBatch l (f .each)
+  front l f = chosen-front (G .inv .core) all (is-collected (outboxOf w) (w .sent)) (was-said (outboxOf w) (w .sent)) noBatch l (f .each)
 
   is-sequence : IsSequence h sequence
   is-sequence = record {
@@ -247,7 +248,7 @@ demand-3 steps = record {
   restored = restored-well G;
   restored-store = λ p. G .kept .each p .store;
   restored-position = λ p. G .kept .each p .position;
-  restored-replay = λ p. G .kept .each p .replay;
+  restored-replay = G .kept .replays;
 }
   where
     G : Good (run freshWorld steps) (history steps)

@@ -14,7 +14,7 @@ use Rattle.model_protocol.specs.declared.Coordinator.{Coordinator}
 use Rattle.model_protocol.specs.declared.World.{World}
 use Rattle.model_protocol.specs.Limits.{batchEntries, queuePlaces}
 use Rattle.model_protocol.specs.Step.{run}
-use Rattle.model_protocol.specs.World.{coordinatorOf, emptySlot, freshWorld, messageOf}
+use Rattle.model_protocol.specs.World.{coordinatorOf, emptySlot, freshWorld, messageOf, replayWith}
 use Rattle.model_agreement.specs.Content.{Content, contentOf, paxos, request, restore, tell}
 
 -- instance, ballot and acceptor, where there are n acceptors
@@ -51,7 +51,7 @@ pub record CoRange (n : ℕ) (c : Coordinator) : Type 0 where
 -- the message of number j was sent and says x
 pub record Says (w : World) (j : ℕ) (x : Content) : Type 0 where
   pub sent : j < w .sent
-  pub content : contentOf (messageOf w j) ≡ x
+  pub content : contentOf (messageOf w j) (replayWith w j) ≡ x
 
 pub record Bounds (w : World) : Type 0 where
   pub acceptors : w .acceptors ≤ mostAcceptors

@@ -17,7 +17,7 @@ use Rattle.model_protocol.specs.declared.Batch.{Batch}
 use Rattle.model_protocol.specs.declared.World.{World}
 use Rattle.model_protocol.specs.Batch.{entriesOf, noBatch}
 use Rattle.model_protocol.specs.Step.{run}
-use Rattle.model_protocol.specs.World.{coordinatorOf, freshWorld, logOf, processOf}
+use Rattle.model_protocol.specs.World.{coordinatorOf, freshWorld, logOf, processOf, restoredTo}
 use Rattle.model_agreement.specs.Content.{tell}
 use Rattle.model_agreement.specs.History.{Applied, Before, Decided, Event, Got, Happened, Restored, acceptors, asked, heardOf, history, restoredOf, restoring}
 
@@ -88,7 +88,7 @@ pub record Claim (steps : List Step) (h : List Event) (w : World) : Type 0 where
   -- the world keeps the last restore that a process took
   pub restored-store : (p : ℕ) → processOf w p .store ≡ restoredOf p h .store
   pub restored-position : (p : ℕ) → processOf w p .position ≡ restoredOf p h .position
-  pub restored-replay : (p : ℕ) → processOf w p .replay ≡ restoredOf p h .replay
+  pub restored-replay : (p : ℕ) → restoredTo w p ≡ restoredOf p h .replay
 
 -- demand 3
 abbrev pub Demand3 : Type 0

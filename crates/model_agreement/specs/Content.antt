@@ -18,14 +18,15 @@ pub data Content : Type 0 where
   -- process, store, position, replay
   restore : ℕ → ℕ → ℕ → Replay → Content
 
-abbrev pub contentAs : Kind → Message → Content
-contentAs Request m = request (m .to) (m .entry)
-contentAs Prepare m = paxos (prepare (m .inst) (m .ballot) (m .acceptor))
-contentAs Accept m = paxos (accept (m .inst) (m .ballot) (m .acceptor) (m .batch))
-contentAs Promise m = paxos (promise (m .inst) (m .ballot) (m .acceptor) (m .accepted) (m .batch))
-contentAs Accepted m = paxos (accepted (m .inst) (m .ballot) (m .acceptor))
-contentAs Tell m = tell (m .to) (m .tx) (m .outcome)
-contentAs Restore m = restore (m .to) (m .store) (m .position) (m .replay)
+-- of a message m with which the replay r goes
+abbrev pub contentAs : Kind → Message → Replay → Content
+contentAs Request m r = request (m .to) (m .entry)
+contentAs Prepare m r = paxos (prepare (m .inst) (m .ballot) (m .acceptor))
+contentAs Accept m r = paxos (accept (m .inst) (m .ballot) (m .acceptor) (m .batch))
+contentAs Promise m r = paxos (promise (m .inst) (m .ballot) (m .acceptor) (m .accepted) (m .batch))
+contentAs Accepted m r = paxos (accepted (m .inst) (m .ballot) (m .acceptor))
+contentAs Tell m r = tell (m .to) (m .tx) (m .outcome)
+contentAs Restore m r = restore (m .to) (m .store) (m .position) r
 
-abbrev pub contentOf : Message → Content
-contentOf m = contentAs (m .kind) m
+abbrev pub contentOf : Message → Replay → Content
+contentOf m r = contentAs (m .kind) m r

@@ -19,7 +19,7 @@ use Rattle.model_protocol.specs.declared.Batch.{Batch}
 use Rattle.model_protocol.specs.declared.World.{World}
 use Rattle.model_protocol.specs.Message.{noReplay}
 use Rattle.model_protocol.specs.Step.{stepOf}
-use Rattle.model_protocol.specs.World.{freshWorld, messageOf}
+use Rattle.model_protocol.specs.World.{freshWorld, messageOf, replayWith}
 use Rattle.model_agreement.specs.Content.{Content, contentOf, paxos, request, restore, tell}
 
 -- ---- "Opened, sent and delivered mean by a step answered 0."
@@ -41,7 +41,7 @@ note w (Setup n) h = setup n ∷ h
 note w (Request e to) h = asked e ∷ h
 note w (Open c i b) h = opened c i b ∷ h
 note w (Propose c i b) h = h
-note w (Deliver m) h = delivered m (contentOf (messageOf w m)) ∷ h
+note w (Deliver m) h = delivered m (contentOf (messageOf w m) (replayWith w m)) ∷ h
 note w (Tell c p tx) h = h
 note w (Restore c p) h = restoring c (w .sent) ∷ h
 note w (Crash role id) h = h

@@ -13,7 +13,7 @@ use Rattle.model_steps.specs.declared.Step.{Step}
 use Rattle.model_steps.specs.declared.Step.the-variants.{Setup, Request, Open, Propose, Deliver, Tell, Restore}
 use Rattle.model_protocol.specs.declared.World.{World}
 use Rattle.model_protocol.specs.Step.{stepOf}
-use Rattle.model_protocol.specs.World.{logOf, processOf}
+use Rattle.model_protocol.specs.World.{logOf, processOf, restoredTo}
 use Rattle.model_protocol.proofs.Compute.{computed}
 
 abbrev heardOf : World → ℕ → ℕ → Outcome
@@ -46,7 +46,7 @@ unfolding computed
 committed = refl
 
 -- the restore holds the store as it was when it was sent
-pub one-row : processOf (computed stores) 1 .replay .count ≡ 1
+pub one-row : restoredTo (computed stores) 1 .count ≡ 1
 unfolding computed
 one-row = refl
 

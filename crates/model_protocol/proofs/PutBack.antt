@@ -3,6 +3,7 @@ use Prim.Native.Nat.{ℕ}
 use mathlib.Core.Path.{_≡_, refl, _∙_}
 use lib.ListN.{getD, set}
 use lib.Seq.{set-getD}
+use Rattle.log_core.specs.declared.Replay.{Replay}
 use Rattle.log_core.specs.Enter.{feed}
 use Rattle.log_core.specs.Log.{emptyLog}
 use Rattle.model_protocol.specs.declared.Message.{Message}
@@ -29,15 +30,17 @@ module _ (w : World) (at : Places) where
   unfolding feed noBatch
   same-logs = set-getD (w .logs) (at .coordinator) emptyLog
 
-  pub all-back : (m : Message) → putBack w at (partsAt w at m) noBatch ≡ w
-  all-back m = λ i. record {
+  pub all-back : (m : Message) (r : Replay) (n : ℕ) → putBack w at r (withoutMessages (partsAt w at m) n) ≡ w
+  all-back m r n = λ i. record {
     acceptors = w .acceptors;
     slots = same-slots i;
     coordinators = same-coordinators i;
     logs = same-logs i;
     processes = same-processes i;
+    restored = w .restored;
     down = w .down;
     messages = w .messages;
+    replays = w .replays;
     sent = w .sent;
   }
 
@@ -46,5 +49,5 @@ unfolding sendToAll
 none-sent w m = refl
 
 -- parts that are as they were change nothing
-pub nothing-changed : (w : World) (at : Places) (m : Message) (n : ℕ) → changed w at (withoutMessages (partsAt w at m) n) ≡ w
-nothing-changed w at m n = none-sent _ _ ∙ all-back w at m
+pub nothing-changed : (w : World) (at : Places) (m : Message) (r : Replay) (n : ℕ) → changed w at r (withoutMessages (partsAt w at m) n) ≡ w
+nothing-changed w at m r n = none-sent _ _ ∙ all-back w at m r n

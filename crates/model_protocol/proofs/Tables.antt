@@ -11,7 +11,7 @@ use Rattle.model_protocol.specs.declared.Message.{Message}
 use Rattle.model_protocol.specs.declared.World.{World}
 use Rattle.model_protocol.specs.Queue.{queued}
 use Rattle.model_protocol.specs.Tables.{Holds, Tried, acceptPromises, answersTheDown, asDefined, ballotsOfOne, beforeSetup, downAndBelief, fullQueue, learnsAnothers, numbersUsed, ofFive, opensWithThree, otherInstance, proposesWithThree, receiversDown, restoredOnce, stepsOf, takenOver, threeLeft, told}
-use Rattle.model_protocol.specs.World.{coordinatorOf, logOf, messageOf, processOf, slotOf}
+use Rattle.model_protocol.specs.World.{coordinatorOf, logOf, messageOf, processOf, restoredTo, slotOf}
 use Rattle.model_protocol.proofs.Compute.{computed}
 
 pub before-setup : Holds beforeSetup
@@ -88,7 +88,7 @@ heardOf w p tx = getD (processOf w p .heard) tx (record { outcome = outcome.Open
 
 -- the last restore that a process took
 abbrev rowsOf : World → ℕ → List Replayed
-rowsOf w p = take (processOf w p .replay .count) (processOf w p .replay .rows)
+rowsOf w p = take (restoredTo w p .count) (restoredTo w p .rows)
 
 -- "the first up to four queue entries" were proposed; the rest keep their order, and the refused
 -- one could join later

@@ -21,13 +21,13 @@ use Rattle.model_protocol.specs.declared.Stepped.{Stepped}
 use Rattle.model_protocol.specs.declared.World.{World}
 use Rattle.model_paxos.specs.Ballot.{majority}
 use Rattle.model_protocol.specs.Acceptor.{accepting, accepts, promises, promising}
-use Rattle.model_protocol.specs.Change.{coordinatorNow, done, learns, processNow, sending, slotNow}
+use Rattle.model_protocol.specs.Change.{coordinatorNow, done, learns, processNow, sending, slotNow, takesReplay}
 use Rattle.model_protocol.specs.Coordinator.{counting, isHeard, learning, promiseHeard, withRound}
 use Rattle.model_protocol.specs.Deliver.{deliveryChange}
 use Rattle.model_protocol.specs.Message.{acceptedFrom, promiseFrom}
 use Rattle.model_protocol.specs.Process.{taking}
 use Rattle.model_protocol.specs.Send.{sendToAll}
-use Rattle.model_protocol.specs.Step.{changeOf, changed, partsOf, placesIn, stepOf, stepRefusal}
+use Rattle.model_protocol.specs.Step.{changeOf, changed, partsOf, placesIn, replayIn, stepOf, stepRefusal}
 use Rattle.model_protocol.specs.Unchanged.{CrashChangesOnlyDown, CrashedStaysDown, OnlyDownChanges, RefusedStepChangesNothing}
 use Rattle.model_protocol.specs.World.{crashed, isDown}
 use Rattle.model_protocol.proofs.PutBack.{same-coordinators, same-logs, same-processes, same-slots}
@@ -38,7 +38,7 @@ either-arm P true a b f g = f
 either-arm P false a b f g = g
 
 -- the world after a step: changed as the definitions say, or as it was
-step-cases : (P : World → Type 0) (w : World) (s : Step) → P (changed w (placesIn w s) (changeOf (partsOf w s) s)) → P w → P (stepOf w s .world)
+step-cases : (P : World → Type 0) (w : World) (s : Step) → P (changed w (placesIn w s) (replayIn w s) (changeOf (partsOf w s) s)) → P w → P (stepOf w s .world)
 unfolding stepOf
 step-cases P w s new old = either-arm (λ (x : Stepped). P (x .world)) (eqb (stepRefusal (partsOf w s) s) accepted) _ _ new old
 
@@ -58,10 +58,12 @@ crash-keeps w role id =
       coordinators = same-coordinators w (placesIn w (Crash role id));
       logs = same-logs w (placesIn w (Crash role id));
       processes = same-processes w (placesIn w (Crash role id));
+      restored = refl;
       messages = refl;
+      replays = refl;
       sent = refl;
     })
-    (record { acceptors = refl; slots = refl; coordinators = refl; logs = refl; processes = refl; messages = refl; sent = refl })
+    (record { acceptors = refl; slots = refl; coordinators = refl; logs = refl; processes = refl; restored = refl; messages = refl; replays = refl; sent = refl })
 
 -- ---- who is down stays down
 
@@ -104,7 +106,7 @@ delivered-down p kind.Tell = refl
 delivered-down p kind.Restore =
     let m = p .message in
     same-down p (ltb (p .process .position) (m .position))
-    (done (processNow p (taking (p .process) (m .store) (m .position) (m .replay)))) (done p) refl refl
+    (takesReplay (processNow p (taking (p .process) (m .store) (m .position)))) (done p) refl refl
 
 -- a flag that is set stays set when another is
 flag-stays : (l : List Bool) (i j : ℕ) → getD l j false ≡ true → getD (set l i true) j false ≡ true

@@ -1,5 +1,6 @@
 -- The parts of the world that a step touches, with one of them changed, and changes.
 use Prim.Native.Nat.{ℕ}
+use mathlib.Core.Bool.{false, true}
 use Rattle.log_entry.specs.Refusal.{accepted}
 use Rattle.model_protocol.specs.declared.Batch.{Batch}
 use Rattle.model_protocol.specs.declared.AcceptorSlot.{AcceptorSlot}
@@ -40,15 +41,24 @@ processNow p h = parts (p .acceptors) (p .sent) (p .down) (p .coordinator) (p .s
 
 -- the parts are these, and nothing is sent
 abbrev pub withoutMessages : Parts → ℕ → Change
-withoutMessages p answer = record { answer = answer; parts = p; count = 0; message = noMessage; learned = noBatch }
+withoutMessages p answer = record { answer = answer; parts = p; count = 0; message = noMessage; learned = noBatch; gives = false; takes = false }
 
 -- the step is accepted, the parts are these, and n messages are sent
 abbrev pub sending : Parts → ℕ → Message → Change
-sending p n m = record { answer = accepted; parts = p; count = n; message = m; learned = noBatch }
+sending p n m = record { answer = accepted; parts = p; count = n; message = m; learned = noBatch; gives = false; takes = false }
 
 -- the step is accepted, the parts are these, and the coordinator's log is to be fed the batch
 abbrev pub learns : Parts → Batch → Change
-learns p b = record { answer = accepted; parts = p; count = 0; message = noMessage; learned = b }
+learns p b = record { answer = accepted; parts = p; count = 0; message = noMessage; learned = b; gives = false; takes = false }
+
+-- the step is accepted, the parts are these, and a restore is sent, with its store's replay
+abbrev pub givesReplay : Parts → Message → Change
+givesReplay p m = record { answer = accepted; parts = p; count = 1; message = m; learned = noBatch; gives = true; takes = false }
+
+-- the step is accepted, the parts are these, and the process takes the replay of the message
+-- delivered
+abbrev pub takesReplay : Parts → Change
+takesReplay p = record { answer = accepted; parts = p; count = 0; message = noMessage; learned = noBatch; gives = false; takes = true }
 
 -- the step is accepted, the parts are these, and nothing is sent
 abbrev pub done : Parts → Change

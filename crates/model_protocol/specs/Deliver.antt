@@ -10,7 +10,7 @@ use Rattle.model_protocol.specs.declared.Message.{Message}
 use Rattle.model_protocol.specs.declared.Parts.{Parts}
 use Rattle.model_protocol.specs.Acceptor.{accepting, accepts, promises, promising}
 use Rattle.model_paxos.specs.Ballot.{majority, owner}
-use Rattle.model_protocol.specs.Change.{slotNow, coordinatorNow, done, learns, processNow, sending}
+use Rattle.model_protocol.specs.Change.{slotNow, coordinatorNow, done, learns, processNow, sending, takesReplay}
 use Rattle.model_protocol.specs.Coordinator.{counting, isHeard, learning, promiseHeard, withQueue, withRound}
 use Rattle.model_protocol.specs.Message.{acceptedFrom, promiseFrom}
 use Rattle.model_protocol.specs.Process.{hearingOutcome, taking}
@@ -87,4 +87,4 @@ deliveryChange p Tell = done (processNow p (hearingOutcome (p .process) (p .mess
 -- first, and from then believes it holds that store and no other."
 deliveryChange p Restore =
     let m = p .message in
-    cond (ltb (p .process .position) (m .position)) (done (processNow p (taking (p .process) (m .store) (m .position) (m .replay)))) (done p)
+    cond (ltb (p .process .position) (m .position)) (takesReplay (processNow p (taking (p .process) (m .store) (m .position)))) (done p)

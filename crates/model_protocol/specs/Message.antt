@@ -32,7 +32,6 @@ ballotMessage kind inst ballot acceptor accepted batch = record {
   outcome = Open;
   store = 0;
   position = 0;
-  replay = noReplay;
 }
 
 abbrev pub prepareTo : ℕ → ℕ → ℕ → Message
@@ -49,8 +48,8 @@ abbrev pub acceptedFrom : ℕ → ℕ → ℕ → Message
 acceptedFrom inst ballot acceptor = ballotMessage Accepted inst ballot acceptor 0 noBatch
 
 -- a message of none of the ballots
-abbrev pub directMessage : Kind → ℕ → Entry → ℕ → Outcome → ℕ → ℕ → Replay → Message
-directMessage kind to entry tx outcome store position replay = record {
+abbrev pub directMessage : Kind → ℕ → Entry → ℕ → Outcome → ℕ → ℕ → Message
+directMessage kind to entry tx outcome store position = record {
   kind = kind;
   to = to;
   acceptor = 0;
@@ -63,17 +62,16 @@ directMessage kind to entry tx outcome store position replay = record {
   outcome = outcome;
   store = store;
   position = position;
-  replay = replay;
 }
 
 abbrev pub requestTo : ℕ → Entry → Message
-requestTo coord entry = directMessage Request coord entry 0 Open 0 0 noReplay
+requestTo coord entry = directMessage Request coord entry 0 Open 0 0
 
 abbrev pub tellTo : ℕ → ℕ → Outcome → Message
-tellTo process tx outcome = directMessage Tell process noEntry tx outcome 0 0 noReplay
+tellTo process tx outcome = directMessage Tell process noEntry tx outcome 0 0
 
-abbrev pub restoreTo : ℕ → ℕ → ℕ → Replay → Message
-restoreTo process store position replay = directMessage Restore process noEntry 0 Open store position replay
+abbrev pub restoreTo : ℕ → ℕ → ℕ → Message
+restoreTo process store position = directMessage Restore process noEntry 0 Open store position
 
 -- the place of no message
 abbrev pub noMessage : Message

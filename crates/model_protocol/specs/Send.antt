@@ -31,7 +31,6 @@ addressed m acceptor = record {
   outcome = m .outcome;
   store = m .store;
   position = m .position;
-  replay = m .replay;
 }
 
 -- "acceptor 0 first": the message itself, and then the same to acceptor 1, 2 and so on

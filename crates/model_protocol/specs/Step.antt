@@ -10,6 +10,7 @@ use Rattle.log_entry.specs.Entry.{illFormed}
 use Rattle.log_entry.specs.Limits.{stores}
 use Rattle.log_entry.specs.Refusal.{accepted, check, Check, firstRefusal, illFormedVote, noPlace, notMet, notSentYet, outsideLimits, partyDown}
 use Rattle.log_core.specs.declared.Log.{Log}
+use Rattle.log_core.specs.declared.Replay.{Replay}
 use Rattle.log_core.specs.Enter.{feed}
 use Rattle.log_votes.specs.Outcome.{isOpen}
 use Rattle.log_core.specs.Log.{outcomeOf}
@@ -18,7 +19,6 @@ use Rattle.model_steps.specs.declared.Role.the-variants.{Coord, Proc}
 use Rattle.model_steps.specs.declared.Step.{Step}
 use Rattle.model_steps.specs.declared.Step.the-variants.{Setup, Request, Open, Propose, Deliver, Tell, Restore, Crash}
 use Rattle.model_steps.specs.Limits.{mostAcceptors, outsideStep}
-use Rattle.model_protocol.specs.declared.Batch.{Batch}
 use Rattle.model_protocol.specs.declared.Change.{Change}
 use Rattle.model_protocol.specs.declared.Coordinator.{Coordinator}
 use Rattle.model_protocol.specs.declared.Message.{Message}
@@ -29,14 +29,14 @@ use Rattle.model_protocol.specs.declared.Stepped.{Stepped}
 use Rattle.model_protocol.specs.declared.World.{World}
 use Rattle.model_paxos.specs.Ballot.{majority, owner}
 use Rattle.model_protocol.specs.Batch.{entriesOf}
-use Rattle.model_protocol.specs.Change.{acceptorsNow, coordinatorNow, done, downNow, parts, sending}
+use Rattle.model_protocol.specs.Change.{acceptorsNow, coordinatorNow, done, downNow, givesReplay, parts, sending}
 use Rattle.model_protocol.specs.Coordinator.{batchToPropose, proposing, withRound}
 use Rattle.model_protocol.specs.Deliver.{deliveryChange, noPlaceFor, receiverDown}
 use Rattle.model_protocol.specs.Message.{acceptTo, prepareTo, requestTo, restoreTo, tellTo}
 use Rattle.model_protocol.specs.Places.{messageAt, placesOf}
 use Rattle.model_protocol.specs.Process.{believes}
 use Rattle.model_protocol.specs.Send.{copyOf, lacksNumbers, sendToAll}
-use Rattle.model_protocol.specs.World.{coordinatorOf, crashed, emptySlot, isDown, logOf, messageOf, newRound, processOf}
+use Rattle.model_protocol.specs.World.{coordinatorOf, crashed, emptySlot, isDown, logOf, messageOf, newRound, processOf, replayWith}
 
 -- 5: no setup
 abbrev pub notSetUp : Parts → Bool
@@ -130,7 +130,7 @@ changeOf p (Propose c i b) =
     sending (coordinatorNow p (withRound (p .coordinator) (proposing (p .coordinator .round) v))) (p .acceptors) (acceptTo i b v 0)
 changeOf p (Deliver m) = deliveryChange p (p .message .kind)
 changeOf p (Tell c process tx) = sending p 1 (p .message)
-changeOf p (Restore c process) = sending p 1 (p .message)
+changeOf p (Restore c process) = givesReplay p (p .message)
 changeOf p (Crash role id) = done (downNow p (crashed (p .down) role id))
 
 -- ---- the message of a step, where d is the one that it delivers; l is the log of a coordinator
@@ -145,8 +145,8 @@ messageFor (Deliver m) d l n = d
 -- "`tell` sends a process the outcome of a decided tx."
 messageFor (Tell c process tx) d l n = tellTo process tx (outcomeOf l tx)
 -- "`restore` sends the store's holder, by this coordinator's log, the applied count as position and
--- the store's replay."
-messageFor (Restore c process) d l n = restoreTo process (heldStore l process) n (replayOf l (heldStore l process))
+-- the store's replay." The replay goes beside it: see `putBack`
+messageFor (Restore c process) d l n = restoreTo process (heldStore l process) n
 messageFor (Crash role id) d l n = d
 
 -- ---- the step: the parts are taken from their places, changed, and put back
@@ -166,6 +166,9 @@ partsAt w at m =
 abbrev pub deliveredIn : World → Step → Message
 deliveredIn w s = messageOf w (messageAt s)
 
+abbrev pub replayIn : World → Step → Replay
+replayIn w s = replayWith w (messageAt s)
+
 abbrev pub placesIn : World → Step → Places
 placesIn w s = placesOf s (deliveredIn w s)
 
@@ -177,22 +180,28 @@ messageIn w s =
 abbrev pub partsOf : World → Step → Parts
 partsOf w s = partsAt w (placesIn w s) (messageIn w s)
 
--- the world with these parts at these places, and the coordinator's log fed the batch
-abbrev pub putBack : World → Places → Parts → Batch → World
-putBack w at p b = record {
-  acceptors = p .acceptors;
-  slots = set (w .slots) (at .slot) (p .slot);
-  coordinators = set (w .coordinators) (at .coordinator) (p .coordinator);
-  logs = set (w .logs) (at .coordinator) (feed (logOf w (at .coordinator)) (entriesOf b));
-  processes = set (w .processes) (at .process) (p .process);
-  down = p .down;
-  messages = w .messages;
-  sent = w .sent;
-}
+-- the world with the parts of the change at these places, and the coordinator's log fed the batch.
+-- The process may take r, the replay of the message delivered. With the message that is sent next
+-- may go its store's replay, by the coordinator's log
+abbrev pub putBack : World → Places → Replay → Change → World
+putBack w at r ch =
+    let log = logOf w (at .coordinator) in
+    record {
+      acceptors = ch .parts .acceptors;
+      slots = set (w .slots) (at .slot) (ch .parts .slot);
+      coordinators = set (w .coordinators) (at .coordinator) (ch .parts .coordinator);
+      logs = set (w .logs) (at .coordinator) (feed log (entriesOf (ch .learned)));
+      processes = set (w .processes) (at .process) (ch .parts .process);
+      restored = cond (ch .takes) (set (w .restored) (at .process) r) (w .restored);
+      down = ch .parts .down;
+      messages = w .messages;
+      replays = cond (ch .gives) (set (w .replays) (w .sent) (replayOf log (ch .message .store))) (w .replays);
+      sent = w .sent;
+    }
 
--- the world after the change
-abbrev pub changed : World → Places → Change → World
-changed w at ch = sendToAll (putBack w at (ch .parts) (ch .learned)) (ch .count) (copyOf (ch .message))
+-- the world after the change, r being the replay of the message delivered
+abbrev pub changed : World → Places → Replay → Change → World
+changed w at r ch = sendToAll (putBack w at r ch) (ch .count) (copyOf (ch .message))
 
 abbrev pub answered : World → ℕ → Stepped
 answered w n = record { world = w; answer = n }
@@ -201,7 +210,7 @@ answered w n = record { world = w; answer = n }
 unfoldable pub stepOf : World → Step → Stepped
 stepOf w s =
     let p = partsOf w s in
-    cond (eqb (stepRefusal p s) accepted) (answered (changed w (placesIn w s) (changeOf p s)) accepted) (answered w (stepRefusal p s))
+    cond (eqb (stepRefusal p s) accepted) (answered (changed w (placesIn w s) (replayIn w s) (changeOf p s)) accepted) (answered w (stepRefusal p s))
 
 -- "Each later one gets the world that the last one handed back"
 unfoldable pub run : World → List Step → World

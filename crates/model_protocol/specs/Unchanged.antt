@@ -22,7 +22,9 @@ pub record OnlyDownChanges (w v : World) : Type 0 where
   pub coordinators : v .coordinators ≡ w .coordinators
   pub logs : v .logs ≡ w .logs
   pub processes : v .processes ≡ w .processes
+  pub restored : v .restored ≡ w .restored
   pub messages : v .messages ≡ w .messages
+  pub replays : v .replays ≡ w .replays
   pub sent : v .sent ≡ w .sent
 
 -- a crash takes nothing from what the party keeps

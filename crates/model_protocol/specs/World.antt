@@ -6,6 +6,7 @@ use mathlib.Core.List.{[]}
 use lib.ListN.{getD, replicate, set}
 use Rattle.log_entry.specs.Limits.{transactions}
 use Rattle.log_core.specs.declared.Log.{Log}
+use Rattle.log_core.specs.declared.Replay.{Replay}
 use Rattle.log_votes.specs.declared.Outcome.the-variants.{Open}
 use Rattle.log_core.specs.Log.{emptyLog}
 use Rattle.model_steps.specs.declared.Role.{Role}
@@ -38,7 +39,7 @@ freshCoordinator = record { applied = 0; queue = queueOf []; round = newRound 0 
 
 -- a process as in a fresh world: it heard nothing and took no restore
 unfoldable pub freshProcess : Process
-freshProcess = record { heard = replicate transactions (record { outcome = Open }); store = 0; position = 0; replay = noReplay }
+freshProcess = record { heard = replicate transactions (record { outcome = Open }); store = 0; position = 0 }
 
 unfoldable pub allUp : Down
 allUp = record {
@@ -55,8 +56,10 @@ freshWorld = record {
   coordinators = replicate coordinators freshCoordinator;
   logs = replicate coordinators emptyLog;
   processes = replicate processPlaces freshProcess;
+  restored = replicate processPlaces noReplay;
   down = allUp;
   messages = replicate messages noMessage;
+  replays = replicate messages noReplay;
   sent = 0;
 }
 
@@ -79,6 +82,14 @@ processOf w p = getD (w .processes) p freshProcess
 abbrev pub messageOf : World → ℕ → Message
 messageOf w m = getD (w .messages) m noMessage
 
+-- the replay that goes with message m
+abbrev pub replayWith : World → ℕ → Replay
+replayWith w m = getD (w .replays) m noReplay
+
+-- the replay of the last restore that process p took
+abbrev pub restoredTo : World → ℕ → Replay
+restoredTo w p = getD (w .restored) p noReplay
+
 -- the party is down
 abbrev pub isDown : Down → Role → ℕ → Bool
 isDown d Acceptor id = getD (d .acceptors) id false
@@ -95,8 +106,10 @@ withMessage w m = record {
   coordinators = w .coordinators;
   logs = w .logs;
   processes = w .processes;
+  restored = w .restored;
   down = w .down;
   messages = set (w .messages) (w .sent) m;
+  replays = w .replays;
   sent = w .sent + 1;
 }
 

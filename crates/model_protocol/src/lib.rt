@@ -55,10 +55,9 @@ pub struct Message {
     // Of a tell.
     pub tx: u8,
     pub outcome: Outcome,
-    // Of a restore: the store, the sender's applied count, and the store's replay.
+    // Of a restore: the store and the sender's applied count. The world has its replay.
     pub store: u8,
     pub position: u8,
-    pub replay: Replay,
 }
 
 // What an acceptor holds of an instance, 0 at first.
@@ -106,10 +105,9 @@ pub struct Heard {
 pub struct Process {
     // By transaction.
     pub heard: [Heard; TRANSACTION_PLACES],
-    // The last restore that it took: store, position, replay. Position 0 if it took none.
+    // The last restore that it took: store and position. Position 0 if it took none.
     pub store: u8,
     pub position: u8,
-    pub replay: Replay,
 }
 
 // Who is down.
@@ -130,9 +128,13 @@ pub struct World {
     pub logs: [Log; COORDINATOR_PLACES],
     // Processes are numbered from 1.
     pub processes: [Process; PROCESS_PLACES],
+    // By process: the replay of the last restore that it took.
+    pub restored: [Replay; PROCESS_PLACES],
     pub down: Down,
     // The first `sent` were sent, numbered from 0.
     pub messages: [Message; MESSAGE_PLACES],
+    // By message: of a restore the store's replay.
+    pub replays: [Replay; MESSAGE_PLACES],
     pub sent: u8,
 }
 
@@ -158,6 +160,10 @@ pub struct Change {
     pub message: Message,
     // The batch that the coordinator learned, for its log; one without entries if none.
     pub learned: Batch,
+    // Whether its store's replay goes with the message, by the coordinator's log.
+    pub gives: bool,
+    // Whether the process takes the replay of the message delivered.
+    pub takes: bool,
 }
 
 // Where in the world the parts of a step stand.

@@ -23,7 +23,7 @@ use Rattle.world_coordinator.specs.Limits.{setPlaces}
 use Rattle.world_coordinator.proofs.RoundLaws.{heard-inside}
 use Rattle.model_protocol.specs.declared.Parts.{Parts}
 use Rattle.model_protocol.specs.Change.{slotNow, coordinatorNow, processNow, sending}
-use Rattle.model_protocol.specs.Change.{done, learns}
+use Rattle.model_protocol.specs.Change.{done, learns, takesReplay}
 use Rattle.model_protocol.specs.Deliver.{deliveryChange}
 
 -- ---- a promise or an acceptance, by whether it is heard
@@ -83,9 +83,9 @@ module _ (p : Parts) where
   restore-passed h = rw (le-ltb (p .process .position) (p .message .position) h)
 
   pub restore-taken : (h : Process)
-      → h ≡ taking (p .process) (p .message .store) (p .message .position) (p .message .replay)
+      → h ≡ taking (p .process) (p .message .store) (p .message .position)
       → p .process .position < p .message .position
-      → done (processNow p h) ≡ deliveryChange p Restore
+      → takesReplay (processNow p h) ≡ deliveryChange p Restore
   unfolding deliveryChange
   restore-taken h is above = rw (lt-ltb (p .process .position) (p .message .position) above, is)
 

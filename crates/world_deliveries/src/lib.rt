@@ -150,8 +150,8 @@ fn restore(mut p: Parts) -> Change
     if m.position <= h.position {
         return changes::without_messages(p, 0);
     }
-    p.process = world_process::taking(h, m.store, m.position, m.replay);
-    changes::without_messages(p, 0)
+    p.process = world_process::taking(h, m.store, m.position);
+    changes::takes_replay(p)
 }
 
 // The message is handed to its receiver.

@@ -1,8 +1,8 @@
 -- One turn of the loop over the commands.
 use Prim.Native.Nat.{ℕ, suc, _<_, _≤_, _+_, _*_, _-_, _%_, min}
-use mathlib.Core.Bool.{false, true≢false}
+use mathlib.Core.Bool.{Bool, cond, false, true, true≢false}
 use mathlib.Core.List.{List, [], _∷_}
-use mathlib.Core.Path.{_≡_, ap, refl, sym, _∙_}
+use mathlib.Core.Path.{_≡_, ap, refl, subst, sym, _∙_}
 use native.Mathlib.Nat.{mod-lt}
 use native.Mathlib.Numerals.{add-one}
 use native.Mathlib.Omega.{arith}
@@ -13,13 +13,14 @@ use lib.Seq.{set-getD, sets}
 use mir.Val.{Val}
 use Rattle.log_votes.proofs.InList.{in-list}
 use Rattle.log_core.specs.declared.Log.{Log}
+use Rattle.log_core.specs.declared.Replay.{Replay}
 use Rattle.log_core.specs.Enter.{feed}
 use Rattle.log_core.specs.Log.{emptyLog}
+use Rattle.log_core.specs.Replay.{replayOf}
 use Rattle.model_steps.specs.declared.Step.{Step}
 use Rattle.model_steps.specs.declared.Step.the-variants.{Setup, Request, Open, Propose, Deliver, Tell, Restore, Crash}
 use Rattle.model_steps.specs.Limits.{coordinators, instances, messages}
 use Rattle.model_protocol.proofs.World.{the-type as world-type}
-use Rattle.model_protocol.specs.declared.Batch.{Batch}
 use Rattle.model_protocol.specs.declared.AcceptorSlot.{AcceptorSlot}
 use Rattle.model_protocol.specs.declared.Change.{Change}
 use Rattle.model_protocol.specs.declared.Coordinator.{Coordinator}
@@ -37,7 +38,7 @@ use Rattle.model_protocol.specs.declared.Kind.the-variants as kind
 use Rattle.model_protocol.specs.Limits.{slotPlaces, processPlaces}
 use Rattle.model_protocol.specs.Places.{deliveryPlaces, messageAt, placesOf}
 use Rattle.model_protocol.specs.Send.{addressed, copyOf, sendToAll}
-use Rattle.model_protocol.specs.Step.{answered, deliveredIn, messageFor, partsAt, putBack, stepOf}
+use Rattle.model_protocol.specs.Step.{answered, deliveredIn, messageFor, partsAt, putBack, replayIn, stepOf}
 use Rattle.model_protocol.specs.World.{coordinatorOf, emptySlot, freshCoordinator, freshProcess, logOf, withMessage}
 use Rattle.world_coordinator.proofs.FrontLaws.{front-end, front-step}
 use Rattle.world_parts.specs.Asks.{asksLog}
@@ -47,28 +48,31 @@ use Rattle.model_steps.specs.declared.Commands.{Commands}
 use Rattle.model_steps.specs.declared.Command.{Command}
 use Rattle.world_engine.specs.Commands.{advanced, answersTo, carriedOut, worldAfter}
 use Rattle.model_steps.specs.Commands.{commandsIn, mostCommands}
-use Rattle.world_engine.proofs.Room.{command-fits}
+use Rattle.world_engine.proofs.Room.{Sends, command-fits, command-sends}
 use Rattle.world_engine.proofs.Stepping.{command-is, stored}
 
 -- ---- lengths
 
 -- the arrays of a world have their lengths
-abbrev pub Lengths : World → Type 0
-Lengths w =
-    (length (w .slots) ≡ slotPlaces)
-    × (length (w .coordinators) ≡ coordinators)
-    × (length (w .logs) ≡ coordinators)
-    × (length (w .processes) ≡ processPlaces)
-    × (length (w .messages) ≡ messages)
+pub record Lengths (w : World) : Type 0 where
+  pub slot-row : length (w .slots) ≡ slotPlaces
+  pub co-row : length (w .coordinators) ≡ coordinators
+  pub log-row : length (w .logs) ≡ coordinators
+  pub process-row : length (w .processes) ≡ processPlaces
+  pub restored-row : length (w .restored) ≡ processPlaces
+  pub message-row : length (w .messages) ≡ messages
+  pub replay-row : length (w .replays) ≡ messages
 
 pub world-lengths : (w : World) (vs : List Val) → Is (row world-type) w vs → Lengths w
-world-lengths w vs g = (
-  simp length-map at (g .1 .1 .1 .0 .1 .0 .1),
-  simp length-map at (g .1 .1 .1 .1 .0 .1 .0 .1),
-  simp length-map at (g .1 .1 .1 .1 .1 .0 .1 .0 .1),
-  simp length-map at (g .1 .1 .1 .1 .1 .1 .0 .1 .0 .1),
-  simp length-map at (g .1 .1 .1 .1 .1 .1 .1 .1 .0 .1 .0 .1),
-)
+world-lengths w vs g = record {
+  slot-row = simp length-map at (g .1 .1 .1 .0 .1 .0 .1);
+  co-row = simp length-map at (g .1 .1 .1 .1 .0 .1 .0 .1);
+  log-row = simp length-map at (g .1 .1 .1 .1 .1 .0 .1 .0 .1);
+  process-row = simp length-map at (g .1 .1 .1 .1 .1 .1 .0 .1 .0 .1);
+  restored-row = simp length-map at (g .1 .1 .1 .1 .1 .1 .1 .0 .1 .0 .1);
+  message-row = simp length-map at (g .1 .1 .1 .1 .1 .1 .1 .1 .1 .0 .1 .0 .1);
+  replay-row = simp length-map at (g .1 .1 .1 .1 .1 .1 .1 .1 .1 .1 .0 .1 .0 .1);
+}
 
 message-inside : (s : Step) → messageAt s < messages
 message-inside (Setup n) = omega arith
@@ -116,7 +120,12 @@ module _ (w : World) (long : Lengths w) where
   pub delivered-is : (s : Step) (n : ℕ) (d : Message) → n ≡ messageAt s → getD (w .messages) n d ≡ deliveredIn w s
   delivered-is s n d e =
       let h = message-inside s in
-      ap (λ (i : ℕ). getD (w .messages) i d) e ∙ in-list (w .messages) (messageAt s) d _ (omega (arith, long .4, h))
+      ap (λ (i : ℕ). getD (w .messages) i d) e ∙ in-list (w .messages) (messageAt s) d _ (omega (arith, long .message-row, h))
+
+  pub replay-is : (s : Step) (n : ℕ) (d : Replay) → n ≡ messageAt s → getD (w .replays) n d ≡ replayIn w s
+  replay-is s n d e =
+      let h = message-inside s in
+      ap (λ (i : ℕ). getD (w .replays) i d) e ∙ in-list (w .replays) (messageAt s) d _ (omega (arith, long .replay-row, h))
 
   pub parts-are : (at : Places) (m : Message) (c : Coordinator) (x : AcceptorSlot) (h : Process) → There at
       → parts (w .acceptors) (w .sent) (w .down) (getD (w .coordinators) (at .coordinator) c) (getD (w .slots) (at .slot) x) (getD (w .processes) (at .process) h) m
@@ -126,9 +135,9 @@ module _ (w : World) (long : Lengths w) where
       (w .acceptors)
       (w .sent)
       (w .down)
-      (in-list (w .coordinators) (at .coordinator) c freshCoordinator (omega (arith, long .1, here .0)) i)
-      (in-list (w .slots) (at .slot) x emptySlot (omega (arith, long .0, here .1)) i)
-      (in-list (w .processes) (at .process) h freshProcess (omega (arith, long .3, here .2)) i)
+      (in-list (w .coordinators) (at .coordinator) c freshCoordinator (omega (arith, long .co-row, here .0)) i)
+      (in-list (w .slots) (at .slot) x emptySlot (omega (arith, long .slot-row, here .1)) i)
+      (in-list (w .processes) (at .process) h freshProcess (omega (arith, long .process-row, here .2)) i)
       m
 
   -- ---- the message of the step
@@ -139,8 +148,8 @@ module _ (w : World) (long : Lengths w) where
   said-is s at d l k m here is =
       is
       ∙ (λ i. messageFor s d
-      (in-list (w .logs) (at .coordinator) l emptyLog (omega (arith, long .2, here .0)) i)
-      (in-list (w .coordinators) (at .coordinator) k freshCoordinator (omega (arith, long .1, here .0)) i .applied))
+      (in-list (w .logs) (at .coordinator) l emptyLog (omega (arith, long .log-row, here .0)) i)
+      (in-list (w .coordinators) (at .coordinator) k freshCoordinator (omega (arith, long .co-row, here .0)) i .applied))
 
 -- a step that asks no log is about the message delivered
 pub not-asked : (s : Step) (d : Message) (l : Log) (n : ℕ) → asksLog s ≡ false → d ≡ messageFor s d l n
@@ -154,17 +163,19 @@ not-asked (Tell c p tx) d l n h = absurd (true≢false h)
 not-asked (Restore c p) d l n h = absurd (true≢false h)
 not-asked (Crash role id) d l n h = refl
 
--- ---- the world with the parts stored, before the log is fed
+-- ---- the world with the parts stored, and these replays and logs
 
-abbrev pub partsStored : World → Places → Parts → World
-partsStored w at p = record {
-  acceptors = p .acceptors;
-  slots = set (w .slots) (at .slot) (p .slot);
-  coordinators = set (w .coordinators) (at .coordinator) (p .coordinator);
+abbrev withReplays : World → List Replay → World
+withReplays w rs = record {
+  acceptors = w .acceptors;
+  slots = w .slots;
+  coordinators = w .coordinators;
   logs = w .logs;
-  processes = set (w .processes) (at .process) (p .process);
-  down = p .down;
+  processes = w .processes;
+  restored = w .restored;
+  down = w .down;
   messages = w .messages;
+  replays = rs;
   sent = w .sent;
 }
 
@@ -175,22 +186,62 @@ withLogs w ls = record {
   coordinators = w .coordinators;
   logs = ls;
   processes = w .processes;
+  restored = w .restored;
   down = w .down;
   messages = w .messages;
+  replays = w .replays;
   sent = w .sent;
 }
 
-module _ (w : World) (at : Places) (p : Parts) (b : Batch) where
-  -- where nothing was learned the log stays
-  pub none-fed : b .count ≡ 0 → partsStored w at p ≡ putBack w at p b
-  unfolding feed
-  none-fed h = ap (λ (ls : List Log). withLogs (partsStored w at p) ls) (rw h (sym (set-getD (w .logs) (at .coordinator) emptyLog)))
+abbrev pub storedWith : World → Places → Parts → List Replay → List Replay → List Log → World
+storedWith w at p restored replays logs = record {
+  acceptors = p .acceptors;
+  slots = set (w .slots) (at .slot) (p .slot);
+  coordinators = set (w .coordinators) (at .coordinator) (p .coordinator);
+  logs = logs;
+  processes = set (w .processes) (at .process) (p .process);
+  restored = restored;
+  down = p .down;
+  messages = w .messages;
+  replays = replays;
+  sent = w .sent;
+}
 
-  pub log-fed : (l : Log) (fed : Log) → Lengths w → There at → fed ≡ feed (getD (w .logs) (at .coordinator) l) (entriesOf b)
-      → withLogs (partsStored w at p) (set (w .logs) (at .coordinator) fed) ≡ putBack w at p b
-  log-fed l fed long here is =
-      ap (λ (x : Log). withLogs (partsStored w at p) (set (w .logs) (at .coordinator) x))
-      (is ∙ ap (λ (x : Log). feed x (entriesOf b)) (in-list (w .logs) (at .coordinator) l emptyLog (omega (arith, long .2, here .0))))
+-- first the process takes the replay
+abbrev pub takenIn : World → Places → Replay → Change → World
+takenIn w at r ch = storedWith w at (ch .parts) (putBack w at r ch .restored) (w .replays) (w .logs)
+
+-- then the replay goes with the message that is sent
+abbrev pub givenIn : World → Places → Replay → Change → World
+givenIn w at r ch = storedWith w at (ch .parts) (putBack w at r ch .restored) (putBack w at r ch .replays) (w .logs)
+
+module _ (w : World) (at : Places) (r : Replay) (ch : Change) where
+  pub takes-none : ch .takes ≡ false → storedWith w at (ch .parts) (w .restored) (w .replays) (w .logs) ≡ takenIn w at r ch
+  takes-none h = rw h
+
+  pub takes-it : (x : Replay) → ch .takes ≡ true → x ≡ r
+      → storedWith w at (ch .parts) (set (w .restored) (at .process) x) (w .replays) (w .logs) ≡ takenIn w at r ch
+  takes-it x h is = rw (h, is)
+
+  module _ (v : World) (before : v ≡ takenIn w at r ch) where
+    pub gives-none : ch .gives ≡ false → v ≡ givenIn w at r ch
+    gives-none h = rw (h, before)
+
+    -- x is the replay by the log that v has there
+    pub gives-it : (x : Replay) (l : Log) → Lengths w → There at → ch .gives ≡ true
+        → x ≡ replayOf (getD (v .logs) (at .coordinator) l) (ch .message .store)
+        → withReplays v (set (v .replays) (v .sent) x) ≡ givenIn w at r ch
+    gives-it x l long here h is = rw (h, is, before, in-list (w .logs) (at .coordinator) l emptyLog (omega (arith, long .log-row, here .0)))
+
+  module _ (v : World) (before : v ≡ givenIn w at r ch) where
+    -- where nothing was learned the log stays
+    pub none-fed : ch .learned .count ≡ 0 → v ≡ putBack w at r ch
+    unfolding feed
+    none-fed h = before ∙ ap (λ (ls : List Log). withLogs (givenIn w at r ch) ls) (rw h (sym (set-getD (w .logs) (at .coordinator) emptyLog)))
+
+    pub log-fed : (l : Log) (fed : Log) → Lengths w → There at → fed ≡ feed (getD (v .logs) (at .coordinator) l) (entriesOf (ch .learned))
+        → withLogs v (set (v .logs) (at .coordinator) fed) ≡ putBack w at r ch
+    log-fed l fed long here is = rw (is, before, in-list (w .logs) (at .coordinator) l emptyLog (omega (arith, long .log-row, here .0)))
 
 -- ---- messages sent one after the other
 
@@ -231,21 +282,21 @@ module _ (m₀ : Message) where
 
 -- ---- one command
 
-module _ (w : World) (o : Command) (d m : Message) (at : Places) (p : Parts) where
+module _ (w : World) (o : Command) (d m : Message) (at : Places) (r : Replay) (p : Parts) where
   read-command : d ≡ deliveredIn w (o .step) → at ≡ placesOf (o .step) d
       → m ≡ messageFor (o .step) d (logOf w (at .coordinator)) (coordinatorOf w (at .coordinator) .applied)
-      → p ≡ partsAt w at m → stored w at (changeIn o p) ≡ carriedOut w o
-  read-command ed ea em ep = rw (ep, em, ea, ed) (command-is w o)
+      → p ≡ partsAt w at m → r ≡ replayIn w (o .step) → stored w at r (changeIn o p) ≡ carriedOut w o
+  read-command ed ea em ep er = rw (er, ep, em, ea, ed) (command-is w o)
 
   pub command-taken : (ch : Change) (i : ℕ) (v : World) → d ≡ deliveredIn w (o .step) → at ≡ placesOf (o .step) d
       → m ≡ messageFor (o .step) d (logOf w (at .coordinator)) (coordinatorOf w (at .coordinator) .applied)
-      → p ≡ partsAt w at m → ch ≡ changeIn o p → i ≡ ch .count
-      → v ≡ sendToAll (putBack w at (ch .parts) (ch .learned)) i (copyOf (ch .message))
+      → p ≡ partsAt w at m → r ≡ replayIn w (o .step) → ch ≡ changeIn o p → i ≡ ch .count
+      → v ≡ sendToAll (putBack w at r ch) i (copyOf (ch .message))
       → answered v (ch .answer) ≡ carriedOut w o
-  command-taken ch i v ed ea em ep ec ei ev =
-      ap (λ (x : World). answered x (ch .answer)) (ev ∙ ap (λ (k : ℕ). sendToAll (putBack w at (ch .parts) (ch .learned)) k (copyOf (ch .message))) ei)
-      ∙ ap (λ (x : Change). stored w at x) ec
-      ∙ read-command ed ea em ep
+  command-taken ch i v ed ea em ep er ec ei ev =
+      ap (λ (x : World). answered x (ch .answer)) (ev ∙ ap (λ (k : ℕ). sendToAll (putBack w at r ch) k (copyOf (ch .message))) ei)
+      ∙ ap (λ (x : Change). stored w at r x) ec
+      ∙ read-command ed ea em ep er
 
 -- ---- the commands in turn
 
@@ -269,14 +320,41 @@ module _ (xs : List Command) (n k : ℕ) (hn : k < n) (hx : k < length xs) (d : 
 pub message-small : (n : ℕ) (s : Step) → n ≡ messageAt s → n < messages
 message-small n s e = let h = message-inside s in omega (arith, e, h)
 
-pub put-lengths : (w : World) (at : Places) (p : Parts) (b : Batch) → Lengths w → Lengths (putBack w at p b)
-put-lengths w at p b long = (rw length-set (long .0), rw length-set (long .1), rw length-set (long .2), rw length-set (long .3), long .4)
+-- stored or not
+same-length : {A : Type 0} (t : Bool) (l : List A) (i : ℕ) (x : A) → length (cond t (set l i x) l) ≡ length l
+same-length true l i x = length-set l i x
+same-length false l i x = refl
+
+pub put-lengths : (w : World) (at : Places) (r : Replay) (ch : Change) → Lengths w → Lengths (putBack w at r ch)
+put-lengths w at r ch long = record {
+  slot-row = rw length-set (long .slot-row);
+  co-row = rw length-set (long .co-row);
+  log-row = rw length-set (long .log-row);
+  process-row = rw length-set (long .process-row);
+  restored-row = same-length (ch .takes) (w .restored) (at .process) r ∙ long .restored-row;
+  message-row = long .message-row;
+  replay-row = same-length (ch .gives) (w .replays) (w .sent) _ ∙ long .replay-row;
+}
 
 pub sent-lengths : (w : World) (m : Message) → Lengths w → Lengths (withMessage w m)
-sent-lengths w m long = (long .0, long .1, long .2, long .3, rw length-set (long .4))
+sent-lengths w m long = record {
+  slot-row = long .slot-row;
+  co-row = long .co-row;
+  log-row = long .log-row;
+  process-row = long .process-row;
+  restored-row = long .restored-row;
+  message-row = rw length-set (long .message-row);
+  replay-row = long .replay-row;
+}
 
 pub count-fits : (ch : Change) (o : Command) (p : Parts) → ch ≡ changeIn o p → ch .count ≤ messages - p .sent
 count-fits ch o p e = rw e (command-fits o p)
+
+-- the message with which a replay goes has a number
+pub number-left : (ch : Change) (o : Command) (p : Parts) → ch ≡ changeIn o p → ch .gives ≡ true → p .sent < messages
+number-left ch o p e h =
+    let some : 1 ≤ ch .count = subst Sends (sym e) (command-sends o p) h in
+    omega (arith, some, count-fits ch o p e)
 
 -- at the end of the loop all commands are carried out
 pub commands-done : (w₀ w : World) (b : Commands) (answers : List ℕ) (n k : ℕ) → length (b .commands) ≡ mostCommands → n ≡ min (b .count) mostCommands → n ≤ k

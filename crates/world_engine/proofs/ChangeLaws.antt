@@ -1,4 +1,4 @@
--- What an order does, by its tests.
+-- What a command does, by its tests.
 use mathlib.Core.Bool.{Bool, cond, false, true}
 use mathlib.Core.Path.{_≡_, refl}
 use borrow.Author.Tests.{eq-eqb, ne-eqb}
@@ -13,15 +13,15 @@ use Rattle.model_steps.specs.declared.Command.{Command}
 use Rattle.world_engine.specs.Changed.{changeIn}
 
 module _ (o : Command) (p : Parts) where
-  pub order-refused : (o .refused ≡ 0 → ⊥) → withoutMessages p (o .refused) ≡ changeIn o p
+  pub command-refused : (o .refused ≡ 0 → ⊥) → withoutMessages p (o .refused) ≡ changeIn o p
   unfolding changeIn
-  order-refused h = rw (ne-eqb (o .refused) 0 h)
+  command-refused h = rw (ne-eqb (o .refused) 0 h)
 
   module _ (step : o .refused ≡ 0) where
-    pub order-outside : outsideStep (acceptorsCounted (p .acceptors)) (o .step) ≡ true → withoutMessages p outsideLimits ≡ changeIn o p
+    pub command-outside : outsideStep (acceptorsCounted (p .acceptors)) (o .step) ≡ true → withoutMessages p outsideLimits ≡ changeIn o p
     unfolding changeIn stepRefusal firstRefusal
-    order-outside out = rw (eq-eqb (o .refused) 0 step, out)
+    command-outside out = rw (eq-eqb (o .refused) 0 step, out)
 
-    pub order-planned : outsideStep (acceptorsCounted (p .acceptors)) (o .step) ≡ false → planOf p (o .step) ≡ changeIn o p
+    pub command-planned : outsideStep (acceptorsCounted (p .acceptors)) (o .step) ≡ false → planOf p (o .step) ≡ changeIn o p
     unfolding changeIn stepRefusal firstRefusal planOf
-    order-planned inside = rw (eq-eqb (o .refused) 0 step, inside)
+    command-planned inside = rw (eq-eqb (o .refused) 0 step, inside)

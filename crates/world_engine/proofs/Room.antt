@@ -1,7 +1,8 @@
--- A step sends no more messages than there are numbers left.
+-- A step sends no more messages than there are numbers left, and at least the one with which a
+-- replay goes.
 use Prim.Native.Nat.{ℕ, _≤_, _-_}
-use mathlib.Core.Bool.{Bool, cond, false, true, not, _&&_, _||_}
-use mathlib.Core.Path.{_≡_, refl}
+use mathlib.Core.Bool.{Bool, cond, false, true, true≢false, not, _&&_, _||_}
+use mathlib.Core.Path.{_≡_, refl, sym}
 use native.Mathlib.Omega.{arith}
 use borrow.Author.Tests.{eqb-true, ltb-false}
 use lib.Dec.{eqb, leb, ltb}
@@ -86,7 +87,7 @@ change-fits p (Restore c process) h =
     (first-roomy false (isDown (p .down) Coord c || isDown (p .down) Proc process) (notSetUp p || leb stores (p .message .store)) (lacksNumbers (p .sent) 1) false h)
 change-fits p (Crash role id) h = omega arith
 
--- so does an order
+-- so does a command
 within : (p : Parts) (s : Step) → stepRefusal p s ≡ 0 → refusalIn p s ≡ 0
 unfolding stepRefusal firstRefusal
 within p s = by (outsideStep (acceptorsCounted (p .acceptors)) s)
@@ -102,3 +103,45 @@ command-fits o p =
     either-fits (eqb (o .refused) 0) _ _ (messages - p .sent)
     (λ _. either-fits (eqb (stepRefusal p s) 0) (changeOf p s) _ (messages - p .sent) (λ h. change-fits p s (within p s (eqb-true (stepRefusal p s) 0 h))) (omega arith))
     (omega arith)
+
+-- ---- the message with which a replay goes is sent
+
+abbrev pub Sends : Change → Type 0
+Sends ch = ch .gives ≡ true → 1 ≤ ch .count
+
+either-sends : (t : Bool) (x y : Change) → Sends x → Sends y → Sends (cond t x y)
+either-sends true x y hx hy = hx
+either-sends false x y hx hy = hy
+
+-- no replay goes with it
+none : {A : Type 0} → false ≡ true → A
+none h = absurd (true≢false (sym h))
+
+delivery-sends : (p : Parts) (k : Kind) → Sends (deliveryChange p k)
+unfolding deliveryChange
+delivery-sends p kind.Request = none
+delivery-sends p kind.Prepare = either-sends (promises (p .slot) (p .message .ballot)) _ _ none none
+delivery-sends p kind.Accept = either-sends (accepts (p .slot) (p .message .ballot)) _ _ none none
+delivery-sends p kind.Promise = either-sends (isHeard (p .coordinator) (p .message .inst) (p .message .ballot) (p .message .acceptor)) _ _ none none
+delivery-sends p kind.Accepted =
+    either-sends (isHeard (p .coordinator) (p .message .inst) (p .message .ballot) (p .message .acceptor)) _ _
+    (either-sends (majority (p .acceptors) (counting (p .coordinator .round) (p .message .acceptor) .acceptances)) _ _ none none)
+    none
+delivery-sends p kind.Tell = none
+delivery-sends p kind.Restore = either-sends (ltb (p .process .position) (p .message .position)) _ _ none none
+
+change-sends : (p : Parts) (s : Step) → Sends (changeOf p s)
+unfolding changeOf
+change-sends p (Setup n) = none
+change-sends p (Request e to) = none
+change-sends p (Open c i b) = none
+change-sends p (Propose c i b) = none
+change-sends p (Deliver m) = delivery-sends p (p .message .kind)
+change-sends p (Tell c process tx) = none
+change-sends p (Restore c process) = λ _. omega arith
+change-sends p (Crash role id) = none
+
+pub command-sends : (o : Command) (p : Parts) → Sends (changeIn o p)
+unfolding changeIn
+command-sends o p =
+    either-sends (eqb (o .refused) 0) _ _ (either-sends (eqb (stepRefusal p (o .step)) 0) _ _ (change-sends p (o .step)) none) none

@@ -1,9 +1,10 @@
--- What an order does to the parts of its step, put back, is the order taken.
+-- What a command does to the parts of its step, put back, is the command carried out.
 use Prim.Native.Nat.{ℕ}
 use mathlib.Core.Bool.{Bool, cond, false, true}
 use mathlib.Core.Path.{_≡_, ap, refl}
 use lib.Dec.{eqb, ltb}
 use Rattle.log_entry.specs.Refusal.{accepted}
+use Rattle.log_core.specs.declared.Replay.{Replay}
 use Rattle.model_steps.specs.declared.Step.{Step}
 use Rattle.model_steps.specs.declared.Step.the-variants.{Setup, Request, Open, Propose, Deliver, Tell, Restore, Crash}
 use Rattle.model_protocol.specs.declared.Change.{Change}
@@ -18,7 +19,7 @@ use Rattle.model_protocol.specs.Change.{withoutMessages}
 use Rattle.model_paxos.specs.Ballot.{majority}
 use Rattle.model_protocol.specs.Coordinator.{counting, isHeard}
 use Rattle.model_protocol.specs.Deliver.{deliveryChange}
-use Rattle.model_protocol.specs.Step.{answered, changed, changeOf, messageIn, partsOf, placesIn, stepOf, stepRefusal}
+use Rattle.model_protocol.specs.Step.{answered, changed, changeOf, messageIn, partsOf, placesIn, replayIn, stepOf, stepRefusal}
 use Rattle.model_protocol.proofs.PutBack.{nothing-changed}
 use Rattle.world_parts.specs.Plan.{decided}
 use Rattle.model_steps.specs.declared.Command.{Command}
@@ -55,11 +56,11 @@ change-accepted p (Tell c process tx) = refl
 change-accepted p (Restore c process) = refl
 change-accepted p (Crash role id) = refl
 
--- ---- the order
+-- ---- the command
 
--- the world after the change, and the answer
-abbrev pub stored : World → Places → Change → Stepped
-stored w at ch = answered (changed w at ch) (ch .answer)
+-- the world after the change, and the answer; r is the replay of the message delivered
+abbrev pub stored : World → Places → Replay → Change → Stepped
+stored w at r ch = answered (changed w at r ch) (ch .answer)
 
 module _ (w : World) (o : Command) where
   abbrev s : Step
@@ -71,21 +72,24 @@ module _ (w : World) (o : Command) where
   abbrev at : Places
   at = placesIn w s
 
-  unchanged : (n : ℕ) → stored w at (withoutMessages p n) ≡ answered w n
-  unchanged n = ap (λ (v : World). answered v n) (nothing-changed w at (messageIn w s) n)
+  abbrev r : Replay
+  r = replayIn w s
+
+  unchanged : (n : ℕ) → stored w at r (withoutMessages p n) ≡ answered w n
+  unchanged n = ap (λ (v : World). answered v n) (nothing-changed w at (messageIn w s) r n)
 
   by-refusal : (t : Bool)
-      → stored w at (cond t (changeOf p s) (withoutMessages p (stepRefusal p s)))
-      ≡ cond t (answered (changed w at (changeOf p s)) accepted) (answered w (stepRefusal p s))
-  by-refusal true = ap (λ (n : ℕ). answered (changed w at (changeOf p s)) n) (change-accepted p s)
+      → stored w at r (cond t (changeOf p s) (withoutMessages p (stepRefusal p s)))
+      ≡ cond t (answered (changed w at r (changeOf p s)) accepted) (answered w (stepRefusal p s))
+  by-refusal true = ap (λ (n : ℕ). answered (changed w at r (changeOf p s)) n) (change-accepted p s)
   by-refusal false = unchanged (stepRefusal p s)
 
-  by-order : (t : Bool)
-      → stored w at (cond t (decided p (stepRefusal p s) (changeOf p s)) (withoutMessages p (o .refused))) ≡ cond t (stepOf w s) (answered w (o .refused))
+  by-command : (t : Bool)
+      → stored w at r (cond t (decided p (stepRefusal p s) (changeOf p s)) (withoutMessages p (o .refused))) ≡ cond t (stepOf w s) (answered w (o .refused))
   unfolding stepOf
-  by-order true = by-refusal (eqb (stepRefusal p s) accepted)
-  by-order false = unchanged (o .refused)
+  by-command true = by-refusal (eqb (stepRefusal p s) accepted)
+  by-command false = unchanged (o .refused)
 
-  pub command-is : stored w at (changeIn o p) ≡ carriedOut w o
+  pub command-is : stored w at r (changeIn o p) ≡ carriedOut w o
   unfolding changeIn
-  command-is = by-order (eqb (o .refused) accepted)
+  command-is = by-command (eqb (o .refused) accepted)

@@ -1,4 +1,4 @@
--- What an order does to the parts of the world that it touches.
+-- What a command does to the parts of the world that it touches.
 use mathlib.Core.Bool.{cond}
 use lib.Dec.{eqb}
 use Rattle.log_entry.specs.Refusal.{accepted}

@@ -36,16 +36,16 @@ pub fn advance(mut w: World, commands: Commands) -> Advanced
     while k < count {
         let o = commands.commands[k as usize];
         let s = o.step;
-        let delivered = w.messages[place::message_at(s) as usize];
-        let at = place::places(s, delivered);
+        let from = place::message_at(s) as usize;
+        let mut message = w.messages[from];
+        let at = place::places(s, message);
         let c = at.coordinator as usize;
         let x = at.slot;
         let h = at.process as usize;
         let coordinator = w.coordinators[c];
-        let mut message = delivered;
         if place::asks_log(s) {
             let log = w.logs[c];
-            message = world_requests::said(s, delivered, log, coordinator.applied);
+            message = world_requests::said(s, message, log, coordinator.applied);
         }
         let p = Parts {
             acceptors: w.acceptors,
@@ -57,22 +57,30 @@ pub fn advance(mut w: World, commands: Commands) -> Advanced
             message: message,
         };
         let change = plan::change(o, p);
-        let after = change.parts;
-        w.acceptors = after.acceptors;
-        let down = after.down;
+        w.acceptors = change.parts.acceptors;
+        let down = change.parts.down;
         w.down = down;
-        let coordinator = after.coordinator;
+        let coordinator = change.parts.coordinator;
         w.coordinators[c] = coordinator;
-        let slot = after.slot;
+        let slot = change.parts.slot;
         w.slots[x] = slot;
-        let process = after.process;
+        let process = change.parts.process;
         w.processes[h] = process;
+        if change.takes {
+            let replay = w.replays[from];
+            w.restored[h] = replay;
+        }
+        let mut m = change.message;
+        if change.gives {
+            let next = w.sent as usize;
+            let log = w.logs[c];
+            w.replays[next] = log.replay(m.store);
+        }
         let learned = change.learned;
         if learned.count != 0 {
             let log = w.logs[c];
             w.logs[c] = learn::fed(log, learned);
         }
-        let mut m = change.message;
         let mut i: u8 = 0;
         while i < change.count {
             let n = w.sent;

@@ -122,7 +122,6 @@ pub fn no_message() -> Message
         outcome: Outcome::Open,
         store: 0,
         position: 0,
-        replay: no_replay(),
     }
 }
 
@@ -146,7 +145,6 @@ pub fn fresh_process() -> Process
         heard: [nothing; TRANSACTION_PLACES],
         store: 0,
         position: 0,
-        replay: no_replay(),
     }
 }
 
@@ -168,14 +166,17 @@ pub fn fresh_world() -> World
     let log = Log::empty();
     let process = fresh_process();
     let none = no_message();
+    let replay = no_replay();
     World {
         acceptors: 0,
         slots: [slot; SLOT_PLACES],
         coordinators: [coordinator; COORDINATOR_PLACES],
         logs: [log; COORDINATOR_PLACES],
         processes: [process; PROCESS_PLACES],
+        restored: [replay; PROCESS_PLACES],
         down: all_up(),
         messages: [none; MESSAGE_PLACES],
+        replays: [replay; MESSAGE_PLACES],
         sent: 0,
     }
 }

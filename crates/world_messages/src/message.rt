@@ -1,7 +1,6 @@
 // The messages of each kind. What a kind does not use is 0.
 ghost use mathlib.Core.Path.{_≡_};
 ghost use Rattle.model_protocol.specs.Message.{acceptTo, acceptedFrom, ballotMessage, directMessage, prepareTo, promiseFrom, requestTo, restoreTo, tellTo};
-use log_core::Replay;
 use log_entry::Entry;
 use log_votes::Outcome;
 use model_protocol::Batch;
@@ -9,7 +8,6 @@ use model_protocol::Kind;
 use model_protocol::Message;
 use world_fresh::no_batch;
 use world_fresh::no_entry;
-use world_fresh::no_replay;
 
 fn ballot_message(
     kind: Kind,
@@ -34,7 +32,6 @@ fn ballot_message(
         outcome: Outcome::Open,
         store: 0,
         position: 0,
-        replay: no_replay(),
     }
 }
 
@@ -46,9 +43,8 @@ fn direct_message(
     outcome: Outcome,
     store: u8,
     position: u8,
-    replay: Replay,
 ) -> Message
-    ensures { λ r. ⌜ r ≡ directMessage kind to entry tx outcome store position replay ⌝ }
+    ensures { λ r. ⌜ r ≡ directMessage kind to entry tx outcome store position ⌝ }
 {
     Message {
         kind: kind,
@@ -63,7 +59,6 @@ fn direct_message(
         outcome: outcome,
         store: store,
         position: position,
-        replay: replay,
     }
 }
 
@@ -94,35 +89,17 @@ pub fn accepted_from(inst: u8, ballot: u8, acceptor: u8) -> Message
 pub fn request_to(coord: u8, entry: Entry) -> Message
     ensures { λ r. ⌜ r ≡ requestTo coord entry ⌝ }
 {
-    direct_message(
-        Kind::Request,
-        coord,
-        entry,
-        0,
-        Outcome::Open,
-        0,
-        0,
-        no_replay(),
-    )
+    direct_message(Kind::Request, coord, entry, 0, Outcome::Open, 0, 0)
 }
 
 pub fn tell_to(process: u8, tx: u8, outcome: Outcome) -> Message
     ensures { λ r. ⌜ r ≡ tellTo process tx outcome ⌝ }
 {
-    direct_message(
-        Kind::Tell,
-        process,
-        no_entry(),
-        tx,
-        outcome,
-        0,
-        0,
-        no_replay(),
-    )
+    direct_message(Kind::Tell, process, no_entry(), tx, outcome, 0, 0)
 }
 
-pub fn restore_to(process: u8, store: u8, position: u8, replay: Replay) -> Message
-    ensures { λ r. ⌜ r ≡ restoreTo process store position replay ⌝ }
+pub fn restore_to(process: u8, store: u8, position: u8) -> Message
+    ensures { λ r. ⌜ r ≡ restoreTo process store position ⌝ }
 {
     direct_message(
         Kind::Restore,
@@ -132,6 +109,5 @@ pub fn restore_to(process: u8, store: u8, position: u8, replay: Replay) -> Messa
         Outcome::Open,
         store,
         position,
-        replay,
     )
 }

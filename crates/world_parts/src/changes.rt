@@ -1,6 +1,6 @@
 // Changes of the parts.
 ghost use mathlib.Core.Path.{_≡_};
-ghost use Rattle.model_protocol.specs.Change.{learns, sending, withoutMessages};
+ghost use Rattle.model_protocol.specs.Change.{givesReplay, learns, sending, takesReplay, withoutMessages};
 use model_protocol::Batch;
 use model_protocol::Change;
 use model_protocol::Message;
@@ -18,6 +18,8 @@ pub fn without_messages(p: Parts, answer: u8) -> Change
         count: 0,
         message: no_message(),
         learned: no_batch(),
+        gives: false,
+        takes: false,
     }
 }
 
@@ -31,6 +33,8 @@ pub fn sending(p: Parts, count: u8, m: Message) -> Change
         count: count,
         message: m,
         learned: no_batch(),
+        gives: false,
+        takes: false,
     }
 }
 
@@ -44,5 +48,37 @@ pub fn learns(p: Parts, batch: Batch) -> Change
         count: 0,
         message: no_message(),
         learned: batch,
+        gives: false,
+        takes: false,
+    }
+}
+
+// The parts are these now, and a restore is sent, with its store's replay.
+pub fn gives_replay(p: Parts, m: Message) -> Change
+    ensures { λ r. ⌜ r ≡ givesReplay p m ⌝ }
+{
+    Change {
+        answer: 0,
+        parts: p,
+        count: 1,
+        message: m,
+        learned: no_batch(),
+        gives: true,
+        takes: false,
+    }
+}
+
+// The parts are these now, and the process takes the replay of the message delivered.
+pub fn takes_replay(p: Parts) -> Change
+    ensures { λ r. ⌜ r ≡ takesReplay p ⌝ }
+{
+    Change {
+        answer: 0,
+        parts: p,
+        count: 0,
+        message: no_message(),
+        learned: no_batch(),
+        gives: false,
+        takes: true,
     }
 }

@@ -17,4 +17,4 @@ heard-length p vs g = simp length-map at (g .1 .1 .0 .1 .0 .1)
 
 pub not-heard : (p : Process) (tx : ℕ) (outcome : Outcome) → length (p .heard) ≤ tx → p ≡ hearingOutcome p tx outcome
 not-heard p tx outcome h =
-    λ i. record { heard = sym (set-out (p .heard) tx (record { outcome = outcome }) h) i; store = p .store; position = p .position; replay = p .replay }
+    λ i. record { heard = sym (set-out (p .heard) tx (record { outcome = outcome }) h) i; store = p .store; position = p .position }

@@ -1,7 +1,6 @@
 // What a process hears, takes and believes.
 ghost use mathlib.Core.Path.{_≡_};
 ghost use Rattle.model_protocol.specs.Process.{believes, hearingOutcome, taking};
-use log_core::Replay;
 use log_entry::limits::TRANSACTIONS;
 use log_votes::Outcome;
 use model_protocol::Heard;
@@ -29,11 +28,10 @@ pub fn hearing(mut p: Process, tx: u8, outcome: Outcome) -> Process
 }
 
 // It takes the restore.
-pub fn taking(mut p: Process, store: u8, position: u8, replay: Replay) -> Process
-    ensures { λ r. ⌜ r ≡ taking p store position replay ⌝ }
+pub fn taking(mut p: Process, store: u8, position: u8) -> Process
+    ensures { λ r. ⌜ r ≡ taking p store position ⌝ }
 {
     p.store = store;
     p.position = position;
-    p.replay = replay;
     p
 }

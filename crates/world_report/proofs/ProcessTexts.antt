@@ -1,17 +1,23 @@
 -- When a process has its lines.
-use Prim.Native.Nat.{ℕ}
+use Prim.Native.Nat.{ℕ, suc, _+_, _<_}
 use native.Mathlib.Omega.{arith}
-use mathlib.Core.List.{[], _∷_, _++_}
+use mathlib.Core.List.{List, [], _∷_, _++_}
 use mathlib.Core.Logic.{inl, inr}
-use mathlib.Core.Path.{_≡_, refl, sym, ap}
+use mathlib.Core.Path.{_≡_, refl, sym, ap, _∙_}
 use borrow.Author.Tests.{eq-eqb, ne-eqb}
 use denote.Enum.Declared.{tagOf}
+use lib.ListN.{getD, length}
 use types.Run.{OneOf}
 use Rattle.log_votes.specs.declared.Outcome.{Outcome}
 use Rattle.log_votes.specs.declared.Outcome.the-variants.{Open, Commit, Abort}
 use Rattle.log_votes.proofs.Outcome.{the-type as outcome-type}
+use Rattle.log_votes.proofs.InList.{in-list}
+use Rattle.log_core.specs.declared.Replay.{Replay}
 use Rattle.model_protocol.specs.declared.Process.{Process}
-use Rattle.text_report.specs.Report.{replayText, rowsOf}
+use Rattle.model_protocol.specs.Message.{noReplay}
+use Rattle.model_protocol.specs.World.{freshProcess}
+use Rattle.text_report.specs.Report.{each, replayText, rowsOf}
+use Rattle.world_report.proofs.Elements.{next-from-1}
 use Rattle.world_report.specs.Processes.{heardLine, outcomeText, restoreLine, restoreText}
 
 module _ (proc tx : ℕ) where
@@ -25,10 +31,19 @@ module _ (proc tx : ℕ) where
   outcome-heard Commit h = refl
   outcome-heard Abort h = refl
 
-module _ (proc : ℕ) (p : Process) where
-  pub none-taken : p .position ≡ 0 → [] ≡ restoreText proc p
+module _ (proc : ℕ) (p : Process) (replay : Replay) where
+  pub none-taken : p .position ≡ 0 → [] ≡ restoreText proc p replay
   none-taken h = rw (eq-eqb (p .position) 0 h)
 
   pub one-taken : (p .position ≡ 0 → ⊥)
-      → restoreLine proc (p .store) (p .position) ++ replayText (p .store) (rowsOf (p .replay)) ≡ restoreText proc p
+      → restoreLine proc (p .store) (p .position) ++ replayText (p .store) (rowsOf replay) ≡ restoreText proc p replay
   one-taken h = rw (ne-eqb (p .position) 0 h)
+
+-- the restore of one process more
+pub next-restore : (ps : List Process) (replays : List Replay) (i : ℕ) (d : Process) (e : Replay) → i + 1 < length ps → i + 1 < length replays
+    → each (λ j. restoreText (suc j) (getD ps (suc j) freshProcess) (getD replays (suc j) noReplay)) i ++ restoreText (i + 1) (getD ps (i + 1) d) (getD replays (i + 1) e)
+    ≡ each (λ j. restoreText (suc j) (getD ps (suc j) freshProcess) (getD replays (suc j) noReplay)) (i + 1)
+next-restore ps replays i d e h k =
+    let text : ℕ → Process → List ℕ = λ proc p. restoreText proc p (getD replays proc noReplay) in
+    ap (λ (r : Replay). each (λ j. text (suc j) (getD ps (suc j) freshProcess)) i ++ restoreText (i + 1) (getD ps (i + 1) d) r) (in-list replays (i + 1) e noReplay k)
+    ∙ next-from-1 text ps i d freshProcess h

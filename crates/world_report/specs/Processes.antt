@@ -9,7 +9,9 @@ use Rattle.log_entry.specs.Limits.{processes, transactions}
 use Rattle.log_votes.specs.declared.Outcome.{Outcome}
 use Rattle.log_votes.specs.declared.Outcome.the-variants.{Open}
 use Rattle.log_votes.specs.Outcome.{isOpen}
+use Rattle.log_core.specs.declared.Replay.{Replay}
 use Rattle.model_protocol.specs.declared.Process.{Process}
+use Rattle.model_protocol.specs.Message.{noReplay}
 use Rattle.model_protocol.specs.World.{freshProcess}
 use Rattle.text_report.specs.Report.{each, end, field, outcomeField, replayText, rowsOf}
 
@@ -33,7 +35,11 @@ heardText proc p = each (λ tx. outcomeText proc tx (getD (p .heard) tx (record 
 abbrev pub restoreLine : ℕ → ℕ → ℕ → List ℕ
 restoreLine proc store position = field (ascii "proc=") proc ++ field (ascii " store=") store ++ field (ascii " position=") position ++ end
 
--- of the last restore that the process took; position 0 if it took none
-abbrev pub restoreText : ℕ → Process → List ℕ
-restoreText proc p =
-    cond (eqb (p .position) 0) [] (restoreLine proc (p .store) (p .position) ++ replayText (p .store) (rowsOf (p .replay)))
+-- of the last restore that the process took, and its replay; position 0 if it took none
+abbrev pub restoreText : ℕ → Process → Replay → List ℕ
+restoreText proc p replay =
+    cond (eqb (p .position) 0) [] (restoreLine proc (p .store) (p .position) ++ replayText (p .store) (rowsOf replay))
+
+-- where these are the replays, by process
+abbrev pub restoresText : List Process → List Replay → List ℕ
+restoresText ps replays = byProcess (λ proc p. restoreText proc p (getD replays proc noReplay)) ps

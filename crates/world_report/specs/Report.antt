@@ -5,8 +5,8 @@ use Prim.Native.Nat.{ℕ}
 use mathlib.Core.List.{List, _++_}
 use Rattle.model_protocol.specs.declared.World.{World}
 use Rattle.world_report.specs.Coordinators.{coordinatorsText}
-use Rattle.world_report.specs.Processes.{byProcess, heardText, restoreText}
+use Rattle.world_report.specs.Processes.{byProcess, heardText, restoresText}
 
 -- a world as it is printed, after the answers
 unfoldable pub worldText : World → List ℕ
-worldText w = coordinatorsText (w .coordinators) (w .logs) ++ byProcess heardText (w .processes) ++ byProcess restoreText (w .processes)
+worldText w = coordinatorsText (w .coordinators) (w .logs) ++ byProcess heardText (w .processes) ++ restoresText (w .processes) (w .restored)

@@ -25,7 +25,8 @@ pub fn put_world(out: &mut [u8], at: usize, w: World) -> usize
     let cs = w.coordinators;
     let logs = w.logs;
     let ps = w.processes;
+    let replays = w.restored;
     let at = coordinators::put_coordinators(out, at, cs, logs);
     let at = processes::put_all_heard(out, at, ps);
-    processes::put_restores(out, at, ps)
+    processes::put_restores(out, at, ps, replays)
 }

@@ -3,7 +3,8 @@ ghost use Prim.Native.Nat.{_*_};
 ghost use Rattle.log_entry.specs.Limits.{processes};
 ghost use Rattle.text_report.specs.Within.{Within, longestLine};
 ghost use Rattle.world_report.specs.Longest.{longestHeard, longestRestore};
-ghost use Rattle.world_report.specs.Processes.{byProcess, heardLine, heardText, outcomeText, restoreLine, restoreText};
+ghost use Rattle.world_report.specs.Processes.{byProcess, heardLine, heardText, outcomeText, restoreLine, restoreText, restoresText};
+use log_core::Replay;
 use log_entry::limits::PROCESSES;
 use log_entry::limits::TRANSACTIONS;
 use log_votes::Outcome;
@@ -68,27 +69,27 @@ pub fn restore_line(out: &mut [u8], at: usize, proc: u8, store: u8, position: u8
 }
 
 // The restore that the process took, if it took one.
-pub fn put_restore(out: &mut [u8], at: usize, proc: u8, p: Process) -> usize
-    ensures { λ r. ⌜ Within longestRestore (now (out .entry)) at (restoreText proc p) (now (out .exit)) r ⌝ }
+pub fn put_restore(out: &mut [u8], at: usize, proc: u8, p: Process, replay: Replay) -> usize
+    ensures { λ r. ⌜ Within longestRestore (now (out .entry)) at (restoreText proc p replay) (now (out .exit)) r ⌝ }
 {
     if p.position == 0 {
         return at;
     }
-    let replay = p.replay;
     let at = restore_line(out, at, proc, p.store, p.position);
     text_report::put_replay(out, at, p.store, replay)
 }
 
 // The restores of all processes.
-pub fn put_restores(out: &mut [u8], at: usize, ps: [Process; 16]) -> usize
-    ensures { λ r. ⌜ Within (processes * longestRestore) (now (out .entry)) at (byProcess restoreText ps) (now (out .exit)) r ⌝ }
+pub fn put_restores(out: &mut [u8], at: usize, ps: [Process; 16], replays: [Replay; 16]) -> usize
+    ensures { λ r. ⌜ Within (processes * longestRestore) (now (out .entry)) at (restoresText ps replays) (now (out .exit)) r ⌝ }
 {
     let mut to = at;
     let mut i: u8 = 0;
     while i < PROCESSES {
         i += 1;
         let p = ps[i as usize];
-        to = put_restore(out, to, i, p);
+        let replay = replays[i as usize];
+        to = put_restore(out, to, i, p, replay);
     }
     to
 }

@@ -4,7 +4,6 @@ ghost use mathlib.Core.Bool.{_&&_, _||_, not};
 ghost use Rattle.log_entry.specs.Entry.{illFormed};
 ghost use Rattle.model_steps.specs.declared.Role.the-variants.{Coord, Proc};
 ghost use Rattle.model_steps.specs.declared.Step.the-variants.{Crash, Request, Restore, Setup, Tell};
-ghost use Rattle.log_core.specs.Replay.{replayOf};
 ghost use Rattle.model_protocol.specs.Message.{restoreTo};
 ghost use Rattle.model_protocol.specs.Step.{heldFrom, heldStore, messageFor, voterNotHolder};
 ghost use Rattle.model_protocol.specs.World.{isDown};
@@ -128,7 +127,7 @@ pub fn restore(p: Parts, coord: u8, process: u8) -> Change
     if answer != 0 {
         return changes::without_messages(p, answer);
     }
-    changes::sending(p, 1, m)
+    changes::gives_replay(p, m)
 }
 
 // The store that the process holds; one past the last store if it holds none.
@@ -146,11 +145,11 @@ fn held_store(holders: [u8; STORE_PLACES], process: u8) -> u8
 }
 
 fn restored(log: Log, applied: u8, process: u8) -> Message
-    ensures { λ r. ⌜ r ≡ restoreTo process (heldStore log process) applied (replayOf log (heldStore log process)) ⌝ }
+    ensures { λ r. ⌜ r ≡ restoreTo process (heldStore log process) applied ⌝ }
 {
     let holders = log.holders;
     let store = held_store(holders, process);
-    message::restore_to(process, store, applied, log.replay(store))
+    message::restore_to(process, store, applied)
 }
 
 // The message of a step, where `delivered` is the one that it delivers: a tell or a restore sends

@@ -16,7 +16,7 @@ use Rattle.text_lines.specs.Lines.{maxLineBytes}
 use Rattle.log_laws.proofs.Answers.{fresh, not-given}
 use Rattle.model_protocol.specs.declared.Parts.{Parts}
 use Rattle.model_protocol.specs.declared.World.{World}
-use Rattle.model_protocol.specs.Step.{acceptorsCounted, answered, changed, changeOf, partsOf, placesIn, run, stepChecks, stepOf, stepRefusal}
+use Rattle.model_protocol.specs.Step.{acceptorsCounted, answered, changed, changeOf, partsOf, placesIn, replayIn, run, stepChecks, stepOf, stepRefusal}
 use Rattle.model_protocol.specs.World.{freshWorld}
 use Rattle.model_steps.specs.declared.Step.{Step}
 use Rattle.model_steps.specs.declared.Step.the-variants.{Setup, Request, Open, Propose, Deliver, Tell, Restore, Crash}
@@ -102,7 +102,7 @@ answer-is-refusal w s = go (eqb (stepRefusal p s) accepted) refl
     p = partsOf w s
 
     go : (b : Bool) → eqb (stepRefusal p s) accepted ≡ b
-        → cond b (answered (changed w (placesIn w s) (changeOf p s)) accepted) (answered w (stepRefusal p s)) .answer ≡ stepRefusal p s
+        → cond b (answered (changed w (placesIn w s) (replayIn w s) (changeOf p s)) accepted) (answered w (stepRefusal p s)) .answer ≡ stepRefusal p s
     go true k = sym (eqb-true (stepRefusal p s) accepted k)
     go false k = refl
 

@@ -13,12 +13,12 @@ returns c = c .without-messages .ensures ∙ restore-passed (c .before .before .
 taking-requires : tie.Need-taking-requires
 taking-requires c κs = search needs
 
-without-messages-requires-2 : tie.Need-without-messages-requires-2
-without-messages-requires-2 c κs = search needs
+takes-replay-requires : tie.Need-takes-replay-requires
+takes-replay-requires c κs = search needs
 
 returns-2 : tie.Need-returns-2
-returns-2 c = c .without-messages2 .ensures ∙ restore-taken (c .before .before .before .before .before .before .before .args .p) (c .before .taking .result) (c .before .taking .ensures) (c .before .before .if1 .left)
+returns-2 c = c .takes-replay .ensures ∙ restore-taken (c .before .before .before .before .before .before .before .args .p) (c .before .taking .result) (c .before .taking .ensures) (c .before .before .if1 .left)
 
 pub restore-spec : {M : Type 1} → statement M
 restore-spec =
-    tie.close (tie.spec without-messages-requires returns taking-requires without-messages-requires-2 returns-2)
+    tie.close (tie.spec without-messages-requires returns taking-requires takes-replay-requires returns-2)

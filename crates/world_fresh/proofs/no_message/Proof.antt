@@ -8,11 +8,8 @@ no-batch-requires c κs = search needs
 no-entry-requires : tie.Need-no-entry-requires
 no-entry-requires c κs = search needs
 
-no-replay-requires : tie.Need-no-replay-requires
-no-replay-requires c κs = search needs
-
 returns : tie.Need-returns
 returns c = cc
 
 pub no-message-spec : {M : Type 1} → statement M
-no-message-spec = tie.close (tie.spec no-batch-requires no-entry-requires no-replay-requires returns)
+no-message-spec = tie.close (tie.spec no-batch-requires no-entry-requires returns)

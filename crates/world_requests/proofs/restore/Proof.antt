@@ -33,12 +33,12 @@ returns : tie.Need-returns
 unfolding planOf
 returns c = let a = c .before .before .before .before .before .before .before .before .before .args in c .without-messages .ensures ∙ refused-is _ _ _ (changeOf (a .p) (Restore (a .coord) (a .process))) (answer-is (c .before .before)) (c .before .if1 .taken)
 
-sending-requires : tie.Need-sending-requires
-sending-requires c κs = search needs
+gives-replay-requires : tie.Need-gives-replay-requires
+gives-replay-requires c κs = search needs
 
 returns-2 : tie.Need-returns-2
 unfolding planOf changeOf
-returns-2 c = let a = c .before .before .before .before .before .before .before .before .before .args in c .sending .ensures ∙ done-is (a .p) _ _ _ (answer-is (c .before .before)) (c .before .if1 .left)
+returns-2 c = let a = c .before .before .before .before .before .before .before .before .before .args in c .gives-replay .ensures ∙ done-is (a .p) _ _ _ (answer-is (c .before .before)) (c .before .if1 .left)
 
 pub restore-spec : {M : Type 1} → statement M
 restore-spec =
@@ -50,5 +50,5 @@ restore-spec =
     first-of-requires
     without-messages-requires
     returns
-    sending-requires
+    gives-replay-requires
     returns-2)

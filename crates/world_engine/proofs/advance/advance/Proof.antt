@@ -1,24 +1,28 @@
-use Prim.Native.Nat.{_+_, _-_, _≤_}
+use Prim.Native.Nat.{_+_, _-_, _≤_, _<_}
 use mathlib.Core.Logic.{⊎-elim}
 use mathlib.Core.Path.{_≡_, ap, refl, subst, sym, _∙_}
 use native.Mathlib.Omega.{arith}
 use borrow.Author.Needs.{needs}
 use lib.ListN.{drop, getD}
 use lib.Seq.{sets}
+use Rattle.log_core.specs.declared.Replay.{Replay}
+use Rattle.model_steps.specs.declared.Command.{Command}
 use Rattle.model_steps.specs.declared.Step.the-variants.{Setup}
 use Rattle.model_steps.specs.Limits.{messages}
 use Rattle.model_steps.proofs.Lengths.{commands-length}
+use Rattle.model_protocol.specs.declared.Change.{Change}
+use Rattle.model_protocol.specs.declared.Places.{Places}
 use Rattle.model_protocol.specs.declared.World.{World}
 use Rattle.model_protocol.specs.Send.{copyOf, sendToAll}
-use Rattle.model_protocol.specs.Step.{putBack}
+use Rattle.model_protocol.specs.Step.{putBack, replayIn}
 use Rattle.world_engine.specs.Commands.{answersTo, worldAfter}
 use Rattle.model_steps.specs.Commands.{commandsIn}
-use Rattle.world_engine.proofs.AdvanceLaws.{Lengths, There, commands-done, copies-next, copies-none, count-fits, delivered-is, first-copy, log-fed, message-small, next-copy, none-fed, not-asked, command-taken, parts-are, places-there, put-lengths, said-is, sent-lengths, stored-turn, world-lengths, world-turn}
+use Rattle.world_engine.proofs.AdvanceLaws.{Lengths, There, commands-done, copies-next, copies-none, count-fits, delivered-is, first-copy, givenIn, gives-it, gives-none, log-fed, message-small, next-copy, none-fed, not-asked, number-left, command-taken, parts-are, places-there, put-lengths, replay-is, said-is, sent-lengths, stored-turn, takenIn, takes-it, takes-none, world-lengths, world-turn}
 use Rattle.world_engine.proofs.advance.advance.Statement.{statement}
 use Rattle.world_engine.proofs.advance.advance.Tie as tie
 
 abbrev Inv-loop2 : tie.InvT-loop2
-Inv-loop2 w₀ commands answers count k c x h change m₀ i₀ w m i =
+Inv-loop2 w₀ commands answers count k from c x h change m₀ i₀ w m i =
     (i ≤ change .count)
     × (w ≡ sendToAll w₀ i (copyOf m₀))
     × (w .sent ≡ w₀ .sent + i)
@@ -27,7 +31,7 @@ Inv-loop2 w₀ commands answers count k c x h change m₀ i₀ w m i =
     × Lengths w
 
 abbrev μ-loop2 : tie.MeasureT-loop2
-μ-loop2 w₀ commands answers count k c x h change m₀ i₀ w m i = change .count - i
+μ-loop2 w₀ commands answers count k from c x h change m₀ i₀ w m i = change .count - i
 
 abbrev Inv-loop : tie.InvT-loop
 Inv-loop w₀ commands answers₀ count k₀ w answers k =
@@ -39,6 +43,51 @@ Inv-loop w₀ commands answers₀ count k₀ w answers k =
 
 abbrev μ-loop : tie.MeasureT-loop
 μ-loop w₀ commands answers₀ count k₀ w answers k = count - k
+
+-- ---- what is known once the places are, and once the change is
+
+abbrev Placed : Type 0
+Placed = tie.After-places Inv-loop2 μ-loop2 Inv-loop μ-loop
+
+abbrev commandOf : Placed → Command
+commandOf c = getD (c .before .before .before .before .before .before .before .args .t2 .commands) (c .before .before .before .before .before .loop .k) (record { refused = 0; step = Setup 0 })
+
+abbrev worldOf : Placed → World
+worldOf c = c .before .before .before .before .before .loop .w
+
+-- the replay of the message delivered
+abbrev replayOf : Placed → Replay
+replayOf c = replayIn (worldOf c) (commandOf c .step)
+
+long : (c : Placed) → Lengths (worldOf c)
+long c = c .before .before .before .before .before .loop .inv .3
+
+-- the world has every place that is looked at
+here : (c : Placed) → There (c .places .result)
+here c = places-there (c .places .result) _ _ (c .places .ensures)
+
+-- and the message
+from-inside : (c : Placed) → c .before .before .message-at .result < messages
+from-inside c = message-small _ (commandOf c .step) (c .before .before .message-at .ensures)
+
+abbrev Planned : Type 0
+Planned = tie.After-change Inv-loop2 μ-loop2 Inv-loop μ-loop
+
+abbrev placed : Planned → Placed
+placed c = c .before .before .before .before .before .before .before .before .before
+
+-- the world after the process took the replay, after the replay was given, and after the log was
+-- fed
+abbrev Taken : Planned → World
+Taken c = takenIn (worldOf (placed c)) (placed c .places .result) (replayOf (placed c)) (c .change .result)
+
+abbrev Given : Planned → World
+Given c = givenIn (worldOf (placed c)) (placed c .places .result) (replayOf (placed c)) (c .change .result)
+
+abbrev Stored : Planned → World
+Stored c = putBack (worldOf (placed c)) (placed c .places .result) (replayOf (placed c)) (c .change .result)
+
+-- ---- the needs
 
 at-most-requires : tie.Need-at-most-requires Inv-loop2 μ-loop2 Inv-loop μ-loop
 at-most-requires c κs = search needs
@@ -58,21 +107,17 @@ element-copy-out-o c = omega arith
 message-at-requires : tie.Need-message-at-requires Inv-loop2 μ-loop2 Inv-loop μ-loop
 message-at-requires c κs = search needs
 
-cast-delivered : tie.Need-cast-delivered Inv-loop2 μ-loop2 Inv-loop μ-loop
-cast-delivered c = omega arith
+cast-from : tie.Need-cast-from Inv-loop2 μ-loop2 Inv-loop μ-loop
+cast-from c = omega arith
 
-mul-delivered : tie.Need-mul-delivered Inv-loop2 μ-loop2 Inv-loop μ-loop
-mul-delivered c = omega arith
+mul-message : tie.Need-mul-message Inv-loop2 μ-loop2 Inv-loop μ-loop
+mul-message c = omega arith
 
-element-copy-out-delivered : tie.Need-element-copy-out-delivered Inv-loop2 μ-loop2 Inv-loop μ-loop
-element-copy-out-delivered c = let o = getD (c .before .before .before .before .before .args .t2 .commands) (c .before .before .before .loop .k) (record { refused = 0; step = Setup 0 }) in let h = message-small (c .message-at .result) (o .step) (c .message-at .ensures) in omega (arith, h)
+element-copy-out-message : tie.Need-element-copy-out-message Inv-loop2 μ-loop2 Inv-loop μ-loop
+element-copy-out-message c = let o = getD (c .before .before .before .before .before .args .t2 .commands) (c .before .before .before .loop .k) (record { refused = 0; step = Setup 0 }) in let h = message-small (c .message-at .result) (o .step) (c .message-at .ensures) in omega (arith, h)
 
 places-requires : tie.Need-places-requires Inv-loop2 μ-loop2 Inv-loop μ-loop
 places-requires c κs = search needs
-
--- the world has every place that is looked at
-here : (c : tie.After-places Inv-loop2 μ-loop2 Inv-loop μ-loop) → There (c .places .result)
-here c = places-there (c .places .result) _ _ (c .places .ensures)
 
 cast-c : tie.Need-cast-c Inv-loop2 μ-loop2 Inv-loop μ-loop
 cast-c c = omega arith
@@ -98,17 +143,17 @@ element-copy-out-log c = here (c .before .before .before .before .before) .0
 said-requires : tie.Need-said-requires Inv-loop2 μ-loop2 Inv-loop μ-loop
 said-requires c κs = search needs
 
-mul-t33 : tie.Need-mul-t33 Inv-loop2 μ-loop2 Inv-loop μ-loop
-mul-t33 c = let h = here (c .before .before .before .before .before .before) .1 in omega (arith, h)
+mul-t34 : tie.Need-mul-t34 Inv-loop2 μ-loop2 Inv-loop μ-loop
+mul-t34 c = let h = here (c .before .before .before .before .before .before) .1 in omega (arith, h)
 
-element-copy-out-t53 : tie.Need-element-copy-out-t53 Inv-loop2 μ-loop2 Inv-loop μ-loop
-element-copy-out-t53 c = here (c .before .before .before .before .before .before) .1
+element-copy-out-t55 : tie.Need-element-copy-out-t55 Inv-loop2 μ-loop2 Inv-loop μ-loop
+element-copy-out-t55 c = here (c .before .before .before .before .before .before) .1
 
-mul-t32 : tie.Need-mul-t32 Inv-loop2 μ-loop2 Inv-loop μ-loop
-mul-t32 c = omega arith
+mul-t35 : tie.Need-mul-t35 Inv-loop2 μ-loop2 Inv-loop μ-loop
+mul-t35 c = omega arith
 
-element-copy-out-t56 : tie.Need-element-copy-out-t56 Inv-loop2 μ-loop2 Inv-loop μ-loop
-element-copy-out-t56 c = here (c .before .before .before .before .before .before .before) .2
+element-copy-out-t58 : tie.Need-element-copy-out-t58 Inv-loop2 μ-loop2 Inv-loop μ-loop
+element-copy-out-t58 c = here (c .before .before .before .before .before .before .before) .2
 
 change-requires : tie.Need-change-requires Inv-loop2 μ-loop2 Inv-loop μ-loop
 change-requires c κs = search needs
@@ -117,58 +162,117 @@ mul-coordinator-2 : tie.Need-mul-coordinator-2 Inv-loop2 μ-loop2 Inv-loop μ-lo
 mul-coordinator-2 c = omega arith
 
 element-set-from-coordinator : tie.Need-element-set-from-coordinator Inv-loop2 μ-loop2 Inv-loop μ-loop
-element-set-from-coordinator c = here (c .before .before .before .before .before .before .before .before .before .before .before .before) .0
+element-set-from-coordinator c = here (c .before .before .before .before .before .before .before .before .before .before .before) .0
 
 mul-slot : tie.Need-mul-slot Inv-loop2 μ-loop2 Inv-loop μ-loop
-mul-slot c = let h = here (c .before .before .before .before .before .before .before .before .before .before .before .before .before) .1 in omega (arith, h)
+mul-slot c = let h = here (c .before .before .before .before .before .before .before .before .before .before .before .before) .1 in omega (arith, h)
 
 element-set-from-slot : tie.Need-element-set-from-slot Inv-loop2 μ-loop2 Inv-loop μ-loop
-element-set-from-slot c = here (c .before .before .before .before .before .before .before .before .before .before .before .before .before) .1
+element-set-from-slot c = here (c .before .before .before .before .before .before .before .before .before .before .before .before) .1
 
 mul-process : tie.Need-mul-process Inv-loop2 μ-loop2 Inv-loop μ-loop
 mul-process c = omega arith
 
 element-set-from-process : tie.Need-element-set-from-process Inv-loop2 μ-loop2 Inv-loop μ-loop
-element-set-from-process c = here (c .before .before .before .before .before .before .before .before .before .before .before .before .before .before) .2
+element-set-from-process c = here (c .before .before .before .before .before .before .before .before .before .before .before .before .before) .2
+
+mul-replay : tie.Need-mul-replay Inv-loop2 μ-loop2 Inv-loop μ-loop
+mul-replay c = omega arith
+
+element-copy-out-replay : tie.Need-element-copy-out-replay Inv-loop2 μ-loop2 Inv-loop μ-loop
+element-copy-out-replay c = from-inside (c .before .before .before .before .before .before .before .before .before .before .before .before .before .before)
+
+mul-replay-2 : tie.Need-mul-replay-2 Inv-loop2 μ-loop2 Inv-loop μ-loop
+mul-replay-2 c = omega arith
+
+element-set-from-replay : tie.Need-element-set-from-replay Inv-loop2 μ-loop2 Inv-loop μ-loop
+element-set-from-replay c = here (c .before .before .before .before .before .before .before .before .before .before .before .before .before .before .before) .2
+
+taken-is : (c : tie.Joined2 Inv-loop2 μ-loop2 Inv-loop μ-loop) → c .if2 .w ≡ Taken (c .before .before .before .before .before)
+taken-is c =
+    let b = c .before .before .before .before .before .before .before .before .before .before .before .before .before .before in
+    let w = worldOf b in
+    let at = b .places .result in
+    let ch = c .before .before .before .before .before .change .result in
+    ⊎-elim
+    (λ t. t .2 ∙ takes-it w at (replayOf b) ch _ (t .0 .taken) (replay-is w (long b) (commandOf b .step) _ _ (b .before .before .message-at .ensures)))
+    (λ t. t .1 ∙ takes-none w at (replayOf b) ch (t .0 .left))
+    (c .if2 .came)
+
+-- the message with which a replay goes has a number
+number : (c : tie.Then3 Inv-loop2 μ-loop2 Inv-loop μ-loop) → c .before .before .if2 .w .sent < messages
+number c =
+    let n = number-left _ _ _ (c .before .before .before .before .before .before .before .change .ensures) (c .if3 .taken) in
+    subst (λ (v : World). v .sent < messages) (sym (taken-is (c .before .before))) n
+
+cast-next : tie.Need-cast-next Inv-loop2 μ-loop2 Inv-loop μ-loop
+cast-next c = let h = number c in omega (arith, h)
 
 mul-log-2 : tie.Need-mul-log-2 Inv-loop2 μ-loop2 Inv-loop μ-loop
 mul-log-2 c = omega arith
 
 element-copy-out-log-2 : tie.Need-element-copy-out-log-2 Inv-loop2 μ-loop2 Inv-loop μ-loop
-element-copy-out-log-2 c = here (c .before .before .before .before .before .before .before .before .before .before .before .before .before .before .before .before .before) .0
+element-copy-out-log-2 c = here (c .before .before .before .before .before .before .before .before .before .before .before .before .before .before .before .before) .0
+
+replay-requires : tie.Need-replay-requires Inv-loop2 μ-loop2 Inv-loop μ-loop
+replay-requires c κs = search needs
+
+mul-t72 : tie.Need-mul-t72 Inv-loop2 μ-loop2 Inv-loop μ-loop
+mul-t72 c = let h = number (c .before .before) in omega (arith, h)
+
+element-set-from-w : tie.Need-element-set-from-w Inv-loop2 μ-loop2 Inv-loop μ-loop
+element-set-from-w c = let h = number (c .before .before) in omega (arith, h)
+
+given-is : (c : tie.Joined3 Inv-loop2 μ-loop2 Inv-loop μ-loop) → c .if3 .w ≡ Given (c .before .before .before .before .before .before .before)
+given-is c =
+    let b = c .before .before .before .before .before .before .before .before .before .before .before .before .before .before .before .before in
+    let w = worldOf b in
+    let at = b .places .result in
+    let ch = c .before .before .before .before .before .before .before .change .result in
+    let before = taken-is (c .before .before) in
+    ⊎-elim
+    (λ t. t .3 ∙ gives-it w at (replayOf b) ch _ before _ _ (long b) (here b) (t .0 .taken) (t .2 .ensures))
+    (λ t. t .1 ∙ gives-none w at (replayOf b) ch _ before (t .0 .left))
+    (c .if3 .came)
+
+mul-log-3 : tie.Need-mul-log-3 Inv-loop2 μ-loop2 Inv-loop μ-loop
+mul-log-3 c = omega arith
+
+element-copy-out-log-3 : tie.Need-element-copy-out-log-3 Inv-loop2 μ-loop2 Inv-loop μ-loop
+element-copy-out-log-3 c = here (c .before .before .before .before .before .before .before .before .before .before .before .before .before .before .before .before .before .before .before) .0
 
 fed-requires : tie.Need-fed-requires Inv-loop2 μ-loop2 Inv-loop μ-loop
 fed-requires c κs = search needs
 
-mul-t63 : tie.Need-mul-t63 Inv-loop2 μ-loop2 Inv-loop μ-loop
-mul-t63 c = let h = here (c .before .before .before .before .before .before .before .before .before .before .before .before .before .before .before .before .before .before .before) .0 in omega (arith, h)
+mul-t79 : tie.Need-mul-t79 Inv-loop2 μ-loop2 Inv-loop μ-loop
+mul-t79 c = let h = here (c .before .before .before .before .before .before .before .before .before .before .before .before .before .before .before .before .before .before .before .before .before) .0 in omega (arith, h)
 
-element-set-from-w : tie.Need-element-set-from-w Inv-loop2 μ-loop2 Inv-loop μ-loop
-element-set-from-w c = here (c .before .before .before .before .before .before .before .before .before .before .before .before .before .before .before .before .before .before .before) .0
+element-set-from-w-2 : tie.Need-element-set-from-w-2 Inv-loop2 μ-loop2 Inv-loop μ-loop
+element-set-from-w-2 c = here (c .before .before .before .before .before .before .before .before .before .before .before .before .before .before .before .before .before .before .before .before .before) .0
 
--- the world with the parts put back, and the log fed
-stored-is : (c : tie.Joined2 Inv-loop2 μ-loop2 Inv-loop μ-loop)
-    → c .if2 .w ≡ putBack (c .before .before .before .before .before .before .before .before .before .before .before .before .before .before .before .before .before .before .before .before .before .before .loop .w) (c .before .before .before .before .before .before .before .before .before .before .before .before .before .before .before .before .before .places .result) (c .before .before .before .before .before .before .before .before .change .result .parts) (c .before .before .before .before .before .before .before .before .change .result .learned)
+stored-is : (c : tie.Joined4 Inv-loop2 μ-loop2 Inv-loop μ-loop) → c .if4 .w ≡ Stored (c .before .before .before .before .before .before .before .before .before .before)
 stored-is c =
-    let l = c .before .before .before .before .before .before .before .before .before .before .before .before .before .before .before .before .before .before .before .before .before .before .loop in
-    let at = c .before .before .before .before .before .before .before .before .before .before .before .before .before .before .before .before .before .places .result in
-    let ch = c .before .before .before .before .before .before .before .before .change .result in
+    let b = c .before .before .before .before .before .before .before .before .before .before .before .before .before .before .before .before .before .before .before in
+    let w = worldOf b in
+    let at = b .places .result in
+    let ch = c .before .before .before .before .before .before .before .before .before .before .change .result in
+    let before = given-is (c .before .before .before) in
     ⊎-elim
-    (λ t. t .3 ∙ log-fed (l .w) at (ch .parts) (ch .learned) _ _ (l .inv .3) (here (c .before .before .before .before .before .before .before .before .before .before .before .before .before .before .before .before .before)) (t .2 .ensures))
-    (λ t. t .1 ∙ none-fed (l .w) at (ch .parts) (ch .learned) (t .0 .left))
-    (c .if2 .came)
+    (λ t. t .3 ∙ log-fed w at (replayOf b) ch _ before _ _ (long b) (here b) (t .2 .ensures))
+    (λ t. t .1 ∙ none-fed w at (replayOf b) ch _ before (t .0 .left))
+    (c .if4 .came)
 
 loop2-holds : tie.Need-loop2-holds Inv-loop2 μ-loop2 Inv-loop μ-loop
 loop2-holds c =
-    let l = c .before .before .before .before .before .before .before .before .before .before .before .before .before .before .before .before .before .before .before .before .before .before .before .loop in
-    let ch = c .before .before .before .before .before .before .before .before .before .change .result in
-    let is = stored-is (c .before) in (
+    let b = c .before .before .before .before .before .before .before .before .before .before .before .before .before .before .before .before .before .before .before in
+    let ch = c .before .before .before .before .before .before .before .before .before .before .change .result in
+    let is = stored-is c in (
       omega arith,
       copies-none _ _,
       omega arith,
       first-copy (ch .message),
-      subst (λ (v : World). ch .count ≤ messages - v .sent) (sym is) (count-fits _ _ _ (c .before .before .before .before .before .before .before .before .before .change .ensures)),
-      subst Lengths (sym is) (put-lengths (l .w) (c .before .before .before .before .before .before .before .before .before .before .before .before .before .before .before .before .before .before .places .result) (ch .parts) (ch .learned) (l .inv .3)),
+      subst (λ (v : World). ch .count ≤ messages - v .sent) (sym is) (count-fits _ _ _ (c .before .before .before .before .before .before .before .before .before .before .change .ensures)),
+      subst Lengths (sym is) (put-lengths (worldOf b) (b .places .result) (replayOf b) ch (long b)),
     )
 
 cast-m : tie.Need-cast-m Inv-loop2 μ-loop2 Inv-loop μ-loop
@@ -201,34 +305,35 @@ loop2-again c =
     )
 
 cast-answers : tie.Need-cast-answers Inv-loop2 μ-loop2 Inv-loop μ-loop
-cast-answers c = let k = c .before .before .before .before .before .before .before .before .before .before .before .before .before .before .before .before .before .before .before .before .before .before .before .before .before .loop-test .taken in omega (arith, k, c .before .before .before .before .before .before .before .before .before .before .before .before .before .before .before .before .before .before .before .before .before .before .before .before .before .before .before .at-most .ensures)
+cast-answers c = let k = c .before .before .before .before .before .before .before .before .before .before .before .before .before .before .before .before .before .before .before .before .before .before .before .before .before .before .loop-test .taken in omega (arith, k, c .before .before .before .before .before .before .before .before .before .before .before .before .before .before .before .before .before .before .before .before .before .before .before .before .before .before .before .before .at-most .ensures)
 
 array-write-answers : tie.Need-array-write-answers Inv-loop2 μ-loop2 Inv-loop μ-loop
-array-write-answers c = let k = c .before .before .before .before .before .before .before .before .before .before .before .before .before .before .before .before .before .before .before .before .before .before .before .before .before .loop-test .taken in omega (arith, k, c .before .before .before .before .before .before .before .before .before .before .before .before .before .before .before .before .before .before .before .before .before .before .before .before .before .before .before .at-most .ensures)
+array-write-answers c = let k = c .before .before .before .before .before .before .before .before .before .before .before .before .before .before .before .before .before .before .before .before .before .before .before .before .before .before .loop-test .taken in omega (arith, k, c .before .before .before .before .before .before .before .before .before .before .before .before .before .before .before .before .before .before .before .before .before .before .before .before .before .before .before .before .at-most .ensures)
 
 add-k : tie.Need-add-k Inv-loop2 μ-loop2 Inv-loop μ-loop
-add-k c = let k = c .before .before .before .before .before .before .before .before .before .before .before .before .before .before .before .before .before .before .before .before .before .before .before .before .before .loop-test .taken in omega (arith, k, c .before .before .before .before .before .before .before .before .before .before .before .before .before .before .before .before .before .before .before .before .before .before .before .before .before .before .before .at-most .ensures)
+add-k c = let k = c .before .before .before .before .before .before .before .before .before .before .before .before .before .before .before .before .before .before .before .before .before .before .before .before .before .before .loop-test .taken in omega (arith, k, c .before .before .before .before .before .before .before .before .before .before .before .before .before .before .before .before .before .before .before .before .before .before .before .before .before .before .before .before .at-most .ensures)
 
 loop-less : tie.Need-loop-less Inv-loop2 μ-loop2 Inv-loop μ-loop
-loop-less c = let k = c .before .before .before .before .before .before .before .before .before .before .before .before .before .before .before .before .before .before .before .before .before .before .before .before .before .loop-test .taken in omega (arith, k)
+loop-less c = let k = c .before .before .before .before .before .before .before .before .before .before .before .before .before .before .before .before .before .before .before .before .before .before .before .before .before .before .loop-test .taken in omega (arith, k)
 
 loop-again : tie.Need-loop-again Inv-loop2 μ-loop2 Inv-loop μ-loop
 loop-again c =
     let z = c .before .before .loop2 in
-    let l = c .before .before .before .before .before .before .before .before .before .before .before .before .before .before .before .before .before .before .before .before .before .before .before .before .before .before .loop in
-    let k = c .before .before .before .before .before .before .before .before .before .before .before .before .before .before .before .before .before .before .before .before .before .before .before .before .before .loop-test .taken in
-    let n = c .before .before .before .before .before .before .before .before .before .before .before .before .before .before .before .before .before .before .before .before .before .before .before .before .before .before .before .at-most .ensures in
-    let b = c .before .before .before .before .before .before .before .before .before .before .before .before .before .before .before .before .before .before .before .before .before .before .before .before .before .before .before .before .args .t2 in
-    let hl = commands-length b _ (c .before .before .before .before .before .before .before .before .before .before .before .before .before .before .before .before .before .before .before .before .before .before .before .before .before .before .before .before .good .1 .0) in
-    let o = getD (b .commands) (l .k) (record { refused = 0; step = Setup 0 }) in
-    let at = c .before .before .before .before .before .before .before .before .before .before .before .before .before .before .before .before .before .before .before .before .before .places .result in
-    let there = here (c .before .before .before .before .before .before .before .before .before .before .before .before .before .before .before .before .before .before .before .before .before) in
-    let ch = c .before .before .before .before .before .before .before .before .before .before .before .before .change .result in
+    let p = c .before .before .before .before .before .before .before .before .before .before .before .before .before .before .before .before .before .before .before .before .before .before in
+    let l = c .before .before .before .before .before .before .before .before .before .before .before .before .before .before .before .before .before .before .before .before .before .before .before .before .before .before .before .loop in
+    let k = c .before .before .before .before .before .before .before .before .before .before .before .before .before .before .before .before .before .before .before .before .before .before .before .before .before .before .loop-test .taken in
+    let n = c .before .before .before .before .before .before .before .before .before .before .before .before .before .before .before .before .before .before .before .before .before .before .before .before .before .before .before .before .at-most .ensures in
+    let b = c .before .before .before .before .before .before .before .before .before .before .before .before .before .before .before .before .before .before .before .before .before .before .before .before .before .before .before .before .before .args .t2 in
+    let hl = commands-length b _ (c .before .before .before .before .before .before .before .before .before .before .before .before .before .before .before .before .before .before .before .before .before .before .before .before .before .before .before .before .before .good .1 .0) in
+    let o = commandOf p in
+    let at = p .places .result in
+    let from = p .before .before .message-at .ensures in
+    let ch = c .before .before .before .before .before .before .before .before .before .before .before .before .before .change .result in
     let message =
     ⊎-elim
-    (λ t. t .3 ∙ said-is (l .w) (l .inv .3) (o .step) at _ _ _ _ there (t .2 .ensures))
-    (λ t. t .1 ∙ not-asked (o .step) _ _ _ (sym (c .before .before .before .before .before .before .before .before .before .before .before .before .before .before .before .before .before .asks-log .ensures) ∙ t .0 .left))
-    (c .before .before .before .before .before .before .before .before .before .before .before .before .before .before .before .before .if1 .came) in
+    (λ t. t .3 ∙ said-is (l .w) (long p) (o .step) at _ _ _ _ (here p) (t .2 .ensures))
+    (λ t. t .1 ∙ not-asked (o .step) _ _ _ (sym (c .before .before .before .before .before .before .before .before .before .before .before .before .before .before .before .before .before .before .asks-log .ensures) ∙ t .0 .left))
+    (c .before .before .before .before .before .before .before .before .before .before .before .before .before .before .before .before .before .if1 .came) in
     let is =
     command-taken
     (l .w)
@@ -236,17 +341,19 @@ loop-again c =
     _
     _
     at
+    (replayOf p)
     _
     ch
     (z .i)
     (z .w)
-    (delivered-is (l .w) (l .inv .3) (o .step) (c .before .before .before .before .before .before .before .before .before .before .before .before .before .before .before .before .before .before .before .before .before .before .before .message-at .result) _ (c .before .before .before .before .before .before .before .before .before .before .before .before .before .before .before .before .before .before .before .before .before .before .before .message-at .ensures))
-    (c .before .before .before .before .before .before .before .before .before .before .before .before .before .before .before .before .before .before .before .before .before .places .ensures)
+    (delivered-is (l .w) (long p) (o .step) _ _ from)
+    (p .places .ensures)
     message
-    (parts-are (l .w) (l .inv .3) at _ _ _ _ there)
-    (c .before .before .before .before .before .before .before .before .before .before .before .before .change .ensures)
-    (omega (arith, z .inv .0, c .if3 .left))
-    (z .inv .1 ∙ ap (λ (v : World). sendToAll v (z .i) (copyOf (ch .message))) (stored-is (c .before .before .before .before)))
+    (parts-are (l .w) (long p) at _ _ _ _ (here p))
+    refl
+    (c .before .before .before .before .before .before .before .before .before .before .before .before .before .change .ensures)
+    (omega (arith, z .inv .0, c .if5 .left))
+    (z .inv .1 ∙ ap (λ (v : World). sendToAll v (z .i) (copyOf (ch .message))) (stored-is (c .before .before .before)))
     in (
       omega (arith, k),
       sym (world-turn (b .commands) (b .count) (l .k) (omega (arith, k, n)) (omega (arith, k, n, hl)) _ (l .w) (z .w) _ is) ∙ l .inv .1,
@@ -274,9 +381,9 @@ advance-spec =
     mul-o
     element-copy-out-o
     message-at-requires
-    cast-delivered
-    mul-delivered
-    element-copy-out-delivered
+    cast-from
+    mul-message
+    element-copy-out-message
     places-requires
     cast-c
     cast-h
@@ -286,10 +393,10 @@ advance-spec =
     mul-log
     element-copy-out-log
     said-requires
-    mul-t33
-    element-copy-out-t53
-    mul-t32
-    element-copy-out-t56
+    mul-t34
+    element-copy-out-t55
+    mul-t35
+    element-copy-out-t58
     change-requires
     mul-coordinator-2
     element-set-from-coordinator
@@ -297,11 +404,21 @@ advance-spec =
     element-set-from-slot
     mul-process
     element-set-from-process
+    mul-replay
+    element-copy-out-replay
+    mul-replay-2
+    element-set-from-replay
+    cast-next
     mul-log-2
     element-copy-out-log-2
-    fed-requires
-    mul-t63
+    replay-requires
+    mul-t72
     element-set-from-w
+    mul-log-3
+    element-copy-out-log-3
+    fed-requires
+    mul-t79
+    element-set-from-w-2
     loop2-holds
     cast-m
     mul-m

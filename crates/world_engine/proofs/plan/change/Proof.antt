@@ -2,7 +2,7 @@ use borrow.Author.Needs.{needs}
 use Prim.Native.Nat.{ℕ}
 use mathlib.Core.Path.{ap, sym, _∙_}
 use Rattle.model_steps.specs.Limits.{outsideStep}
-use Rattle.world_engine.proofs.ChangeLaws.{order-outside, order-planned, order-refused}
+use Rattle.world_engine.proofs.ChangeLaws.{command-outside, command-planned, command-refused}
 use Rattle.world_engine.proofs.plan.change.Statement.{statement}
 use Rattle.world_engine.proofs.plan.change.Tie as tie
 
@@ -10,7 +10,7 @@ without-messages-requires : tie.Need-without-messages-requires
 without-messages-requires c κs = search needs
 
 returns : tie.Need-returns
-returns c = let a = c .before .before .before .args in c .without-messages .ensures ∙ order-refused (a .o) (a .p) (c .before .if1 .taken)
+returns c = let a = c .before .before .before .args in c .without-messages .ensures ∙ command-refused (a .o) (a .p) (c .before .if1 .taken)
 
 counted-requires : tie.Need-counted-requires
 counted-requires c κs = search needs
@@ -25,7 +25,7 @@ returns-2 : tie.Need-returns-2
 returns-2 c =
     let a = c .before .before .before .before .before .before .args in
     c .without-messages2 .ensures
-    ∙ order-outside (a .o) (a .p) (c .before .before .before .before .if1 .left) (ap (λ (n : ℕ). outsideStep n (a .o .step)) (sym (c .before .before .before .counted .ensures)) ∙ sym (c .before .before .outside .ensures) ∙ c .before .if2 .taken)
+    ∙ command-outside (a .o) (a .p) (c .before .before .before .before .if1 .left) (ap (λ (n : ℕ). outsideStep n (a .o .step)) (sym (c .before .before .before .counted .ensures)) ∙ sym (c .before .before .outside .ensures) ∙ c .before .if2 .taken)
 
 plan-requires : tie.Need-plan-requires
 plan-requires c κs = search needs
@@ -34,7 +34,7 @@ returns-3 : tie.Need-returns-3
 returns-3 c =
     let a = c .before .before .before .before .before .before .args in
     c .plan .ensures
-    ∙ order-planned (a .o) (a .p) (c .before .before .before .before .if1 .left) (ap (λ (n : ℕ). outsideStep n (a .o .step)) (sym (c .before .before .before .counted .ensures)) ∙ sym (c .before .before .outside .ensures) ∙ c .before .if2 .left)
+    ∙ command-planned (a .o) (a .p) (c .before .before .before .before .if1 .left) (ap (λ (n : ℕ). outsideStep n (a .o .step)) (sym (c .before .before .before .counted .ensures)) ∙ sym (c .before .before .outside .ensures) ∙ c .before .if2 .left)
 
 pub change-spec : {M : Type 1} → statement M
 change-spec =

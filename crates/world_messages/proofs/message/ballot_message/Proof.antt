@@ -5,11 +5,8 @@ use Rattle.world_messages.proofs.message.ballot_message.Tie as tie
 no-entry-requires : tie.Need-no-entry-requires
 no-entry-requires c κs = search needs
 
-no-replay-requires : tie.Need-no-replay-requires
-no-replay-requires c κs = search needs
-
 returns : tie.Need-returns
-returns c = rw (c .no-replay .ensures, c .before .no-entry .ensures)
+returns c = rw (c .no-entry .ensures)
 
 pub ballot-message-spec : {M : Type 1} → statement M
-ballot-message-spec = tie.close (tie.spec no-entry-requires no-replay-requires returns)
+ballot-message-spec = tie.close (tie.spec no-entry-requires returns)

@@ -1,8 +1,7 @@
 use borrow.Author.Needs.{needs}
-use mathlib.Core.Path.{ap, ap₂, _∙_}
+use mathlib.Core.Path.{ap, _∙_}
 use Rattle.log_entry.specs.declared.Entry.{Entry}
 use Rattle.log_votes.specs.declared.Outcome.the-variants.{Open}
-use Rattle.log_core.specs.declared.Replay.{Replay}
 use Rattle.model_protocol.specs.Message.{directMessage}
 use Rattle.model_protocol.specs.declared.Kind.the-variants.{Restore}
 use Rattle.world_messages.proofs.message.restore_to.Statement.{statement}
@@ -15,7 +14,7 @@ direct-message-requires : tie.Need-direct-message-requires
 direct-message-requires c κs = search needs
 
 returns : tie.Need-returns
-returns c = let a = c .before .before .args in c .direct-message .ensures ∙ ap (λ (e : Entry). directMessage Restore (a .process) e 0 Open (a .store) (a .position) (a .replay)) (c .before .no-entry .ensures)
+returns c = let a = c .before .before .args in c .direct-message .ensures ∙ ap (λ (e : Entry). directMessage Restore (a .process) e 0 Open (a .store) (a .position)) (c .before .no-entry .ensures)
 
 pub restore-to-spec : {M : Type 1} → statement M
 restore-to-spec = tie.close (tie.spec no-entry-requires direct-message-requires returns)

@@ -1,8 +1,6 @@
 use borrow.Author.Needs.{needs}
-use mathlib.Core.Path.{ap, ap₂, _∙_}
+use mathlib.Core.Path.{ap, _∙_}
 use Rattle.log_entry.specs.declared.Entry.{Entry}
-use Rattle.log_votes.specs.declared.Outcome.the-variants.{Open}
-use Rattle.log_core.specs.declared.Replay.{Replay}
 use Rattle.model_protocol.specs.Message.{directMessage}
 use Rattle.model_protocol.specs.declared.Kind.the-variants.{Tell}
 use Rattle.world_messages.proofs.message.tell_to.Statement.{statement}
@@ -11,14 +9,11 @@ use Rattle.world_messages.proofs.message.tell_to.Tie as tie
 no-entry-requires : tie.Need-no-entry-requires
 no-entry-requires c κs = search needs
 
-no-replay-requires : tie.Need-no-replay-requires
-no-replay-requires c κs = search needs
-
 direct-message-requires : tie.Need-direct-message-requires
 direct-message-requires c κs = search needs
 
 returns : tie.Need-returns
-returns c = let a = c .before .before .before .args in c .direct-message .ensures ∙ ap₂ (λ (e : Entry) (r : Replay). directMessage Tell (a .process) e (a .tx) (a .outcome) 0 0 r) (c .before .before .no-entry .ensures) (c .before .no-replay .ensures)
+returns c = let a = c .before .before .args in c .direct-message .ensures ∙ ap (λ (e : Entry). directMessage Tell (a .process) e (a .tx) (a .outcome) 0 0) (c .before .no-entry .ensures)
 
 pub tell-to-spec : {M : Type 1} → statement M
-tell-to-spec = tie.close (tie.spec no-entry-requires no-replay-requires direct-message-requires returns)
+tell-to-spec = tie.close (tie.spec no-entry-requires direct-message-requires returns)

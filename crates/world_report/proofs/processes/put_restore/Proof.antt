@@ -16,12 +16,12 @@ same-length c = search needs
 returns : tie.Need-returns
 returns c =
     let a = c .before .before .before .args in
-    within-as (none-taken (a .proc) (a .p) (c .if1 .taken)) (within-nothing _ _ _)
+    within-as (none-taken (a .proc) (a .p) (a .replay) (c .if1 .taken)) (within-nothing _ _ _)
 
 returns-2 : tie.Need-returns-2
 returns-2 c =
-    let a = c .before .before .before .before .before .before .before .before .before .before .before .before .args in
-    within-as (one-taken (a .proc) (a .p) (c .before .before .before .before .before .before .before .before .before .if1 .left)) (within-more (c .before .before .before .before .before .before .restore-line .ensures) (c .before .before .put-replay .ensures))
+    let a = c .before .before .before .before .before .before .before .before .before .before .before .args in
+    within-as (one-taken (a .proc) (a .p) (a .replay) (c .before .before .before .before .before .before .before .before .if1 .left)) (within-more (c .before .before .before .before .before .before .restore-line .ensures) (c .before .before .put-replay .ensures))
 
 pub put-restore-spec : {M : Type 1} → statement M
 put-restore-spec =
