@@ -1,7 +1,7 @@
 -- What a tally says of the row that it is of, and of the row with one more vote.
-use Prim.Native.Nat.{ℕ, suc, zero, _%_, _*_, _<_, _^_}
+use Prim.Native.Nat.{ℕ, _%_, _*_, _<_, _^_}
 use mathlib.Core.Bool.{Bool, false, not, true, true≢false, _&&_, _||_}
-use mathlib.Core.List.{List, [], _∷_}
+use mathlib.Core.List.{List}
 use mathlib.Core.Path.{_≡_, ap, refl, sym, _∙_}
 use native.Mathlib.Nat.{mod-eq-of-lt, one-mul}
 use native.Mathlib.Omega.{arith}
@@ -22,7 +22,7 @@ use Rattle.log_votes.specs.Refusal.{anyClash, isClash}
 use Rattle.log_votes.specs.Row.{keeping, noVote, voteOfEntry, voteOfStore}
 use Rattle.log_votes.specs.Scan.{anyFrom}
 use Rattle.log_votes.proofs.CommitSetLaws.{commits-covered, sets-differ}
-use Rattle.log_votes.proofs.ScanLaws.{any-set}
+use Rattle.log_votes.proofs.ScanLaws.{any-set, any-with, or-same}
 use Rattle.log_votes.proofs.SetLaws.{set-has, set-same, set-with}
 
 abbrev isKeptVote : Vote → Bool
@@ -46,7 +46,7 @@ module _ (r : Row) (e : Entry) (here : e .store < length (r .votes)) (free : vot
   commits-with : e .commit ≡ true → bitOr (commitSet (r .votes)) (2 ^ e .store) ≡ commitSet (keeping r e .votes)
   commits-with h = set-with isCommitVote (r .votes) noVote (voteOfEntry e) (e .store) here refl no-commit h
 
-  commits-without : e .commit ≡ false → commitSet (r .votes) ≡ commitSet (keeping r e .votes)
+  pub commits-without : e .commit ≡ false → commitSet (r .votes) ≡ commitSet (keeping r e .votes)
   commits-without h = set-same isCommitVote (r .votes) noVote (voteOfEntry e) (e .store) here (no-commit ∙ sym h)
 
   module _ {t : Tally} (is : t ≡ tallyOf (r .votes)) {bit : ℕ} (one : bit ≡ 2 ^ e .store) where
@@ -79,64 +79,27 @@ module _ (votes : List Vote) {t : Tally} (is : t ≡ tallyOf votes) where
   pub no-abort : t .kept ≡ t .commits → anyAbort votes ≡ false
   no-abort h = abort-test ∙ ap not (eq-eqb (t .kept) (t .commits) h)
 
-or-same : (b : Bool) → (b || b) ≡ b
-or-same true = refl
-or-same false = refl
-
-or-both : (a b w : Bool) → (a || w) ≡ w → (b || w) ≡ w → (a || b || w) ≡ w
-or-both true b w h k = h
-or-both false b w h k = k
-
-or-turned : (b w : Bool) → (b || w) ≡ w → (w || b) ≡ w
-or-turned b true h = refl
-or-turned true false h = h
-or-turned false false h = refl
-
-or-left : (a b : Bool) → (a || b) ≡ false → a ≡ false
-or-left true b h = h
-or-left false b h = refl
-
-or-right : (a b : Bool) → (a || b) ≡ false → b ≡ false
-or-right true b h = absurd (true≢false h)
-or-right false b h = h
-
 -- beside a commit vote, votes with which it does not clash and of which none is an abort have its
 -- list, or are not kept
 module _ (e : Entry) (commit : e .commit ≡ true) (votes : List Vote) where
   abbrev whole : Bool
   whole = covered (e .participants) votes
 
-  one-vote : (v : Vote) (i : ℕ) → isAbort i v ≡ false → isClash e i v ≡ false → (isCovered votes i v || whole) ≡ whole
-  one-vote v i abort clash = split (v .kept) (v .commit) (eqb (v .participants) (e .participants)) refl abort (rw commit at clash)
+  one-vote : (i : ℕ) (v : Vote) → isClash e i v ≡ false → isAbort i v ≡ false → (isCovered votes i v || whole) ≡ whole
+  one-vote i v agrees keeps = split (v .kept) (v .commit) (eqb (v .participants) (e .participants)) refl keeps (rw commit at agrees)
     where
       split : (k c q : Bool) → eqb (v .participants) (e .participants) ≡ q → (k && not c) ≡ false → ((k && c) && not q) ≡ false
           → (k && covered (v .participants) votes || whole) ≡ whole
-      split false c q same abort clash = refl
-      split true false q same abort clash = absurd (true≢false abort)
-      split true true false same abort clash = absurd (true≢false clash)
-      split true true true same abort clash =
+      split false c q same keeps agrees = refl
+      split true false q same keeps agrees = absurd (true≢false keeps)
+      split true true false same keeps agrees = absurd (true≢false agrees)
+      split true true true same keeps agrees =
           ap (λ (list : ℕ). covered list votes || whole) (eqb-true (v .participants) (e .participants) same)
           ∙ or-same whole
 
-  all-votes : (vs : List Vote) (i : ℕ) → anyFrom isAbort i vs ≡ false → anyFrom (isClash e) i vs ≡ false → (anyFrom (isCovered votes) i vs || whole) ≡ whole
-  unfolding anyFrom
-  all-votes [] i abort clash = refl
-  all-votes (v ∷ vs) i abort clash =
-      or-both (isCovered votes i v) (anyFrom (isCovered votes) (suc i) vs) whole
-      (one-vote v i (or-left (isAbort i v) (anyFrom isAbort (suc i) vs) abort) (or-left (isClash e i v) (anyFrom (isClash e) (suc i) vs) clash))
-      (all-votes vs (suc i) (or-right (isAbort i v) (anyFrom isAbort (suc i) vs) abort) (or-right (isClash e i v) (anyFrom (isClash e) (suc i) vs) clash))
-
-  with-vote : (vs : List Vote) (s i : ℕ) → s < length vs → anyFrom isAbort i (set vs s (voteOfEntry e)) ≡ false → anyFrom (isClash e) i vs ≡ false
-      → anyFrom (isCovered votes) i (set vs s (voteOfEntry e)) ≡ whole
-  unfolding anyFrom
-  with-vote [] s i h abort clash = absurd (let z : ⊥ = omega arith in z)
-  with-vote (v ∷ vs) zero i h abort clash =
-      or-turned (anyFrom (isCovered votes) (suc i) vs) whole
-      (all-votes vs (suc i) (or-right (isAbort i (voteOfEntry e)) (anyFrom isAbort (suc i) vs) abort) (or-right (isClash e i v) (anyFrom (isClash e) (suc i) vs) clash))
-  with-vote (v ∷ vs) (suc s) i h abort clash =
-      ap (λ (b : Bool). isCovered votes i v || b)
-      (with-vote vs s (suc i) (omega arith) (or-right (isAbort i v) (anyFrom isAbort (suc i) (set vs s (voteOfEntry e))) abort) (or-right (isClash e i v) (anyFrom (isClash e) (suc i) vs) clash))
-      ∙ one-vote v i (or-left (isAbort i v) (anyFrom isAbort (suc i) (set vs s (voteOfEntry e))) abort) (or-left (isClash e i v) (anyFrom (isClash e) (suc i) vs) clash)
+  with-vote : (vs : List Vote) (s : ℕ) → s < length vs → anyClash e vs ≡ false → anyAbort (set vs s (voteOfEntry e)) ≡ false
+      → anyFrom (isCovered votes) 0 (set vs s (voteOfEntry e)) ≡ whole
+  with-vote vs s = any-with (isCovered votes) (isClash e) isAbort whole (voteOfEntry e) one-vote (λ i. refl) vs s 0
 
 -- the outcome with a vote that does not clash; t is the tally with it
 module _ (r : Row) (e : Entry) (here : e .store < length (r .votes)) {t : Tally} (is : t ≡ tallyOf (keeping r e .votes)) where
@@ -161,7 +124,7 @@ module _ (r : Row) (e : Entry) (here : e .store < length (r .votes)) {t : Tally}
     covered-with =
         ap (λ (t : Tally). within (e .participants) (t .commits)) is
         ∙ commits-covered (e .participants) (keeping r e .votes) (length-set (r .votes) (e .store) (voteOfEntry e) ∙ size) list
-        ∙ sym (with-vote e is-commit (keeping r e .votes) (r .votes) (e .store) 0 here (no-abort (keeping r e .votes) is all) agrees)
+        ∙ sym (with-vote e is-commit (keeping r e .votes) (r .votes) (e .store) here agrees (no-abort (keeping r e .votes) is all))
 
     pub commit-with : within (e .participants) (t .commits) ≡ true → Commit ≡ outcomeOfVotes (keeping r e .votes)
     unfolding outcomeOfVotes
