@@ -1,22 +1,17 @@
 // The log after the records that a host lends. Document 01, "Hosts in C".
-ghost use mathlib.Core.Bool.{cond, false};
+ghost use mathlib.Core.Bool.{cond};
 ghost use mathlib.Core.Path.{_≡_};
 ghost use Prim.Native.Nat.{_*_, _+_, _-_, _<_, _^_, _≤_};
 ghost use lib.ListN.{length};
 ghost use Rattle.log_entry.specs.Bits.{has};
-ghost use Rattle.log_entry.specs.Limits.{stores, transactions};
-ghost use Rattle.log_votes.specs.declared.Row.{Row};
-ghost use Rattle.log_votes.specs.Refusal.{anyClash};
-ghost use Rattle.log_votes.specs.Row.{emptyRow, inGroup, keeping, voteOfStore};
+ghost use Rattle.log_entry.specs.Limits.{transactions};
+ghost use Rattle.log_votes.specs.Row.{emptyRow};
 ghost use Rattle.host_records.specs.Record.{recordSize};
 ghost use Rattle.host_lent.specs.Lent.{lentLog, recordsEntered, refusalIn};
-ghost use Rattle.host_lent.specs.Summary.{IsOf, clashesWith, noSummary, summaryParts};
 use host_records::RECORD_SIZE;
 use host_records::Reading;
 use log_core::Log;
-use log_core::VoteParts;
 use log_core::refusal::take_refusal;
-use log_entry::Entry;
 use log_entry::limits::STORE_PLACES;
 use log_entry::limits::TRANSACTION_PLACES;
 use log_entry::refusal::ACCEPTED;
@@ -25,75 +20,13 @@ use log_entry::sets;
 use log_votes::Row;
 use log_votes::Tally;
 
+mod summaries;
+
 // A row in short: its tally, the list of its kept commit votes if there are any, and its group.
 pub struct Summary {
     pub tally: Tally,
     pub list: u8,
     pub group: u8,
-}
-
-impl Summary {
-    // That of the row without votes.
-    fn none() -> Summary
-        ensures { λ r. ⌜ r ≡ noSummary ⌝ }
-    {
-        let tally = Tally {
-            kept: 0,
-            commits: 0,
-        };
-        Summary {
-            tally: tally,
-            list: 0,
-            group: 0,
-        }
-    }
-
-    // Whether the vote clashes with the list of a kept commit vote.
-    fn clashes(self, e: Entry) -> bool
-        ensures { λ r. ⌜ r ≡ clashesWith self e ⌝ }
-    {
-        if self.tally.commits == 0 {
-            return false;
-        }
-        if e.commit {
-            return self.list != e.participants;
-        }
-        !sets::within8(e.participants, self.list)
-    }
-
-    // What a vote on the row is decided on.
-    fn parts(self, e: Entry, holder: u8, groups: u8, remembered: u32) -> VoteParts
-        ensures { λ r. ⌜ r ≡ summaryParts self e holder groups remembered ⌝ }
-    {
-        let tally = self.tally;
-        VoteParts {
-            tally: tally,
-            clash: self.clashes(e),
-            group: self.group,
-            holder: holder,
-            groups: groups,
-            remembered: remembered,
-        }
-    }
-
-    // That of the row with an accepted vote, in its group.
-    fn keeping(self, e: Entry, group: u8) -> Summary
-        ensures { λ s. ⌜ ((r : Row) → IsOf self r → e .store < stores → anyClash e (r .votes) ≡ false → voteOfStore (e .store) r .kept ≡ false → IsOf s (inGroup (keeping r e) group)) ⌝ }
-    {
-        let tally = self.tally.keeping(e);
-        if e.commit {
-            return Summary {
-                tally: tally,
-                list: e.participants,
-                group: group,
-            };
-        }
-        Summary {
-            tally: tally,
-            list: self.list,
-            group: group,
-        }
-    }
 }
 
 // The number of a refusal that was read.

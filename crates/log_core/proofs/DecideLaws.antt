@@ -39,10 +39,6 @@ module _ (p : Parts) (e : Entry) where
     unfolding refusal voteRefusal firstRefusal
     answer-vote vote = rw (inside, vote)
 
-and-false : (b : Bool) → (b && false) ≡ false
-and-false true = refl
-and-false false = refl
-
 -- what is committed does not run
 committed-rests : (o : Outcome) → isCommitted o ≡ true → isOpen o ≡ false
 committed-rests Open h = absurd (false≢true h)
@@ -62,8 +58,12 @@ module _ (p : Parts) (e : Entry) where
   unfolding effectOf
   effect-take n is take =
       ap (λ (m : ℕ). effect m (p .row .group) false false) is
-      ∙ split (keeps p e) (ap (λ (b : Bool). eqb (refusal p e) accepted && not b) take ∙ and-false (eqb (refusal p e) accepted))
+      ∙ split (keeps p e) (keeps-none (eqb (refusal p e) accepted) refl)
     where
+      keeps-none : (ok : Bool) → eqb (refusal p e) accepted ≡ ok → keeps p e ≡ false
+      keeps-none true h = rw (h, take)
+      keeps-none false h = rw h
+
       split : (k : Bool) → k ≡ false
           → effect (refusal p e) (p .row .group) false false
           ≡ effect (refusal p e) (cond k (groupAfter p e) (p .row .group)) (k && commits p e && not (joins p e)) (k && runsOn p e)
