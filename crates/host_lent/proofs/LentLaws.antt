@@ -1,27 +1,36 @@
 -- The log after lent records, record by record.
-use Prim.Native.Nat.{ℕ, zero, suc, _+_, _-_, _*_, _/_, _<_, _≤_}
+use Prim.Native.Nat.{ℕ, zero, suc, _%_, _+_, _-_, _*_, _/_, _<_, _^_, _≤_}
 use mathlib.Core.Bool.{Bool, cond, false, true}
 use mathlib.Core.List.{List}
-use mathlib.Core.Path.{_≡_, ap, refl, _∙_}
+use mathlib.Core.Path.{_≡_, ap, refl, sym, _∙_}
 use native.Mathlib.Nat.{suc-sub-suc, sub-zero}
 use native.Mathlib.Omega.{arith}
 use borrow.Author.Tests.{eq-eqb, le-ltb, lt-ltb, ne-eqb}
-use lib.ListN.{drop, length, take}
-use lib.Seq.{drop-drop}
+use lib.Bits.{bitOr}
+use lib.Dec.{eqb}
+use lib.ListN.{drop, getD, length, set, take}
+use lib.Seq.{drop-drop, getD-set-same}
 use Rattle.log_entry.specs.declared.Entry.{Entry}
+use Rattle.log_entry.specs.Entry.{outside}
+use Rattle.log_entry.specs.Limits.{transactions}
 use Rattle.log_entry.specs.Refusal.{accepted, outsideLimits}
-use Rattle.log_votes.specs.declared.Row.{Row}
-use Rattle.log_votes.specs.Row.{inGroup, keeping}
-use Rattle.log_core.proofs.EnterLaws.{stored-group, stored-row}
+use Rattle.log_votes.specs.Refusal.{anyClash}
+use Rattle.log_votes.specs.Row.{voteOfStore}
+use Rattle.log_votes.proofs.RefusalLaws.{accepted-vote}
+use Rattle.log_core.proofs.DecideLaws.{answer-vote}
+use Rattle.log_core.proofs.EnterLaws.{enter-accepted, enter-refused, enter-stored, holder-stored, refusalOf}
 use Rattle.log_core.specs.declared.Effect.{Effect}
 use Rattle.log_core.specs.declared.Entered.{Entered}
 use Rattle.log_core.specs.declared.Log.{Log}
 use Rattle.log_core.specs.Enter.{answered, enter, stored}
-use Rattle.log_core.specs.Group.{runningSet}
+use Rattle.log_core.specs.Decide.{effectOf, partsOf, refusal, votePartsOf}
+use Rattle.log_core.specs.Group.{remembered}
 use Rattle.host_records.specs.declared.Reading.{Reading}
 use Rattle.host_records.specs.declared.Reading.the-variants.{Of, Refused}
 use Rattle.host_records.specs.Record.{readRecord, recordSize}
-use Rattle.log_core.specs.Log.{emptyLog, rowOf, withGroup, withRow}
+use Rattle.log_core.specs.Log.{emptyLog, rowOf}
+use Rattle.host_lent.specs.declared.Summary.{Summary}
+use Rattle.host_lent.specs.Summary.{IsOf, summaryParts}
 use Rattle.host_lent.specs.Lent.{enterReading, lentLog, logAfter, recordsEntered, recordsIn}
 
 module _ (l : Log) {r : Reading} where
@@ -40,23 +49,58 @@ parts h = (ap (λ (t : Entered). t .log) h, ap (λ (t : Entered). t .answer) h)
 pub whole-of : {l : Log} {n : ℕ} {t : Entered} → l ≡ t .log → n ≡ t .answer → answered l n ≡ t
 whole-of h k = λ i. record { log = h i; answer = k i }
 
--- the effect of an accepted vote, stored at the place of its row; r is the row with the vote kept
-module _ (l : Log) (e : Entry) (f : Effect) (vote : e .take ≡ false) {at : ℕ} (place : at ≡ cond (e .take) 0 (e .tx)) where
-  pub own-place : at ≡ e .tx
-  own-place = place ∙ ap (λ (b : Bool). cond b 0 (e .tx)) vote
+-- a take that the log accepts, stored by a shifted one
+pub take-stored : (l : Log) (e : Entry) → e .take ≡ true → e .process < 16 → refusalOf l e ≡ accepted
+    → answered
+    (record {
+      rows = l .rows;
+      holders = set (l .holders) (e .store) (e .process);
+      takers = set (l .takers) (e .store) (bitOr (getD (l .takers) (e .store) 0) (1 * 2 ^ e .process % 65536));
+      groups = l .groups;
+      remembered = l .remembered;
+    })
+    accepted
+    ≡ enter l e
+take-stored l e take h ok =
+    ap (λ (m : Log). answered m accepted) (holder-stored l e (effectOf (partsOf l e) e) take h) ∙ enter-accepted l e ok
 
-  module _ {r : Row} (is : r ≡ keeping (rowOf l at) e) where
-    own-row : r ≡ keeping (rowOf l (e .tx)) e
-    own-row = is ∙ ap (λ (t : ℕ). keeping (rowOf l t) e) own-place
+-- what a vote is decided on, by the summary of its row
+pub vote-parts : (l : Log) (e : Entry) (s : Summary) (last : ℕ) → IsOf s (rowOf l (e .tx)) → last ≡ remembered l (l .groups)
+    → summaryParts s e (getD (l .holders) (e .by) 0) (l .groups) last ≡ votePartsOf (partsOf l e) e
+vote-parts l e s last is remembers = λ i. record {
+  tally = is .0 i;
+  clash = is .2 e i;
+  group = is .1 i;
+  holder = getD (l .holders) (e .by) 0;
+  groups = l .groups;
+  remembered = remembers i;
+}
 
-    pub row-stored : f .begins ≡ false → withRow l at (inGroup r (f .group)) ≡ stored l e f
-    row-stored h = ap (λ (t : ℕ). withRow l t (inGroup r (f .group))) own-place ∙ stored-row l e f vote own-row h
+-- a vote that was decided so
+module _ (l : Log) (e : Entry) (vote : e .take ≡ false) (f : Effect) (is : f ≡ effectOf (partsOf l e) e) where
+  place : e .tx ≡ cond (e .take) 0 (e .tx)
+  place = sym (ap (λ (b : Bool). cond b 0 (e .tx)) vote)
 
-    pub group-stored : f .begins ≡ true → (running : ℕ) → running ≡ runningSet (l .rows)
-        → withGroup (withRow l at (inGroup r (f .group))) (f .group) running ≡ stored l e f
-    group-stored h running runs =
-        ap (λ (t : ℕ). withGroup (withRow l t (inGroup r (f .group))) (f .group) running) own-place
-        ∙ stored-group l e f vote own-row h running runs
+  pub vote-refused : (f .answer ≡ accepted → ⊥) → answered l (f .answer) ≡ enter l e
+  vote-refused = enter-refused l e (e .tx) (remembered l (l .groups)) place refl f is
+
+  pub vote-stored : f .answer ≡ accepted → {m : Log} → m ≡ stored l e f → answered m accepted ≡ enter l e
+  vote-stored = enter-stored l e (e .tx) (remembered l (l .groups)) place refl f is
+
+  said : f .answer ≡ refusal (partsOf l e) e
+  unfolding effectOf
+  said = ap (λ (f : Effect). f .answer) is
+
+  pub vote-agrees : outside e ≡ false → f .answer ≡ accepted
+      → (anyClash e (rowOf l (e .tx) .votes) ≡ false) × (voteOfStore (e .store) (rowOf l (e .tx)) .kept ≡ false)
+  vote-agrees inside ok =
+      accepted-vote (rowOf l (e .tx)) (getD (l .holders) (e .by) 0) e (answer-vote (partsOf l e) e inside vote ∙ sym said ∙ ok)
+
+-- what the last group remembers, once it is begun
+pub last-begun : (all : List ℕ) → length all ≡ transactions → (g running : ℕ) → 0 < g → g ≤ transactions
+    → running ≡ cond (eqb g 0) 0 (getD (set all (g - 1) running) (g - 1) 0)
+last-begun all size g running h k =
+    rw (ne-eqb g 0 (λ z. omega (arith, h, z))) (sym (getD-set-same all (g - 1) running 0 (omega (arith, size, h, k))))
 
 module _ (bytes : List ℕ) (count : ℕ) where
   pub count-beyond : length bytes / recordSize < count → answered emptyLog outsideLimits ≡ lentLog bytes count

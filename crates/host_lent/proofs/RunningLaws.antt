@@ -1,7 +1,7 @@
 -- The set of the running transactions, kept up to date vote by vote.
-use Prim.Native.Nat.{ℕ, suc, zero, _%_, _*_, _+_, _-_, _<_, _^_, _≤_}
-use mathlib.Core.Bool.{Bool, cond, false, true, _||_}
-use mathlib.Core.List.{List, [], _∷_}
+use Prim.Native.Nat.{ℕ, _%_, _*_, _+_, _-_, _<_, _^_, _≤_}
+use mathlib.Core.Bool.{Bool, cond, false, true}
+use mathlib.Core.List.{List}
 use mathlib.Core.Path.{_≡_, ap, refl, sym, _∙_}
 use native.Mathlib.Nat.{mod-eq-of-lt, one-mul}
 use native.Mathlib.Omega.{arith}
@@ -11,10 +11,10 @@ use Rattle.log_entry.specs.declared.Entry.{Entry}
 use Rattle.log_entry.specs.Bits.{has}
 use Rattle.log_entry.specs.Limits.{transactions}
 use Rattle.log_votes.specs.declared.Row.{Row}
-use Rattle.log_votes.specs.declared.Vote.{Vote}
 use Rattle.log_votes.specs.Outcome.{isKept, isOpen, outcomeOfVotes, running}
 use Rattle.log_votes.specs.Row.{emptyRow, inGroup, keeping, noRow, voteOfEntry}
 use Rattle.log_votes.specs.Scan.{anyFrom, setOf}
+use Rattle.log_votes.proofs.ScanLaws.{any-set}
 use Rattle.log_votes.proofs.SetLaws.{set-changed, set-has, set-lt, set-of-none}
 use Rattle.log_core.specs.Group.{runningSet}
 
@@ -73,19 +73,8 @@ module _ (rows : List Row) (n : ℕ) (is : n ≡ runningSet rows) (size : length
         let whole : 2 ^ length (set rows t r) ≡ 2 ^ 32 = ap (λ (k : ℕ). 2 ^ k) same in
         omega (arith, set-after, bound, whole)
 
--- a vote that is kept is found
-any-kept : (votes : List Vote) (s i : ℕ) (v : Vote) → s < length votes → v .kept ≡ true → anyFrom isKept i (set votes s v) ≡ true
-unfolding anyFrom
-any-kept [] s i v h k = absurd (let z : ⊥ = omega arith in z)
-any-kept (x ∷ xs) zero i v h k = rw k
-any-kept (x ∷ xs) (suc s) i v h k = or-so (x .kept) (any-kept xs s (suc i) v (omega arith) k)
-  where
-    or-so : (b : Bool) {t : Bool} → t ≡ true → (b || t) ≡ true
-    or-so true is = refl
-    or-so false is = is
-
 -- the transaction of a vote that is kept runs if its outcome is open
 pub vote-runs : (r : Row) (e : Entry) (g : ℕ) → e .store < length (keeping r e .votes)
     → isOpen (outcomeOfVotes (keeping r e .votes)) ≡ running (inGroup (keeping r e) g)
 unfolding running
-vote-runs r e g h = rw (any-kept (r .votes) (e .store) 0 (voteOfEntry e) (rw length-set at h) refl)
+vote-runs r e g h = rw (any-set isKept (voteOfEntry e) (λ i. refl) (r .votes) (e .store) 0 (rw length-set at h))

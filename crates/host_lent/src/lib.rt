@@ -11,15 +11,23 @@ ghost use Rattle.host_lent.specs.Lent.{lentLog, recordsEntered, refusalI
 use host_records::RECORD_SIZE;
 use host_records::Reading;
 use log_core::Log;
-use log_core::Parts;
-use log_core::enter::row_place;
-use log_core::group::remembered_in;
+use log_core::refusal::take_refusal;
 use log_entry::limits::STORE_PLACES;
 use log_entry::limits::TRANSACTION_PLACES;
 use log_entry::refusal::ACCEPTED;
 use log_entry::refusal::OUTSIDE_LIMITS;
 use log_entry::sets;
 use log_votes::Row;
+use log_votes::Tally;
+
+mod summaries;
+
+// A row in short: its tally, the list of its kept commit votes if there are any, and its group.
+pub struct Summary {
+    pub tally: Tally,
+    pub list: u8,
+    pub group: u8,
+}
 
 // The number of a refusal that was read.
 fn refusal_in(reading: Reading) -> u8
@@ -51,71 +59,76 @@ fn noted(running: u32, tx: u8, runs: bool) -> u32
     running
 }
 
-// The log after records that are within the buffer, and the answer. Each effect is stored in place,
-// so that no record copies the log; `running` is the set of the running transactions, so that a
-// group that is begun need not look for them. The row without votes is a parameter, so that the
-// compiler copies it as one piece.
+// The log after records that are within the buffer, and the answer. The log is kept in its parts,
+// and each effect is stored in place, so that no record copies the log. What a record is decided on
+// is kept beside it: the rows in short, what the last group remembers, and `running`, the set of
+// the running transactions. The row without votes is a parameter, so that the compiler copies it as
+// one piece.
 fn entered(none: Row, lent: &[u8], count: usize, answer: &mut u8) -> Log
     requires { ⌜ none ≡ emptyRow ⌝ }
     requires { ⌜ count * recordSize ≤ length (now lent) ⌝ }
     ensures { λ r. ⌜ r ≡ recordsEntered (now (lent .entry)) count .log ⌝ }
     ensures { λ r. ⌜ now (answer .exit) ≡ recordsEntered (now (lent .entry)) count .answer ⌝ }
 {
-    let mut log = Log {
-        rows: [none; TRANSACTION_PLACES],
-        holders: [0; STORE_PLACES],
-        takers: [0; STORE_PLACES],
-        groups: 0,
-        remembered: [0; TRANSACTION_PLACES],
-    };
+    let mut rows = [none; TRANSACTION_PLACES];
+    let mut holders: [u8; STORE_PLACES] = [0; STORE_PLACES];
+    let mut takers: [u16; STORE_PLACES] = [0; STORE_PLACES];
+    let mut groups: u8 = 0;
+    let mut remembered: [u32; TRANSACTION_PLACES] = [0; TRANSACTION_PLACES];
+    let summary = Summary::none();
+    let mut summaries = [summary; TRANSACTION_PLACES];
+    let mut last: u32 = 0;
     let mut running: u32 = 0;
     let mut at: usize = 0;
     let mut left = count;
+    *answer = ACCEPTED;
     while 0 < left {
         let end = at + RECORD_SIZE;
         let reading = host_records::read(&lent[at..end]);
         let Reading::Of(e) = reading else {
             *answer = refusal_in(reading);
-            return log;
+            break;
         };
         at = end;
         left -= 1;
         let store = e.store as usize;
-        let tx = row_place(e);
-        let remembered = log.remembered;
-        let p = Parts {
-            row: log.rows[tx],
-            holders: log.holders,
-            takers: log.takers[store],
-            groups: log.groups,
-            remembered: remembered_in(remembered, log.groups),
-        };
-        let f = p.decide(e);
+        if e.take {
+            let refused = take_refusal(holders, takers[store], e);
+            if refused != ACCEPTED {
+                *answer = refused;
+                break;
+            }
+            holders[store] = e.process;
+            takers[store] = takers[store] | (1u16 << e.process);
+            continue;
+        }
+        let tx = e.tx as usize;
+        let old = summaries[tx];
+        let f = old.parts(e, holders[e.by as usize], groups, last).decide(e);
         if f.answer != ACCEPTED {
             *answer = f.answer;
-            return log;
+            break;
         }
-        if e.take {
-            log.holders[store] = e.process;
-            log.takers[store] = log.takers[store] | (1u16 << e.process);
-            continue;
-        }
-        let old = log.rows[tx];
-        let mut row = old.keeping(e);
+        summaries[tx] = old.keeping(e, f.group);
+        let mut row = rows[tx].keeping(e);
         row.group = f.group;
+        rows[tx] = row;
         let after = noted(running, e.tx, f.runs);
-        log.rows[tx] = row;
-        if !f.begins {
-            running = after;
-            continue;
+        if f.begins {
+            groups = f.group;
+            last = running;
+            let i = f.group - 1;
+            remembered[i as usize] = running;
         }
-        log.groups = f.group;
-        let i = f.group - 1;
-        log.remembered[i as usize] = running;
         running = after;
     }
-    *answer = ACCEPTED;
-    log
+    Log {
+        rows: rows,
+        holders: holders,
+        takers: takers,
+        groups: groups,
+        remembered: remembered,
+    }
 }
 
 // The log after the lent records, and the answer: the first refusal found, or that all were

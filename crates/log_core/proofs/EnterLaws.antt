@@ -158,12 +158,16 @@ module _ (l : Log) (e : Entry) (at last : ℕ) (place : at ≡ cond (e .take) 0 
   unfolding enter whole
   enter-stored ok h = ap (λ (m : Log). answered m accepted) (h ∙ stored-same) ∙ entered-accepted l e whole (sym answer-same ∙ ok)
 
+-- a refused entry
+pub enter-answered : (l : Log) (e : Entry) {n : ℕ} → n ≡ refusalOf l e → (n ≡ accepted → ⊥) → answered l n ≡ enter l e
+unfolding enter
+enter-answered l e is wrong =
+    let said = is ∙ sym (effect-answer (partsOf l e) e) in
+    ap (λ (n : ℕ). answered l n) said ∙ entered-refused l e (effectOf (partsOf l e) e) (λ k. wrong (said ∙ k))
+
 -- refused 2 whatever the log
 pub enter-outside : (l : Log) (e : Entry) → outside e ≡ true → answered l outsideLimits ≡ enter l e
-unfolding enter
-enter-outside l e h =
-    let said = effect-answer (partsOf l e) e ∙ outside-refused l e h in
-    ap (λ (n : ℕ). answered l n) (sym said) ∙ entered-refused l e (effectOf (partsOf l e) e) (λ k. let z : _≡_ {A = ℕ} 2 0 = sym said ∙ k in omega arith)
+enter-outside l e h = enter-answered l e (sym (outside-refused l e h)) (λ k. omega (arith, k))
 
 -- an accepted entry
 pub enter-accepted : (l : Log) (e : Entry) → refusalOf l e ≡ accepted → answered (stored l e (effectOf (partsOf l e) e)) accepted ≡ enter l e

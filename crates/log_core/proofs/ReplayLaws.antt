@@ -2,7 +2,7 @@
 use Prim.Native.Nat.{ℕ, suc, _+_, _-_, _<_, _≤_}
 use mathlib.Core.Bool.{false, true}
 use mathlib.Core.List.{List, [], _++_, _∷_}
-use mathlib.Core.Path.{_≡_, ap, refl, sym, _∙_}
+use mathlib.Core.Path.{_≡_, ap, refl, subst, sym, _∙_}
 use native.Mathlib.Numerals.{add-one}
 use native.Mathlib.Omega.{arith}
 use borrow.Author.Tests.{ne-eqb}
@@ -14,7 +14,7 @@ use Rattle.log_core.specs.declared.Replay.{Replay}
 use Rattle.log_core.specs.declared.Replayed.{Replayed}
 use Rattle.log_votes.specs.declared.Row.{Row}
 use Rattle.log_votes.specs.Row.{noRow, replays, voteOfStore}
-use Rattle.log_core.specs.Replay.{groupReplay, noReplayed, replayFrom, replayOf, replayRows}
+use Rattle.log_core.specs.Replay.{groupReplay, noReplay, noReplayed, replayFrom, replayOf, replayRows}
 
 -- a row of another group is not replayed
 pub other-group : (store g : ℕ) (r : Row) → (r .group ≡ g → ⊥) → replays store g r ≡ false
@@ -61,8 +61,13 @@ pub record Filled (l : Log) (store : ℕ) (out : Replay) (rest : List Replayed) 
   pub counted : out .count + length rest ≡ length (replayRows l store)
 
 module _ (l : Log) (store : ℕ) where
-  pub filled-start : Filled l store (record { count = 0; rows = replicate transactions noReplayed }) (replayRows l store)
-  filled-start = record { stored = refl; counted = omega arith }
+  pub filled-start : (out : Replay) → out ≡ noReplay → Filled l store out (replayRows l store)
+  filled-start out is = subst (λ (o : Replay). Filled l store o (replayRows l store)) (sym is) (record { stored = refl; counted = omega arith })
+
+  -- without a group there are no rows
+  pub no-groups : l .groups ≡ 0 → noReplay ≡ replayOf l store
+  unfolding replayOf replayFrom
+  no-groups h = rw h
 
   pub filled-same : (out : Replay) (rest rest′ : List Replayed) → rest ≡ rest′ → Filled l store out rest → Filled l store out rest′
   filled-same out rest rest′ e f = rw e at f

@@ -9,12 +9,13 @@ use Rattle.log_entry.specs.declared.Entry.{Entry}
 use Rattle.log_entry.specs.Bits.{has}
 use Rattle.log_entry.specs.Entry.{outside}
 use Rattle.log_entry.specs.Refusal.{accepted, check, firstRefusal, outsideLimits}
-use Rattle.log_votes.specs.Outcome.{isCommitted, isOpen, outcomeOfVotes}
-use Rattle.log_votes.specs.Refusal.{voteChecks}
+use Rattle.log_votes.specs.Outcome.{isCommitted, isOpen, outcomeOfVotes, tallyOf}
+use Rattle.log_votes.specs.Refusal.{anyClash, voteChecks}
 use Rattle.log_votes.specs.Row.{keeping}
 use Rattle.log_core.specs.declared.Effect.{Effect}
 use Rattle.log_core.specs.declared.Log.{Log}
 use Rattle.log_core.specs.declared.Parts.{Parts}
+use Rattle.log_core.specs.declared.VoteParts.{VoteParts}
 use Rattle.log_core.specs.Group.{nextGroup, remembered}
 use Rattle.log_core.specs.Log.{rowOf}
 use Rattle.log_core.specs.Refusal.{takeChecks}
@@ -35,6 +36,17 @@ refusal p e =
     firstRefusal
     (check outsideLimits (outside e)
     ∷ cond (e .take) (takeChecks (p .holders) (p .takers) e) (voteChecks (p .row) (getD (p .holders) (e .by) 0) e))
+
+-- what of the parts a vote is decided on
+abbrev pub votePartsOf : Parts → Entry → VoteParts
+votePartsOf p e = record {
+  tally = tallyOf (p .row .votes);
+  clash = anyClash e (p .row .votes);
+  group = p .row .group;
+  holder = getD (p .holders) (e .by) 0;
+  groups = p .groups;
+  remembered = p .remembered;
+}
 
 -- "An accepted vote is kept for good."
 abbrev pub keeps : Parts → Entry → Bool

@@ -16,6 +16,10 @@ use Rattle.log_votes.specs.Row.{replays, voteOfStore}
 abbrev pub noReplayed : Replayed
 noReplayed = record { group = 0; tx = 0; update = 0 }
 
+-- the replay without rows
+abbrev pub noReplay : Replay
+noReplay = record { count = 0; rows = replicate transactions noReplayed }
+
 -- the group's part of the replay, the first row being transaction tx
 unfoldable pub groupReplay : ℕ → ℕ → ℕ → List Row → List Replayed
 groupReplay store g tx [] = []

@@ -1,13 +1,18 @@
 // An entry decided on the few parts of the log that it concerns.
+ghost use mathlib.Core.Bool.{false};
 ghost use mathlib.Core.Path.{_≡_};
-ghost use Rattle.log_core.specs.Decide.{effectOf, refusal};
+ghost use lib.ListN.{length};
+ghost use Rattle.log_entry.specs.Entry.{outside};
+ghost use Rattle.log_entry.specs.Limits.{stores};
+ghost use Rattle.log_core.specs.declared.Parts.{Parts};
+ghost use Rattle.log_core.specs.Decide.{effectOf, refusal, votePartsOf};
 use crate::Effect;
 use crate::Parts;
+use crate::VoteParts;
 use crate::group::next_group;
-use crate::refusal::holds_or_held;
+use crate::refusal::take_refusal;
 use log_entry::Entry;
 use log_entry::refusal::ACCEPTED;
-use log_entry::refusal::HOLDS_OR_HELD;
 use log_entry::refusal::OUTSIDE_LIMITS;
 use log_entry::sets;
 
@@ -21,10 +26,7 @@ impl Parts {
         }
         let holders = self.holders;
         if e.take {
-            if holds_or_held(holders, self.takers, e.process) {
-                return HOLDS_OR_HELD;
-            }
-            return ACCEPTED;
+            return take_refusal(holders, self.takers, e);
         }
         self.row.vote_refusal(holders[e.by as usize], e)
     }
@@ -33,9 +35,46 @@ impl Parts {
     pub fn decide(self, e: Entry) -> Effect
         ensures { λ r. ⌜ r ≡ effectOf self e ⌝ }
     {
-        let answer = self.refusal(e);
         let row = self.row;
         let group = row.group;
+        if e.outside() {
+            return Effect {
+                answer: OUTSIDE_LIMITS,
+                group: group,
+                begins: false,
+                runs: false,
+            };
+        }
+        let holders = self.holders;
+        if e.take {
+            return Effect {
+                answer: take_refusal(holders, self.takers, e),
+                group: group,
+                begins: false,
+                runs: false,
+            };
+        }
+        let p = VoteParts {
+            tally: row.tally(),
+            clash: row.any_clash(e),
+            group: group,
+            holder: holders[e.by as usize],
+            groups: self.groups,
+            remembered: self.remembered,
+        };
+        p.decide(e)
+    }
+}
+
+impl VoteParts {
+    // What a vote within its limits is answered, and what it changes: on all parts of which these
+    // are.
+    pub fn decide(self, e: Entry) -> Effect
+        ensures { λ r. ⌜ ((p : Parts) → self ≡ votePartsOf p e → length (p .row .votes) ≡ stores → outside e ≡ false → e .take ≡ false → r ≡ effectOf p e) ⌝ }
+    {
+        let tally = self.tally;
+        let group = self.group;
+        let answer = tally.refusal(self.clash, self.holder, e);
         if answer != ACCEPTED {
             return Effect {
                 answer: answer,
@@ -44,15 +83,7 @@ impl Parts {
                 runs: false,
             };
         }
-        if e.take {
-            return Effect {
-                answer: ACCEPTED,
-                group: group,
-                begins: false,
-                runs: false,
-            };
-        }
-        let o = row.keeping(e).outcome();
+        let o = tally.outcome_with(e);
         if !o.is_commit() {
             return Effect {
                 answer: ACCEPTED,

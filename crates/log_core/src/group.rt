@@ -8,12 +8,7 @@ ghost use Rattle.log_core.specs.Group.{nextGroup, runningSet};
 use crate::Log;
 use log_entry::limits::TRANSACTION_PLACES;
 use log_entry::limits::TRANSACTIONS;
-
-fn digit(b: bool) -> u32
-    ensures { λ r. ⌜ r ≡ cond b 1 0 ⌝ }
-{
-    if b { 1 } else { 0 }
-}
+use log_votes::digit;
 
 // What the group remembers, of what all groups remember.
 pub fn remembered_in(all: [u32; TRANSACTION_PLACES], g: u8) -> u32
@@ -52,7 +47,7 @@ impl Log {
         let mut t: usize = TRANSACTION_PLACES;
         while 0 < t {
             let row = self.rows[t - 1];
-            set = digit(row.running()) + 2 * set;
+            set = digit(row.running()) as u32 + 2 * set;
             t -= 1;
         }
         set

@@ -4,6 +4,7 @@ ghost use Rattle.log_core.specs.Log.{emptyLog};
 use log_entry::limits::STORE_PLACES;
 use log_entry::limits::TRANSACTION_PLACES;
 use log_votes::Row;
+use log_votes::Tally;
 
 pub mod decide;
 pub mod enter;
@@ -37,6 +38,20 @@ pub struct Parts {
     // How many groups were begun.
     pub groups: u8,
     // What the last group remembers.
+    pub remembered: u32,
+}
+
+// What of the parts a vote is decided on.
+pub struct VoteParts {
+    // Of its transaction's row.
+    pub tally: Tally,
+    // Whether it clashes with the list of a kept commit vote.
+    pub clash: bool,
+    // Its transaction's.
+    pub group: u8,
+    // Who holds the store in `by`.
+    pub holder: u8,
+    pub groups: u8,
     pub remembered: u32,
 }
 

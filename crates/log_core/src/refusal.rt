@@ -2,8 +2,12 @@
 ghost use mathlib.Core.Path.{_≡_};
 ghost use mathlib.Core.Bool.{_||_};
 ghost use Rattle.log_entry.specs.Bits.{has};
-ghost use Rattle.log_core.specs.Refusal.{holdsAny};
+ghost use Rattle.log_entry.specs.Refusal.{firstRefusal};
+ghost use Rattle.log_core.specs.Refusal.{holdsAny, takeChecks};
+use log_entry::Entry;
 use log_entry::limits::STORE_PLACES;
+use log_entry::refusal::ACCEPTED;
+use log_entry::refusal::HOLDS_OR_HELD;
 use log_entry::sets;
 
 // Whether the process holds some store, or is in the set of those that took this one.
@@ -18,4 +22,14 @@ pub fn holds_or_held(holders: [u8; STORE_PLACES], takers: u16, process: u8) -> b
         i += 1;
     }
     sets::has16(takers, process)
+}
+
+// The answer to a take within its limits.
+pub fn take_refusal(holders: [u8; STORE_PLACES], takers: u16, e: Entry) -> u8
+    ensures { λ r. ⌜ r ≡ firstRefusal (takeChecks holders takers e) ⌝ }
+{
+    if holds_or_held(holders, takers, e.process) {
+        return HOLDS_OR_HELD;
+    }
+    ACCEPTED
 }

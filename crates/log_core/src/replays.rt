@@ -1,6 +1,6 @@
 // The replay of a store.
 ghost use mathlib.Core.Path.{_≡_};
-ghost use Rattle.log_core.specs.Replay.{replayOf};
+ghost use Rattle.log_core.specs.Replay.{noReplay, replayOf};
 use crate::Log;
 use crate::Replay;
 use crate::Replayed;
@@ -8,18 +8,11 @@ use log_entry::limits::TRANSACTION_PLACES;
 use log_entry::limits::TRANSACTIONS;
 
 impl Log {
-    pub fn replay(self, store: u8) -> Replay
+    // The replay, put into an empty one.
+    fn replay_into(self, store: u8, mut out: Replay) -> Replay
+        requires { ⌜ out ≡ noReplay ⌝ }
         ensures { λ r. ⌜ r ≡ replayOf self store ⌝ }
     {
-        let none = Replayed {
-            group: 0,
-            tx: 0,
-            update: 0,
-        };
-        let mut out = Replay {
-            count: 0,
-            rows: [none; TRANSACTION_PLACES],
-        };
         let groups = self.groups;
         let mut g: u8 = 0;
         while g < groups {
@@ -45,5 +38,24 @@ impl Log {
             }
         }
         out
+    }
+
+    // Without a group there is nothing to replay, and the log need not be looked at.
+    pub fn replay(self, store: u8) -> Replay
+        ensures { λ r. ⌜ r ≡ replayOf self store ⌝ }
+    {
+        let none = Replayed {
+            group: 0,
+            tx: 0,
+            update: 0,
+        };
+        let empty = Replay {
+            count: 0,
+            rows: [none; TRANSACTION_PLACES],
+        };
+        if self.groups == 0 {
+            return empty;
+        }
+        self.replay_into(store, empty)
     }
 }

@@ -1,8 +1,10 @@
 -- The answer to a vote, by the tests that lead to it.
 use Prim.Native.Nat.{ℕ}
-use mathlib.Core.Bool.{Bool, cond, false, false≢true, true, true≢false}
+use mathlib.Core.Bool.{Bool, cond, false, false≢true, not, true, true≢false}
 use mathlib.Core.Path.{_≡_, refl}
+use native.Mathlib.Omega.{arith}
 use borrow.Author.Tests.{eq-eqb, ne-eqb}
+use lib.Dec.{eqb}
 use Rattle.log_entry.specs.declared.Entry.{Entry}
 use Rattle.log_entry.specs.Entry.{illFormed}
 use Rattle.log_entry.specs.Refusal.{accepted, firstRefusal, illFormedVote, keptAlready, notHolder, otherList}
@@ -41,3 +43,15 @@ module _ (r : Row) (holder : ℕ) (e : Entry) where
         pub vote-accepted : voteOfStore (e .store) r .kept ≡ false → accepted ≡ voteRefusal r holder e
         unfolding voteRefusal firstRefusal
         vote-accepted h = rw (formed, eq-eqb holder (e .process) holds, agrees, h)
+
+  -- an accepted vote clashes with no kept commit vote, and its store's vote is not kept
+  pub accepted-vote : voteRefusal r holder e ≡ accepted → (anyClash e (r .votes) ≡ false) × (voteOfStore (e .store) r .kept ≡ false)
+  unfolding voteRefusal firstRefusal
+  accepted-vote h = split (illFormed e) (not (eqb holder (e .process))) (anyClash e (r .votes)) (voteOfStore (e .store) r .kept) h
+    where
+      split : (a b c d : Bool) → cond a illFormedVote (cond b notHolder (cond c otherList (cond d keptAlready accepted))) ≡ accepted → (c ≡ false) × (d ≡ false)
+      split true b c d h = absurd (let z : ⊥ = omega (arith, h) in z)
+      split false true c d h = absurd (let z : ⊥ = omega (arith, h) in z)
+      split false false true d h = absurd (let z : ⊥ = omega (arith, h) in z)
+      split false false false true h = absurd (let z : ⊥ = omega (arith, h) in z)
+      split false false false false h = (refl, refl)

@@ -1,11 +1,12 @@
 -- The set of the indices whose elements pass a test, built from the last element to the first.
-use Prim.Native.Nat.{ℕ, suc, zero, _%_, _*_, _+_, _-_, _/_, _<_, _^_, _≤_}
+use Prim.Native.Nat.{ℕ, max, suc, zero, _%_, _*_, _+_, _-_, _/_, _<_, _^_, _≤_}
 use mathlib.Core.Bool.{Bool, cond, false, not, true, _||_}
 use mathlib.Core.List.{List, [], _∷_}
-use mathlib.Core.Path.{_≡_, ap, refl, sym, _∙_}
+use mathlib.Core.Path.{_≡_, ap, ap₂, refl, sym, _∙_}
 use native.Mathlib.Nat.{lt-of-lt-of-le, pow-suc, zero-div}
 use native.Mathlib.Omega.{arith}
 use borrow.Author.Tests.{eq-eqb, eqb-false, eqb-true, ne-eqb}
+use lib.Bits.{bitOr, or-step, or-zero-r}
 use lib.Dec.{eqb}
 use lib.ListN.{drop, drop-of-length-le, getD, length, length-drop, replicate, set}
 use lib.Pow.{pow-mono, shr-shr}
@@ -41,6 +42,22 @@ high-bits b n k = ap (λ (x : ℕ). eqb (x % 2) 1) (sym (shift (cond b 1 0 + 2 *
     half : (b : Bool) → (cond b 1 0 + 2 * n) / 2 ≡ n
     half true = omega arith
     half false = omega arith
+
+-- a bit that is not in the set, put in
+with-bit : (i n : ℕ) → has n i ≡ false → bitOr n (2 ^ i) ≡ n + 2 ^ i
+with-bit zero n h =
+    let low : n / 1 % 2 ≡ 1 → ⊥ = eqb-false (n / 1 % 2) 1 h in
+    let even : n % 2 ≡ 0 = omega (arith, low) in
+    or-step n 1 ∙ ap (λ (k : ℕ). k * 2 + max (n % 2) 1) (or-zero-r (n / 2)) ∙ omega (arith, even)
+with-bit (suc i) n h =
+    let down : has (n / 2) i ≡ false = ap (λ (k : ℕ). eqb (k % 2) 1) (shr-shr n 1 i ∙ ap (λ (j : ℕ). n / 2 ^ j) (omega arith)) ∙ h in
+    let twice : 2 ^ suc i ≡ 2 * 2 ^ i = omega (arith, pow-suc 2 i) in
+    let half : 2 ^ suc i / 2 ≡ 2 ^ i = omega (arith, twice) in
+    let none : 2 ^ suc i % 2 ≡ 0 = omega (arith, twice) in
+    or-step n (2 ^ suc i)
+    ∙ ap₂ (λ (k d : ℕ). bitOr (n / 2) k * 2 + max (n % 2) d) half none
+    ∙ ap (λ (k : ℕ). k * 2 + max (n % 2) 0) (with-bit i (n / 2) down)
+    ∙ omega (arith, twice)
 
 -- a digit one place up
 weight : (b : Bool) (i : ℕ) → cond b (2 ^ suc i) 0 ≡ 2 * cond b (2 ^ i) 0
@@ -97,6 +114,11 @@ module _ {A : Type 0} (f : A → Bool) where
   set-changed (y ∷ ys) d x (suc i) h =
       omega (arith, set-changed ys d x i (omega arith), weight (f (getD ys i d)) i, weight (f x) i)
 
+  -- the same set after an element is changed for one that passes as it did
+  pub set-same : (xs : List A) (d x : A) (i : ℕ) → i < length xs → f (getD xs i d) ≡ f x → setOf f xs ≡ setOf f (set xs i x)
+  set-same xs d x i h same =
+      omega (arith, set-changed xs d x i h, ap (λ (b : Bool). cond b (2 ^ i) 0) same)
+
   -- an index is in the set exactly if its element passes
   pub set-has : (xs : List A) (d : A) → f d ≡ false → (i : ℕ) → has (setOf f xs) i ≡ f (getD xs i d)
   unfolding setOf
@@ -108,3 +130,10 @@ module _ {A : Type 0} (f : A → Bool) where
   unfolding setOf
   set-of-none x h zero = refl
   set-of-none x h (suc n) = rw (h, set-of-none x h n)
+
+  -- the set with an index whose element passes after a change
+  pub set-with : (xs : List A) (d x : A) (i : ℕ) → i < length xs → f d ≡ false → f (getD xs i d) ≡ false → f x ≡ true → bitOr (setOf f xs) (2 ^ i) ≡ setOf f (set xs i x)
+  set-with xs d x i h none old new =
+      let bit : cond (f x) (2 ^ i) 0 ≡ 2 ^ i = ap (λ (b : Bool). cond b (2 ^ i) 0) new in
+      let no-bit : cond (f (getD xs i d)) (2 ^ i) 0 ≡ 0 = ap (λ (b : Bool). cond b (2 ^ i) 0) old in
+      with-bit i (setOf f xs) (set-has xs d none i ∙ old) ∙ omega (arith, set-changed xs d x i h, bit, no-bit)

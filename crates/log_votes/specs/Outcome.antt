@@ -5,6 +5,7 @@ use mathlib.Core.Bool.{Bool, true, false, _&&_, _||_, not, cond}
 use mathlib.Core.List.{List}
 use Rattle.log_entry.specs.Bits.{has}
 use Rattle.log_votes.specs.declared.Row.{Row}
+use Rattle.log_votes.specs.declared.Tally.{Tally}
 use Rattle.log_votes.specs.declared.Vote.{Vote}
 use Rattle.log_votes.specs.declared.Outcome.{Outcome}
 use Rattle.log_votes.specs.declared.Outcome.the-variants.{Open, Commit, Abort}
@@ -26,6 +27,10 @@ keptSet votes = setOf (λ (v : Vote). v .kept) votes
 -- the stores with kept commit votes, bit s for store s
 abbrev pub commitSet : List Vote → ℕ
 commitSet votes = setOf (λ (v : Vote). v .kept && v .commit) votes
+
+-- the stores with kept votes and those with kept commit votes
+abbrev pub tallyOf : List Vote → Tally
+tallyOf votes = record { kept = keptSet votes; commits = commitSet votes }
 
 -- store s is not in the list, or its vote v is a kept commit vote
 abbrev pub meets : ℕ → ℕ → Vote → Bool

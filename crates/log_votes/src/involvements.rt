@@ -27,7 +27,7 @@ impl Row {
         if self.any_listing(store) {
             return Involvement::Yes;
         }
-        if self.commit_set() != 0 {
+        if self.tally().commits != 0 {
             return Involvement::No;
         }
         Involvement::Unknown

@@ -1,4 +1,5 @@
 // One transaction: its row of votes, by store, and what they come to.
+ghost use mathlib.Core.Bool.{cond};
 ghost use mathlib.Core.Path.{_≡_};
 ghost use Rattle.log_votes.specs.Row.{emptyRow, keeping, noVote, voteOfStore};
 use log_entry::Entry;
@@ -9,6 +10,7 @@ mod involvements;
 mod outcomes;
 mod refusal;
 mod replayed;
+mod tallies;
 mod votes;
 
 // A store's vote on a transaction, all that it said.
@@ -27,6 +29,13 @@ pub struct Row {
     pub group: u8,
 }
 
+// The stores whose votes on a transaction are kept, and those whose commit votes are, bit s for
+// store s.
+pub struct Tally {
+    pub kept: u8,
+    pub commits: u8,
+}
+
 pub enum Outcome {
     Open,
     Commit,
@@ -37,6 +46,13 @@ pub enum Involvement {
     No,
     Yes,
     Unknown,
+}
+
+// The lowest digit of a set: whether 0 is in it.
+pub fn digit(b: bool) -> u8
+    ensures { λ r. ⌜ r ≡ cond b 1 0 ⌝ }
+{
+    if b { 1 } else { 0 }
 }
 
 impl Vote {

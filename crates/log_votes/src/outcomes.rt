@@ -1,52 +1,17 @@
 // What a transaction's votes come to.
 ghost use mathlib.Core.Path.{_≡_};
-ghost use mathlib.Core.Bool.{cond};
-ghost use Rattle.log_votes.specs.Outcome.{anyCovered, commitSet, isCommitted, isKept, isOpen, keptSet, outcomeNumber, outcomeOfVotes, running};
+ghost use Rattle.log_votes.specs.Outcome.{anyCovered, commitSet, isCommitted, isKept, isOpen, outcomeNumber, outcomeOfVotes, running};
 ghost use Rattle.log_votes.specs.Scan.{anyFrom};
 use crate::Outcome;
 use crate::Row;
 use log_entry::limits::STORE_PLACES;
 
-fn digit(b: bool) -> u8
-    ensures { λ r. ⌜ r ≡ cond b 1 0 ⌝ }
-{
-    if b { 1 } else { 0 }
-}
-
 impl Row {
-    // The stores with kept votes, bit s for store s.
-    pub fn kept_set(self) -> u8
-        ensures { λ r. ⌜ r ≡ keptSet (self .votes) ⌝ }
-    {
-        let mut set: u8 = 0;
-        let mut i: usize = STORE_PLACES;
-        while 0 < i {
-            let v = self.votes[i - 1];
-            set = digit(v.kept) + 2 * set;
-            i -= 1;
-        }
-        set
-    }
-
-    // The stores with kept commit votes, bit s for store s.
-    pub fn commit_set(self) -> u8
-        ensures { λ r. ⌜ r ≡ commitSet (self .votes) ⌝ }
-    {
-        let mut set: u8 = 0;
-        let mut i: usize = STORE_PLACES;
-        while 0 < i {
-            let v = self.votes[i - 1];
-            set = digit(v.is_commit()) + 2 * set;
-            i -= 1;
-        }
-        set
-    }
-
     // Whether any vote is kept.
     pub fn any_kept(self) -> bool
         ensures { λ r. ⌜ r ≡ anyFrom isKept 0 (self .votes) ⌝ }
     {
-        self.kept_set() != 0
+        self.tally().kept != 0
     }
 
     // Whether all stores of a kept vote's list are among those with kept commit votes.
@@ -69,11 +34,11 @@ impl Row {
     pub fn outcome(self) -> Outcome
         ensures { λ r. ⌜ r ≡ outcomeOfVotes (self .votes) ⌝ }
     {
-        let commits = self.commit_set();
-        if self.kept_set() != commits {
+        let t = self.tally();
+        if t.kept != t.commits {
             return Outcome::Abort;
         }
-        if self.any_covered(commits) {
+        if self.any_covered(t.commits) {
             return Outcome::Commit;
         }
         Outcome::Open

@@ -4,7 +4,6 @@ ghost use Rattle.log_votes.specs.Refusal.{anyClash, voteRefusal};
 use crate::Row;
 use log_entry::Entry;
 use log_entry::limits::STORE_PLACES;
-use log_entry::refusal;
 
 impl Row {
     // Whether the vote clashes with the list of a kept commit vote.
@@ -27,18 +26,6 @@ impl Row {
     pub fn vote_refusal(self, holder: u8, e: Entry) -> u8
         ensures { λ r. ⌜ r ≡ voteRefusal self holder e ⌝ }
     {
-        if e.ill_formed() {
-            return refusal::ILL_FORMED_VOTE;
-        }
-        if holder != e.process {
-            return refusal::NOT_HOLDER;
-        }
-        if self.any_clash(e) {
-            return refusal::OTHER_LIST;
-        }
-        if self.vote_of(e.store).kept {
-            return refusal::KEPT_ALREADY;
-        }
-        refusal::ACCEPTED
+        self.tally().refusal(self.any_clash(e), holder, e)
     }
 }

@@ -1,23 +1,15 @@
 -- The texts of an array's elements: which value is read outside the array does not matter.
 use Prim.Native.Nat.{ℕ, suc, _<_, _+_}
 use native.Mathlib.Numerals.{add-one}
-use mathlib.Core.List.{List, _++_}
+use mathlib.Core.List.{List}
 use mathlib.Core.Path.{_≡_, _∙_, ap}
 use lib.ListN.{getD, length}
 use Rattle.log_votes.proofs.InList.{in-list}
-use Rattle.text_report.specs.Report.{each}
-use Rattle.text_report.proofs.Lengths.{each-more}
 
 -- where they are numbered from 1
 module _ {A : Type 0} (text : ℕ → A → List ℕ) (xs : List A) (i : ℕ) (d e : A) where
   pub element-from-1 : i + 1 < length xs → text (i + 1) (getD xs (i + 1) d) ≡ text (suc i) (getD xs (suc i) e)
   element-from-1 h = ap (text (i + 1)) (in-list xs (i + 1) d e h) ∙ ap (λ (n : ℕ). text n (getD xs n e)) (add-one i)
-
-  pub next-from-1 : i + 1 < length xs
-      → each (λ j. text (suc j) (getD xs (suc j) e)) i ++ text (i + 1) (getD xs (i + 1) d) ≡ each (λ j. text (suc j) (getD xs (suc j) e)) (i + 1)
-  next-from-1 h =
-      let f : ℕ → List ℕ = λ j. text (suc j) (getD xs (suc j) e) in
-      ap (λ (s : List ℕ). each f i ++ s) (element-from-1 h) ∙ each-more f i
 
 -- of two arrays
 pub both-elements : {A B : Type 0} (text : A → B → List ℕ) (xs : List A) (ys : List B) (i : ℕ) (d e : A) (f g : B) → i < length xs → i < length ys

@@ -3,7 +3,7 @@ use Prim.Native.Nat.{ℕ, suc, _+_, _<_}
 use native.Mathlib.Omega.{arith}
 use mathlib.Core.List.{List, [], _∷_, _++_}
 use mathlib.Core.Logic.{inl, inr}
-use mathlib.Core.Path.{_≡_, refl, sym, ap, _∙_}
+use mathlib.Core.Path.{_≡_, refl, sym, _∙_, ap}
 use borrow.Author.Tests.{eq-eqb, ne-eqb}
 use denote.Enum.Declared.{tagOf}
 use lib.ListN.{getD, length}
@@ -16,8 +16,8 @@ use Rattle.log_core.specs.declared.Replay.{Replay}
 use Rattle.model_protocol.specs.declared.Process.{Process}
 use Rattle.model_protocol.specs.Message.{noReplay}
 use Rattle.model_protocol.specs.World.{freshProcess}
-use Rattle.text_report.specs.Report.{each, replayText, rowsOf}
-use Rattle.world_report.proofs.Elements.{next-from-1}
+use Rattle.text_report.specs.Report.{replayText, rowsOf}
+use Rattle.world_report.proofs.Elements.{element-from-1}
 use Rattle.world_report.specs.Processes.{heardLine, outcomeText, restoreLine, restoreText}
 
 module _ (proc tx : ℕ) where
@@ -39,11 +39,9 @@ module _ (proc : ℕ) (p : Process) (replay : Replay) where
       → restoreLine proc (p .store) (p .position) ++ replayText (p .store) (rowsOf replay) ≡ restoreText proc p replay
   one-taken h = rw (ne-eqb (p .position) 0 h)
 
--- the restore of one process more
-pub next-restore : (ps : List Process) (replays : List Replay) (i : ℕ) (d : Process) (e : Replay) → i + 1 < length ps → i + 1 < length replays
-    → each (λ j. restoreText (suc j) (getD ps (suc j) freshProcess) (getD replays (suc j) noReplay)) i ++ restoreText (i + 1) (getD ps (i + 1) d) (getD replays (i + 1) e)
-    ≡ each (λ j. restoreText (suc j) (getD ps (suc j) freshProcess) (getD replays (suc j) noReplay)) (i + 1)
-next-restore ps replays i d e h k =
-    let text : ℕ → Process → List ℕ = λ proc p. restoreText proc p (getD replays proc noReplay) in
-    ap (λ (r : Replay). each (λ j. text (suc j) (getD ps (suc j) freshProcess)) i ++ restoreText (i + 1) (getD ps (i + 1) d) r) (in-list replays (i + 1) e noReplay k)
-    ∙ next-from-1 text ps i d freshProcess h
+-- a process and its replay, which are numbered from 1
+pub restore-from-1 : (ps : List Process) (replays : List Replay) (i : ℕ) (d : Process) (e : Replay) → i + 1 < length ps → i + 1 < length replays
+    → restoreText (i + 1) (getD ps (i + 1) d) (getD replays (i + 1) e) ≡ restoreText (suc i) (getD ps (suc i) freshProcess) (getD replays (suc i) noReplay)
+restore-from-1 ps replays i d e h k =
+    ap (restoreText (i + 1) (getD ps (i + 1) d)) (in-list replays (i + 1) e noReplay k)
+    ∙ element-from-1 (λ proc p. restoreText proc p (getD replays proc noReplay)) ps i d freshProcess h

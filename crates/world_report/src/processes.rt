@@ -80,7 +80,12 @@ pub fn put_restore(out: &mut [u8], at: usize, proc: u8, p: Process, replay: Repl
 }
 
 // The restores of all processes.
-pub fn put_restores(out: &mut [u8], at: usize, ps: [Process; 16], replays: [Replay; 16]) -> usize
+pub fn put_restores(
+    out: &mut [u8],
+    at: usize,
+    ps: [Process; PROCESS_PLACES],
+    replays: [Replay; PROCESS_PLACES],
+) -> usize
     ensures { λ r. ⌜ Within (processes * longestRestore) (now (out .entry)) at (restoresText ps replays) (now (out .exit)) r ⌝ }
 {
     let mut to = at;

@@ -1,24 +1,26 @@
 -- What is left of the records, entered into the log of the turn, is the whole.
 use borrow.Author.Needs.{needs}
-use borrow.Author.Tests.{not-false, not-true}
 use Prim.Native.Nat.{ℕ, _*_, _+_, _-_, _<_, _≤_}
-use mathlib.Core.Bool.{false}
+use mathlib.Core.Bool.{cond, false}
+use mathlib.Core.List.{List}
 use mathlib.Core.Path.{_≡_, ap, refl, sym, _∙_}
 use native.Mathlib.Nat.{add-sub-cancel-left}
 use native.Mathlib.Omega.{arith}
-use lib.ListN.{drop, length, length-replicate, length-set, set, take}
+use lib.Dec.{eqb}
+use lib.ListN.{drop, getD, length, length-replicate, length-set, set, take}
+use Rattle.log_entry.specs.declared.Entry.{Entry}
 use Rattle.log_entry.proofs.InsideLaws.{inside-process, inside-store, inside-vote}
 use Rattle.log_entry.specs.Entry.{outside}
 use Rattle.log_entry.specs.Limits.{stores, transactions}
 use Rattle.log_entry.specs.Refusal.{accepted}
-use Rattle.log_core.proofs.DecideLaws.{begins-group, effect-runs}
-use Rattle.log_core.proofs.EmptyLaws.{rows-without-votes}
-use Rattle.log_core.proofs.EnterLaws.{enter-refused, enter-stored, holder-stored, partsAt, place-inside, remembered-last}
 use Rattle.log_votes.specs.declared.Row.{Row}
 use Rattle.log_votes.specs.Outcome.{running}
-use Rattle.log_votes.specs.Row.{inGroup, keeping}
-use Rattle.log_votes.proofs.Lengths.{votes-length}
+use Rattle.log_votes.specs.Row.{inGroup, keeping, voteOfEntry}
+use Rattle.log_core.proofs.DecideLaws.{answer-take, begins-group, effect-runs}
+use Rattle.log_core.proofs.EmptyLaws.{rows-without-votes}
+use Rattle.log_core.proofs.EnterLaws.{enter-answered, refusalOf, remembered-last, stored-group, stored-row}
 use Rattle.log_core.specs.declared.Log.{Log}
+use Rattle.log_core.specs.Decide.{effectOf, partsOf}
 use Rattle.log_core.specs.Enter.{answered, enter, stored}
 use Rattle.log_core.specs.Group.{runningSet}
 use Rattle.log_core.specs.Log.{rowOf}
@@ -26,67 +28,129 @@ use Rattle.host_records.proofs.RecordReadings.{record-inside, record-refusal}
 use Rattle.host_records.specs.declared.Reading.the-variants.{Of, Refused}
 use Rattle.host_records.specs.Record.{readRecord, recordSize}
 use Rattle.host_lent.specs.Lent.{logAfter, recordsEntered, recordsIn, refusalIn}
-use Rattle.host_lent.proofs.LentLaws.{entered, group-stored, none-left, own-place, parts, record-accepted, record-refused, refused, row-stored}
+use Rattle.host_lent.specs.Summary.{IsOf, noSummary}
+use Rattle.host_lent.proofs.LentLaws.{entered, last-begun, none-left, parts, record-accepted, record-refused, refused, take-stored, vote-agrees, vote-parts, vote-refused, vote-stored}
 use Rattle.host_lent.proofs.RunningLaws.{bit-within, none-running, set-after, set-fits, vote-runs}
+use Rattle.host_lent.proofs.SummaryLaws.{AllOf, all-none, all-set, row-of}
 use Rattle.host_lent.proofs.entered.Statement.{statement}
 use Rattle.host_lent.proofs.entered.Tie as tie
 
+-- the log of its parts
+abbrev logOf : List Row → List ℕ → List ℕ → ℕ → List ℕ → Log
+logOf rows holders takers groups remembered =
+    record { rows = rows; holders = holders; takers = takers; groups = groups; remembered = remembered }
+
+-- what stands beside the log
 abbrev Inv-loop : tie.InvT-loop
-Inv-loop lent count answer₀ log₀ running₀ at₀ left₀ answer log running at left =
-    (at + left * recordSize ≤ length lent)
-    × (logAfter log₀ (recordsIn lent count) ≡ logAfter log (recordsIn (drop at lent) left))
-    × (length (log .rows) ≡ transactions)
-    × (running ≡ runningSet (log .rows))
+Inv-loop lent count answer₀ rows₀ holders₀ takers₀ groups₀ remembered₀ summaries₀ last₀ running₀ at₀ left₀ answer rows holders takers groups remembered summaries last running at left =
+    (answer ≡ accepted)
+    × (at + left * recordSize ≤ length lent)
+    × (logAfter (logOf rows₀ holders₀ takers₀ groups₀ remembered₀) (recordsIn lent count) ≡ logAfter (logOf rows holders takers groups remembered) (recordsIn (drop at lent) left))
+    × (length rows ≡ transactions)
+    × (running ≡ runningSet rows)
+    × AllOf summaries rows
+    × (length remembered ≡ transactions)
+    × (last ≡ cond (eqb groups 0) 0 (getD remembered (groups - 1) 0))
 
 abbrev μ-loop : tie.MeasureT-loop
-μ-loop lent count answer₀ log₀ running₀ at₀ left₀ answer log running at left = left
+μ-loop lent count answer₀ rows₀ holders₀ takers₀ groups₀ remembered₀ summaries₀ last₀ running₀ at₀ left₀ answer rows holders takers groups remembered summaries last running at left =
+    left
 
--- the log of the turn, and the whole
-whole : (c : tie.At-loop Inv-loop μ-loop)
-    → logAfter (c .loop .log) (recordsIn (drop (c .loop .at) (c .before .before .args .lent .now)) (c .loop .left)) ≡ recordsEntered (c .before .before .args .lent .now) (c .before .before .args .count)
+-- the log of the turn, and the records
+abbrev log-of : tie.At-loop Inv-loop μ-loop → Log
+log-of c = logOf (c .loop .rows) (c .loop .holders) (c .loop .takers) (c .loop .groups) (c .loop .remembered)
+
+abbrev bytes-of : tie.At-loop Inv-loop μ-loop → List ℕ
+bytes-of c = c .before .before .before .args .lent .now
+
+abbrev left-of : tie.At-loop Inv-loop μ-loop → List (List ℕ)
+left-of c = recordsIn (drop (c .loop .at) (bytes-of c)) (c .loop .left)
+
+abbrev next-of : tie.At-loop Inv-loop μ-loop → List (List ℕ)
+next-of c = recordsIn (drop (c .loop .at + recordSize) (bytes-of c)) (c .loop .left - 1)
+
+whole : (c : tie.At-loop Inv-loop μ-loop) → logAfter (log-of c) (left-of c) ≡ recordsEntered (bytes-of c) (c .before .before .before .args .count)
 whole c =
-    sym (c .loop .inv .1)
-    ∙ ap (λ (l : Log). logAfter l (recordsIn (c .before .before .args .lent .now) (c .before .before .args .count))) (rows-without-votes (c .before .before .args .none) (c .before .before .pre .0))
+    sym (c .loop .inv .2)
+    ∙ ap (λ (l : Log). logAfter l (recordsIn (bytes-of c) (c .before .before .before .args .count))) (rows-without-votes (c .before .before .before .args .none) (c .before .before .before .pre .0))
 
 -- the record at hand
-at-hand : (c : tie.After-read Inv-loop μ-loop) → c .read .result ≡ readRecord (take recordSize (drop (c .before .before .before .loop .at) (c .before .before .before .before .before .args .lent .now)))
+abbrev record-of : tie.At-loop Inv-loop μ-loop → List ℕ
+record-of c = take recordSize (drop (c .loop .at) (bytes-of c))
+
+at-hand : (c : tie.After-read Inv-loop μ-loop) → c .read .result ≡ readRecord (record-of (c .before .before .before))
 at-hand c =
     c .read .ensures
-    ∙ ap (λ (n : ℕ). readRecord (take n (drop (c .before .before .before .loop .at) (c .before .before .before .before .before .args .lent .now)))) (add-sub-cancel-left (c .before .before .before .loop .at) recordSize)
+    ∙ ap (λ (n : ℕ). readRecord (take n (drop (c .before .before .before .loop .at) (bytes-of (c .before .before .before))))) (add-sub-cancel-left (c .before .before .before .loop .at) recordSize)
 
 -- what it reads as
-read-so : (c : tie.After-reading Inv-loop μ-loop) → readRecord (take recordSize (drop (c .before .before .before .before .before .loop .at) (c .before .before .before .before .before .before .before .args .lent .now))) ≡ Of (c .reading .given .0 .0)
+abbrev entry : tie.After-reading Inv-loop μ-loop → Entry
+entry c = c .reading .given .0 .0
+
+abbrev log : tie.After-reading Inv-loop μ-loop → Log
+log c = log-of (c .before .before .before .before .before)
+
+read-so : (c : tie.After-reading Inv-loop μ-loop) → readRecord (record-of (c .before .before .before .before .before)) ≡ Of (entry c)
 read-so c = sym (at-hand (c .before .before)) ∙ c .reading .given .1
 
-inside : (c : tie.After-reading Inv-loop μ-loop) → outside (c .reading .given .0 .0) ≡ false
+inside : (c : tie.After-reading Inv-loop μ-loop) → outside (entry c) ≡ false
 inside c = record-inside _ (read-so c)
 
 -- the log refuses it
-refused-so : (c : tie.After-reading Inv-loop μ-loop) {n : ℕ} → answered (c .before .before .before .before .before .loop .log) n ≡ enter (c .before .before .before .before .before .loop .log) (c .reading .given .0 .0)
-    → (n ≡ accepted → ⊥) → answered (c .before .before .before .before .before .loop .log) n ≡ recordsEntered (c .before .before .before .before .before .before .before .args .lent .now) (c .before .before .before .before .before .before .before .args .count)
+refused-so : (c : tie.After-reading Inv-loop μ-loop) {n : ℕ} → answered (log c) n ≡ enter (log c) (entry c)
+    → (n ≡ accepted → ⊥) → answered (log c) n ≡ recordsEntered (bytes-of (c .before .before .before .before .before)) (c .before .before .before .before .before .before .before .before .args .count)
 refused-so c h wrong =
-    sym (record-refused (c .before .before .before .before .before .loop .log) (c .before .before .before .before .before .before .before .args .lent .now) (c .before .before .before .before .before .loop .at) (entered (c .before .before .before .before .before .loop .log) (read-so c) h) (c .before .before .before .before .before .loop .left) (omega (arith, c .before .before .before .before .loop-test .taken)) wrong)
+    sym (record-refused (log c) (bytes-of (c .before .before .before .before .before)) (c .before .before .before .before .before .loop .at) (entered (log c) (read-so c) h) (c .before .before .before .before .before .loop .left) (omega (arith, c .before .before .before .before .loop-test .taken)) wrong)
     ∙ whole (c .before .before .before .before .before)
 
 -- the log takes it, and is m
-taken-so : (c : tie.After-reading Inv-loop μ-loop) {m : Log} → answered m accepted ≡ enter (c .before .before .before .before .before .loop .log) (c .reading .given .0 .0)
-    → logAfter (c .before .before .before .before .before .loop .log) (recordsIn (drop (c .before .before .before .before .before .loop .at) (c .before .before .before .before .before .before .before .args .lent .now)) (c .before .before .before .before .before .loop .left))
-    ≡ logAfter m (recordsIn (drop (c .before .before .before .before .before .loop .at + recordSize) (c .before .before .before .before .before .before .before .args .lent .now)) (c .before .before .before .before .before .loop .left - 1))
+taken-so : (c : tie.After-reading Inv-loop μ-loop) {m : Log} → answered m accepted ≡ enter (log c) (entry c)
+    → logAfter (log c) (left-of (c .before .before .before .before .before)) ≡ logAfter m (next-of (c .before .before .before .before .before))
 taken-so c h =
-    record-accepted (c .before .before .before .before .before .loop .log) (c .before .before .before .before .before .before .before .args .lent .now) (c .before .before .before .before .before .loop .at) (entered (c .before .before .before .before .before .loop .log) (read-so c) h) (c .before .before .before .before .before .loop .left) (omega (arith, c .before .before .before .before .loop-test .taken)) refl
+    record-accepted (log c) (bytes-of (c .before .before .before .before .before)) (c .before .before .before .before .before .loop .at) (entered (log c) (read-so c) h) (c .before .before .before .before .before .loop .left) (omega (arith, c .before .before .before .before .loop-test .taken)) refl
 
--- the effect is stored, and the log is m
-stored-so : (c : tie.After-decide Inv-loop μ-loop) {m : Log} → c .decide .result .answer ≡ accepted
-    → m ≡ stored (c .before .before .before .before .before .before .before .before .before .before .before .before .before .before .loop .log) (c .before .before .before .before .before .before .before .before .before .reading .given .0 .0) (c .decide .result)
-    → logAfter (c .before .before .before .before .before .before .before .before .before .before .before .before .before .before .loop .log) (recordsIn (drop (c .before .before .before .before .before .before .before .before .before .before .before .before .before .before .loop .at) (c .before .before .before .before .before .before .before .before .before .before .before .before .before .before .before .before .args .lent .now)) (c .before .before .before .before .before .before .before .before .before .before .before .before .before .before .loop .left))
-    ≡ logAfter m (recordsIn (drop (c .before .before .before .before .before .before .before .before .before .before .before .before .before .before .loop .at + recordSize) (c .before .before .before .before .before .before .before .before .before .before .before .before .before .before .before .before .args .lent .now)) (c .before .before .before .before .before .before .before .before .before .before .before .before .before .before .loop .left - 1))
-stored-so c ok h =
-    taken-so (c .before .before .before .before .before .before .before .before .before)
-    (enter-stored (c .before .before .before .before .before .before .before .before .before .before .before .before .before .before .loop .log) (c .before .before .before .before .before .before .before .before .before .reading .given .0 .0) (c .before .before .before .before .before .before .row-place .result) (c .before .remembered-in .result) (c .before .before .before .before .before .before .row-place .ensures)
-    (remembered-last (c .before .before .before .before .before .before .before .before .before .before .before .before .before .before .loop .log) (c .before .remembered-in .ensures)) (c .decide .result) (c .decide .ensures) ok h)
+-- the answer to a take
+take-so : (c : tie.After-take-refusal Inv-loop μ-loop) → c .take-refusal .result ≡ refusalOf (log (c .before .before .before .before)) (entry (c .before .before .before .before))
+take-so c = c .take-refusal .ensures ∙ answer-take (partsOf (log (c .before .before .before .before)) (entry (c .before .before .before .before))) (entry (c .before .before .before .before)) (inside (c .before .before .before .before)) (c .before .if1 .taken)
+
+-- a vote's transaction, and the summary of its row
+tx-inside : (c : tie.Else1 Inv-loop μ-loop) → entry (c .before .before .before) .tx < transactions
+tx-inside c = inside-vote (entry (c .before .before .before)) (inside (c .before .before .before)) (c .if1 .left) .tx
+
+summary-so : (c : tie.Else1 Inv-loop μ-loop) → IsOf (getD (c .before .before .before .before .before .before .before .before .loop .summaries) (entry (c .before .before .before) .tx) noSummary) (rowOf (log (c .before .before .before)) (entry (c .before .before .before) .tx))
+summary-so c = c .before .before .before .before .before .before .before .before .loop .inv .5 .1 (entry (c .before .before .before) .tx) (tx-inside c)
+
+-- the effect of a vote
+effect-so : (c : tie.After-decide Inv-loop μ-loop) → c .decide .result ≡ effectOf (partsOf (log (c .before .before .before .before .before .before .before .before)) (entry (c .before .before .before .before .before .before .before .before))) (entry (c .before .before .before .before .before .before .before .before))
+effect-so c =
+    let l = log (c .before .before .before .before .before .before .before .before) in
+    let e = entry (c .before .before .before .before .before .before .before .before) in
+    let is = summary-so (c .before .before .before .before .before) in
+    c .decide .ensures (partsOf l e)
+    (c .before .parts .ensures ∙ vote-parts l e (getD (c .before .before .before .before .before .before .before .before .before .before .before .before .before .loop .summaries) (e .tx) noSummary) (c .before .before .before .before .before .before .before .before .before .before .before .before .before .loop .last) is (remembered-last l (c .before .before .before .before .before .before .before .before .before .before .before .before .before .loop .inv .7)))
+    (is .3) (inside (c .before .before .before .before .before .before .before .before)) (c .before .before .before .before .before .if1 .left)
+
+-- an accepted vote is stored, and the log is m
+stored-so : (c : tie.Else3 Inv-loop μ-loop) {m : Log} → m ≡ stored (log (c .before .before .before .before .before .before .before .before .before .before)) (entry (c .before .before .before .before .before .before .before .before .before .before)) (c .before .before .decide .result)
+    → logAfter (log (c .before .before .before .before .before .before .before .before .before .before)) (left-of (c .before .before .before .before .before .before .before .before .before .before .before .before .before .before .before)) ≡ logAfter m (next-of (c .before .before .before .before .before .before .before .before .before .before .before .before .before .before .before))
+stored-so c h =
+    taken-so (c .before .before .before .before .before .before .before .before .before .before) (vote-stored (log (c .before .before .before .before .before .before .before .before .before .before)) (entry (c .before .before .before .before .before .before .before .before .before .before)) (c .before .before .before .before .before .before .before .if1 .left) (c .before .before .decide .result) (effect-so (c .before .before)) (c .if3 .left) h)
+
+none-requires : tie.Need-none-requires Inv-loop μ-loop
+none-requires c κs = search needs
 
 loop-holds : tie.Need-loop-holds Inv-loop μ-loop
-loop-holds c = (omega (arith, c .before .pre .1), refl, length-replicate transactions (c .before .args .none), none-running (c .before .args .none) (c .before .pre .0))
+loop-holds c =
+    let a = c .before .before in (
+      refl,
+      omega (arith, a .pre .1),
+      refl,
+      length-replicate transactions (a .args .none),
+      none-running (a .args .none) (a .pre .0),
+      all-none (c .none .result) (a .args .none) (c .none .ensures) (a .pre .0),
+      length-replicate {A = ℕ} transactions 0,
+      refl,
+    )
 
 add-end : tie.Need-add-end Inv-loop μ-loop
 add-end c = omega arith
@@ -112,180 +176,229 @@ enum-told c = search needs
 refusal-in-requires : tie.Need-refusal-in-requires Inv-loop μ-loop
 refusal-in-requires c κs = search needs
 
-returns : tie.Need-returns Inv-loop μ-loop
-returns c =
-    let told = c .before .enum-told .given in
-    let reads : readRecord (take recordSize (drop (c .before .before .before .before .before .before .loop .at) (c .before .before .before .before .before .before .before .before .args .lent .now))) ≡ Refused (told .0 .0) = sym (at-hand (c .before .before .before)) ∙ told .1 in
-    let same : c .refusal-in .result ≡ told .0 .0 = c .refusal-in .ensures ∙ ap refusalIn (told .1) in
-    parts
-    (sym (record-refused (c .before .before .before .before .before .before .loop .log) (c .before .before .before .before .before .before .before .before .args .lent .now) (c .before .before .before .before .before .before .loop .at) (ap (λ (n : ℕ). answered (c .before .before .before .before .before .before .loop .log) n) same ∙ refused (c .before .before .before .before .before .before .loop .log) reads) (c .before .before .before .before .before .before .loop .left) (omega (arith, c .before .before .before .before .before .loop-test .taken)) (λ k. record-refusal _ reads (sym same ∙ k)))
-    ∙ whole (c .before .before .before .before .before .before))
-
 sub-left : tie.Need-sub-left Inv-loop μ-loop
 sub-left c = omega arith
 
 cast-store : tie.Need-cast-store Inv-loop μ-loop
 cast-store c = search needs
 
-row-place-requires : tie.Need-row-place-requires Inv-loop μ-loop
-row-place-requires c κs = search needs
+mul-take-refusal : tie.Need-mul-take-refusal Inv-loop μ-loop
+mul-take-refusal c = search needs
+
+array-read-take-refusal : tie.Need-array-read-take-refusal Inv-loop μ-loop
+array-read-take-refusal c = inside-store (entry (c .before .before .before)) (inside (c .before .before .before))
+
+take-refusal-requires : tie.Need-take-refusal-requires Inv-loop μ-loop
+take-refusal-requires c κs = search needs
+
+array-write-holders : tie.Need-array-write-holders Inv-loop μ-loop
+array-write-holders c = inside-store (entry (c .before .before .before .before .before)) (inside (c .before .before .before .before .before))
+
+mul-takers : tie.Need-mul-takers Inv-loop μ-loop
+mul-takers c = search needs
+
+array-read-takers : tie.Need-array-read-takers Inv-loop μ-loop
+array-read-takers c = inside-store (entry (c .before .before .before .before .before)) (inside (c .before .before .before .before .before))
+
+cast-takers : tie.Need-cast-takers Inv-loop μ-loop
+cast-takers c = search needs
+
+shl-takers : tie.Need-shl-takers Inv-loop μ-loop
+shl-takers c = omega (arith, inside-process (entry (c .before .before .before .before .before .before)) (inside (c .before .before .before .before .before .before)))
+
+mul-takers-2 : tie.Need-mul-takers-2 Inv-loop μ-loop
+mul-takers-2 c = search needs
+
+array-write-takers : tie.Need-array-write-takers Inv-loop μ-loop
+array-write-takers c = inside-store (entry (c .before .before .before .before .before .before)) (inside (c .before .before .before .before .before .before))
+
+loop-less : tie.Need-loop-less Inv-loop μ-loop
+loop-less c = omega (arith, c .before .before .before .before .before .before .before .before .before .before .loop-test .taken)
+
+loop-again : tie.Need-loop-again Inv-loop μ-loop
+loop-again c =
+    let inv = c .before .before .before .before .before .before .before .before .before .before .before .loop .inv in
+    let l = log (c .before .before .before .before .before .before) in
+    let e = entry (c .before .before .before .before .before .before) in (
+      inv .0,
+      omega (arith, c .before .before .before .before .before .before .before .before .before .before .loop-test .taken, inv .1),
+      inv .2
+          ∙ taken-so (c .before .before .before .before .before .before)
+          (take-stored l e (c .before .before .before .if1 .taken) (omega (arith, inside-process e (inside (c .before .before .before .before .before .before)))) (sym (take-so (c .before .before)) ∙ c .before .if2 .left)),
+      inv .3,
+      inv .4,
+      inv .5,
+      inv .6,
+      inv .7,
+    )
+
+cast-tx : tie.Need-cast-tx Inv-loop μ-loop
+cast-tx c = search needs
 
 mul-old : tie.Need-mul-old Inv-loop μ-loop
-mul-old c = omega (arith, place-inside (c .before .before .before .before .reading .given .0 .0) (inside (c .before .before .before .before)) (c .before .row-place .ensures))
+mul-old c = omega (arith, tx-inside (c .before))
 
-element-copy-out-old : tie.Need-element-copy-out-old Inv-loop μ-loop
-element-copy-out-old c = place-inside (c .before .before .before .before .reading .given .0 .0) (inside (c .before .before .before .before)) (c .before .row-place .ensures)
+array-copy-out-old : tie.Need-array-copy-out-old Inv-loop μ-loop
+array-copy-out-old c = tx-inside (c .before)
 
-mul-t35 : tie.Need-mul-t35 Inv-loop μ-loop
-mul-t35 c = search needs
+cast-parts : tie.Need-cast-parts Inv-loop μ-loop
+cast-parts c = search needs
 
-element-copy-out-t38 : tie.Need-element-copy-out-t38 Inv-loop μ-loop
-element-copy-out-t38 c = inside-store (c .before .before .before .before .before .before .reading .given .0 .0) (inside (c .before .before .before .before .before .before))
+array-read-parts : tie.Need-array-read-parts Inv-loop μ-loop
+array-read-parts c = inside-vote (entry (c .before .before .before .before .before .before)) (inside (c .before .before .before .before .before .before)) (c .before .before .before .if1 .left) .by
 
-remembered-in-requires : tie.Need-remembered-in-requires Inv-loop μ-loop
-remembered-in-requires c κs = search needs
+parts-requires : tie.Need-parts-requires Inv-loop μ-loop
+parts-requires c κs = search needs
 
 decide-requires : tie.Need-decide-requires Inv-loop μ-loop
 decide-requires c κs = search needs
 
-returns-2 : tie.Need-returns-2 Inv-loop μ-loop
-returns-2 c =
-    parts
-    (refused-so (c .before .before .before .before .before .before .before .before .before .before .before)
-    (enter-refused (c .before .before .before .before .before .before .before .before .before .before .before .before .before .before .before .before .loop .log) (c .before .before .before .before .before .before .before .before .before .before .before .reading .given .0 .0) (c .before .before .before .before .before .before .before .before .row-place .result) (c .before .before .before .remembered-in .result) (c .before .before .before .before .before .before .before .before .row-place .ensures)
-    (remembered-last (c .before .before .before .before .before .before .before .before .before .before .before .before .before .before .before .before .loop .log) (c .before .before .before .remembered-in .ensures)) (c .before .before .decide .result) (c .before .before .decide .ensures) (c .if1 .taken)) (c .if1 .taken))
-
-element-write-log : tie.Need-element-write-log Inv-loop μ-loop
-element-write-log c = inside-store (c .before .before .before .before .before .before .before .before .before .before .before .before .reading .given .0 .0) (inside (c .before .before .before .before .before .before .before .before .before .before .before .before))
-
-mul-log : tie.Need-mul-log Inv-loop μ-loop
-mul-log c = search needs
-
-element-copy-out-log : tie.Need-element-copy-out-log Inv-loop μ-loop
-element-copy-out-log c = inside-store (c .before .before .before .before .before .before .before .before .before .before .before .before .reading .given .0 .0) (inside (c .before .before .before .before .before .before .before .before .before .before .before .before))
-
-cast-log : tie.Need-cast-log Inv-loop μ-loop
-cast-log c = search needs
-
-shl-log : tie.Need-shl-log Inv-loop μ-loop
-shl-log c = omega (arith, inside-process (c .before .before .before .before .before .before .before .before .before .before .before .before .before .before .reading .given .0 .0) (inside (c .before .before .before .before .before .before .before .before .before .before .before .before .before .before)))
-
-mul-log-2 : tie.Need-mul-log-2 Inv-loop μ-loop
-mul-log-2 c = search needs
-
-element-write-log-2 : tie.Need-element-write-log-2 Inv-loop μ-loop
-element-write-log-2 c = inside-store (c .before .before .before .before .before .before .before .before .before .before .before .before .before .before .reading .given .0 .0) (inside (c .before .before .before .before .before .before .before .before .before .before .before .before .before .before))
-
-loop-less : tie.Need-loop-less Inv-loop μ-loop
-loop-less c = omega (arith, c .before .before .before .before .before .before .before .before .before .before .before .before .before .before .before .before .before .before .loop-test .taken)
-
-loop-again : tie.Need-loop-again Inv-loop μ-loop
-loop-again c = (
-  omega (arith, c .before .before .before .before .before .before .before .before .before .before .before .before .before .before .before .before .before .before .loop-test .taken, c .before .before .before .before .before .before .before .before .before .before .before .before .before .before .before .before .before .before .before .loop .inv .0),
-  c .before .before .before .before .before .before .before .before .before .before .before .before .before .before .before .before .before .before .before .loop .inv .1
-      ∙ stored-so (c .before .before .before .before .before) (c .before .before .before .if1 .left)
-      (holder-stored (c .before .before .before .before .before .before .before .before .before .before .before .before .before .before .before .before .before .before .before .loop .log) (c .before .before .before .before .before .before .before .before .before .before .before .before .before .before .reading .given .0 .0) (c .before .before .before .before .before .decide .result) (c .before .before .if2 .taken) (omega (arith, inside-process (c .before .before .before .before .before .before .before .before .before .before .before .before .before .before .reading .given .0 .0) (inside (c .before .before .before .before .before .before .before .before .before .before .before .before .before .before))))),
-  c .before .before .before .before .before .before .before .before .before .before .before .before .before .before .before .before .before .before .before .loop .inv .2,
-  c .before .before .before .before .before .before .before .before .before .before .before .before .before .before .before .before .before .before .before .loop .inv .3,
-)
-
-mul-old-2 : tie.Need-mul-old-2 Inv-loop μ-loop
-mul-old-2 c = omega (arith, place-inside (c .before .before .before .before .before .before .before .before .before .before .before .before .reading .given .0 .0) (inside (c .before .before .before .before .before .before .before .before .before .before .before .before)) (c .before .before .before .before .before .before .before .before .before .row-place .ensures))
-
-element-copy-out-old-2 : tie.Need-element-copy-out-old-2 Inv-loop μ-loop
-element-copy-out-old-2 c = place-inside (c .before .before .before .before .before .before .before .before .before .before .before .before .reading .given .0 .0) (inside (c .before .before .before .before .before .before .before .before .before .before .before .before)) (c .before .before .before .before .before .before .before .before .before .row-place .ensures)
-
 keeping-requires : tie.Need-keeping-requires Inv-loop μ-loop
 keeping-requires c κs = search needs
 
--- the vote's transaction, and its place
-tx-inside : (c : tie.Else2 Inv-loop μ-loop) → c .before .before .before .before .before .before .before .before .before .before .before .before .reading .given .0 .0 .tx < transactions
-tx-inside c = inside-vote (c .before .before .before .before .before .before .before .before .before .before .before .before .reading .given .0 .0) (inside (c .before .before .before .before .before .before .before .before .before .before .before .before)) (c .if2 .left) .tx
+mul-summaries : tie.Need-mul-summaries Inv-loop μ-loop
+mul-summaries c = omega (arith, tx-inside (c .before .before .before .before .before .before .before .before))
+
+array-set-from-summaries : tie.Need-array-set-from-summaries Inv-loop μ-loop
+array-set-from-summaries c = tx-inside (c .before .before .before .before .before .before .before .before)
+
+mul-keeping : tie.Need-mul-keeping Inv-loop μ-loop
+mul-keeping c = omega (arith, tx-inside (c .before .before .before .before .before .before .before .before))
+
+array-copy-out-keeping : tie.Need-array-copy-out-keeping Inv-loop μ-loop
+array-copy-out-keeping c = tx-inside (c .before .before .before .before .before .before .before .before)
+
+keeping-requires-2 : tie.Need-keeping-requires-2 Inv-loop μ-loop
+keeping-requires-2 c κs = search needs
+
+mul-rows : tie.Need-mul-rows Inv-loop μ-loop
+mul-rows c = omega (arith, tx-inside (c .before .before .before .before .before .before .before .before .before .before))
+
+array-set-from-rows : tie.Need-array-set-from-rows Inv-loop μ-loop
+array-set-from-rows c = tx-inside (c .before .before .before .before .before .before .before .before .before .before)
+
+-- the row with the vote, in its group
+abbrev row-of-vote : tie.After-keeping2 Inv-loop μ-loop → Row
+row-of-vote c = inGroup (c .keeping2 .result) (c .before .before .before .before .before .decide .result .group)
 
 -- whether the vote's transaction runs after it
-runs-so : (c : tie.After-keeping Inv-loop μ-loop) → c .before .before .before .before .before .decide .result .runs ≡ running (inGroup (c .keeping .result) (c .before .before .before .before .before .decide .result .group))
+runs-so : (c : tie.After-keeping2 Inv-loop μ-loop) → c .before .before .before .before .before .decide .result .runs ≡ running (row-of-vote c)
 runs-so c =
-    let e = c .before .before .before .before .before .before .before .before .before .before .before .before .before .before .reading .given .0 .0 in
-    let l = c .before .before .before .before .before .before .before .before .before .before .before .before .before .before .before .before .before .before .before .loop .log in
-    let at = c .before .before .before .before .before .before .before .before .before .before .before .row-place .result in
+    let l = log (c .before .before .before .before .before .before .before .before .before .before .before .before .before) in
+    let e = entry (c .before .before .before .before .before .before .before .before .before .before .before .before .before) in
     let f = c .before .before .before .before .before .decide .result in
-    let size : length (keeping (rowOf l at) e .votes) ≡ stores = ap (λ (r : Row). length (r .votes)) (sym (c .keeping .ensures)) ∙ votes-length (c .keeping .result) _ (c .keeping .ok) in
-    let here : e .store < length (keeping (rowOf l at) e .votes) = omega (arith, size, inside-store e (inside (c .before .before .before .before .before .before .before .before .before .before .before .before .before .before))) in
-    effect-runs (partsAt l e at (c .before .before .before .before .before .before .remembered-in .result)) e f (c .before .before .before .before .before .decide .ensures) (c .before .before .before .if1 .left) (c .before .before .if2 .left)
-    ∙ vote-runs (rowOf l at) e (f .group) here
-    ∙ ap (λ (r : Row). running (inGroup r (f .group))) (sym (c .keeping .ensures))
+    let row = rowOf l (e .tx) in
+    let here : e .store < length (keeping row e .votes) =
+    omega (arith, length-set (row .votes) (e .store) (voteOfEntry e), summary-so (c .before .before .before .before .before .before .before .before .before .before) .3, inside-store e (inside (c .before .before .before .before .before .before .before .before .before .before .before .before .before))) in
+    effect-runs (partsOf l e) e f (effect-so (c .before .before .before .before .before)) (c .before .before .before .if3 .left) (c .before .before .before .before .before .before .before .before .before .before .if1 .left)
+    ∙ vote-runs row e (f .group) here
+    ∙ ap (λ (r : Row). running (inGroup r (f .group))) (sym (c .keeping2 .ensures))
 
 noted-requires : tie.Need-noted-requires Inv-loop μ-loop
-noted-requires c κs = (
-  tx-inside (c .before .before),
-  (
-    bit-within (c .before .before .before .before .before .before .before .before .before .before .before .before .before .before .before .before .before .before .before .loop .log .rows) (c .before .before .before .before .before .before .before .before .before .before .before .before .before .before .before .before .before .before .before .loop .running) (c .before .before .before .before .before .before .before .before .before .before .before .before .before .before .before .before .before .before .before .loop .inv .3) (c .before .before .before .before .before .before .before .before .before .before .before .before .before .before .before .before .before .before .before .loop .inv .2) (c .before .before .before .before .before .before .before .before .before .before .before .before .before .before .reading .given .0 .0 .tx) (tx-inside (c .before .before)),
-    set-fits (c .before .before .before .before .before .before .before .before .before .before .before .before .before .before .before .before .before .before .before .loop .log .rows) (c .before .before .before .before .before .before .before .before .before .before .before .before .before .before .before .before .before .before .before .loop .running) (c .before .before .before .before .before .before .before .before .before .before .before .before .before .before .before .before .before .before .before .loop .inv .3) (c .before .before .before .before .before .before .before .before .before .before .before .before .before .before .before .before .before .before .before .loop .inv .2) (c .before .before .before .before .before .before .before .before .before .before .before .before .before .before .reading .given .0 .0 .tx) (tx-inside (c .before .before)) (inGroup (c .keeping .result) (c .before .before .before .before .before .decide .result .group)) (c .before .before .before .before .before .decide .result .runs) (runs-so c),
-  ),
-)
+noted-requires c κs =
+    let l = c .before .before .before .before .before .before .before .before .before .before .before .before .before .before .before .before .before .before .loop in
+    let e = entry (c .before .before .before .before .before .before .before .before .before .before .before .before .before) in
+    let tx = tx-inside (c .before .before .before .before .before .before .before .before .before .before) in
+    (tx, (bit-within (l .rows) (l .running) (l .inv .4) (l .inv .3) (e .tx) tx, set-fits (l .rows) (l .running) (l .inv .4) (l .inv .3) (e .tx) tx (row-of-vote c) (c .before .before .before .before .before .decide .result .runs) (runs-so c)))
 
--- the set after the vote
-noted-so : (c : tie.After-noted Inv-loop μ-loop) → c .noted .result ≡ runningSet (set (c .before .before .before .before .before .before .before .before .before .before .before .before .before .before .before .before .before .before .before .before .loop .log .rows) (c .before .before .before .before .before .before .before .before .before .before .before .before .row-place .result) (inGroup (c .before .keeping .result) (c .before .before .before .before .before .before .decide .result .group)))
+-- the rows after the vote, the set of those that run and the summaries
+rows-size : (c : tie.After-noted Inv-loop μ-loop) → length (set (c .before .before .before .before .before .before .before .before .before .before .before .before .before .before .before .before .before .before .before .loop .rows) (entry (c .before .before .before .before .before .before .before .before .before .before .before .before .before .before) .tx) (row-of-vote (c .before))) ≡ transactions
+rows-size c = length-set (c .before .before .before .before .before .before .before .before .before .before .before .before .before .before .before .before .before .before .before .loop .rows) (entry (c .before .before .before .before .before .before .before .before .before .before .before .before .before .before) .tx) (row-of-vote (c .before)) ∙ c .before .before .before .before .before .before .before .before .before .before .before .before .before .before .before .before .before .before .before .loop .inv .3
+
+noted-so : (c : tie.After-noted Inv-loop μ-loop) → c .noted .result ≡ runningSet (set (c .before .before .before .before .before .before .before .before .before .before .before .before .before .before .before .before .before .before .before .loop .rows) (entry (c .before .before .before .before .before .before .before .before .before .before .before .before .before .before) .tx) (row-of-vote (c .before)))
 noted-so c =
+    let l = c .before .before .before .before .before .before .before .before .before .before .before .before .before .before .before .before .before .before .before .loop in
     c .noted .ensures
-    ∙ set-after (c .before .before .before .before .before .before .before .before .before .before .before .before .before .before .before .before .before .before .before .before .loop .log .rows) (c .before .before .before .before .before .before .before .before .before .before .before .before .before .before .before .before .before .before .before .before .loop .running) (c .before .before .before .before .before .before .before .before .before .before .before .before .before .before .before .before .before .before .before .before .loop .inv .3) (c .before .before .before .before .before .before .before .before .before .before .before .before .before .before .before .before .before .before .before .before .loop .inv .2) (c .before .before .before .before .before .before .before .before .before .before .before .before .before .before .before .reading .given .0 .0 .tx) (tx-inside (c .before .before .before)) (inGroup (c .before .keeping .result) (c .before .before .before .before .before .before .decide .result .group)) (c .before .before .before .before .before .before .decide .result .runs) (runs-so (c .before))
-    ∙ ap (λ (t : ℕ). runningSet (set (c .before .before .before .before .before .before .before .before .before .before .before .before .before .before .before .before .before .before .before .before .loop .log .rows) t (inGroup (c .before .keeping .result) (c .before .before .before .before .before .before .decide .result .group)))) (sym (own-place (c .before .before .before .before .before .before .before .before .before .before .before .before .before .before .before .before .before .before .before .before .loop .log) (c .before .before .before .before .before .before .before .before .before .before .before .before .before .before .before .reading .given .0 .0) (c .before .before .before .before .before .before .decide .result) (c .before .before .before .if2 .left) (c .before .before .before .before .before .before .before .before .before .before .before .before .row-place .ensures)))
+    ∙ set-after (l .rows) (l .running) (l .inv .4) (l .inv .3) (entry (c .before .before .before .before .before .before .before .before .before .before .before .before .before .before) .tx) (tx-inside (c .before .before .before .before .before .before .before .before .before .before .before)) (row-of-vote (c .before)) (c .before .before .before .before .before .before .decide .result .runs) (runs-so (c .before))
 
-size-so : (c : tie.After-noted Inv-loop μ-loop) → length (set (c .before .before .before .before .before .before .before .before .before .before .before .before .before .before .before .before .before .before .before .before .loop .log .rows) (c .before .before .before .before .before .before .before .before .before .before .before .before .row-place .result) (inGroup (c .before .keeping .result) (c .before .before .before .before .before .before .decide .result .group))) ≡ transactions
-size-so c = length-set (c .before .before .before .before .before .before .before .before .before .before .before .before .before .before .before .before .before .before .before .before .loop .log .rows) (c .before .before .before .before .before .before .before .before .before .before .before .before .row-place .result) (inGroup (c .before .keeping .result) (c .before .before .before .before .before .before .decide .result .group)) ∙ c .before .before .before .before .before .before .before .before .before .before .before .before .before .before .before .before .before .before .before .before .loop .inv .2
-
-mul-row : tie.Need-mul-row Inv-loop μ-loop
-mul-row c = omega (arith, place-inside (c .before .before .before .before .before .before .before .before .before .before .before .before .before .before .before .reading .given .0 .0) (inside (c .before .before .before .before .before .before .before .before .before .before .before .before .before .before .before)) (c .before .before .before .before .before .before .before .before .before .before .before .before .row-place .ensures))
-
-element-set-from-row : tie.Need-element-set-from-row Inv-loop μ-loop
-element-set-from-row c = place-inside (c .before .before .before .before .before .before .before .before .before .before .before .before .before .before .before .reading .given .0 .0) (inside (c .before .before .before .before .before .before .before .before .before .before .before .before .before .before .before)) (c .before .before .before .before .before .before .before .before .before .before .before .before .row-place .ensures)
-
-loop-less-2 : tie.Need-loop-less-2 Inv-loop μ-loop
-loop-less-2 c = omega (arith, c .before .before .before .before .before .before .before .before .before .before .before .before .before .before .before .before .before .before .before .before .before .loop-test .taken)
-
-loop-again-2 : tie.Need-loop-again-2 Inv-loop μ-loop
-loop-again-2 c = (
-  omega (arith, c .before .before .before .before .before .before .before .before .before .before .before .before .before .before .before .before .before .before .before .before .before .loop-test .taken, c .before .before .before .before .before .before .before .before .before .before .before .before .before .before .before .before .before .before .before .before .before .before .loop .inv .0),
-  c .before .before .before .before .before .before .before .before .before .before .before .before .before .before .before .before .before .before .before .before .before .before .loop .inv .1
-      ∙ stored-so (c .before .before .before .before .before .before .before .before) (c .before .before .before .before .before .before .if1 .left)
-      (row-stored (c .before .before .before .before .before .before .before .before .before .before .before .before .before .before .before .before .before .before .before .before .before .before .loop .log) (c .before .before .before .before .before .before .before .before .before .before .before .before .before .before .before .before .before .reading .given .0 .0) (c .before .before .before .before .before .before .before .before .decide .result) (c .before .before .before .before .before .if2 .left) (c .before .before .before .before .before .before .before .before .before .before .before .before .before .before .row-place .ensures) (c .before .before .before .keeping .ensures) (not-true _ (c .if3 .taken))),
-  size-so (c .before .before),
-  noted-so (c .before .before),
-)
+summaries-so : (c : tie.After-noted Inv-loop μ-loop) → AllOf (set (c .before .before .before .before .before .before .before .before .before .before .before .before .before .before .before .before .before .before .before .loop .summaries) (entry (c .before .before .before .before .before .before .before .before .before .before .before .before .before .before) .tx) (c .before .before .before .keeping .result)) (set (c .before .before .before .before .before .before .before .before .before .before .before .before .before .before .before .before .before .before .before .loop .rows) (entry (c .before .before .before .before .before .before .before .before .before .before .before .before .before .before) .tx) (row-of-vote (c .before)))
+summaries-so c =
+    let l = log (c .before .before .before .before .before .before .before .before .before .before .before .before .before .before) in
+    let e = entry (c .before .before .before .before .before .before .before .before .before .before .before .before .before .before) in
+    let f = c .before .before .before .before .before .before .decide .result in
+    let agrees = vote-agrees l e (c .before .before .before .before .before .before .before .before .before .before .before .if1 .left) f (effect-so (c .before .before .before .before .before .before)) (inside (c .before .before .before .before .before .before .before .before .before .before .before .before .before .before)) (c .before .before .before .before .if3 .left) in
+    let is = c .before .before .before .keeping .ensures (rowOf l (e .tx)) (summary-so (c .before .before .before .before .before .before .before .before .before .before .before)) (inside-store e (inside (c .before .before .before .before .before .before .before .before .before .before .before .before .before .before))) (agrees .0) (agrees .1) in
+    all-set (c .before .before .before .before .before .before .before .before .before .before .before .before .before .before .before .before .before .before .before .loop .summaries) (l .rows) (c .before .before .before .before .before .before .before .before .before .before .before .before .before .before .before .before .before .before .before .loop .inv .5) (c .before .before .before .before .before .before .before .before .before .before .before .before .before .before .before .before .before .before .before .loop .inv .3) (e .tx) (tx-inside (c .before .before .before .before .before .before .before .before .before .before .before)) (c .before .before .before .keeping .result) (row-of-vote (c .before))
+    (row-of (c .before .before .before .keeping .result) (ap (λ (r : Row). inGroup r (f .group)) (sym (c .before .keeping2 .ensures))) is)
 
 -- a group that is begun has its place
-begun : (c : tie.Else3 Inv-loop μ-loop) → (1 ≤ c .before .before .before .before .before .before .before .before .decide .result .group) × (c .before .before .before .before .before .before .before .before .decide .result .group ≤ transactions)
+begun : (c : tie.Then4 Inv-loop μ-loop) → (0 < c .before .before .before .before .before .before .before .decide .result .group) × (c .before .before .before .before .before .before .before .decide .result .group ≤ transactions)
 begun c =
-    let g = begins-group (partsAt (c .before .before .before .before .before .before .before .before .before .before .before .before .before .before .before .before .before .before .before .before .before .before .loop .log) (c .before .before .before .before .before .before .before .before .before .before .before .before .before .before .before .before .before .reading .given .0 .0) (c .before .before .before .before .before .before .before .before .before .before .before .before .before .before .row-place .result) (c .before .before .before .before .before .before .before .before .before .remembered-in .result)) (c .before .before .before .before .before .before .before .before .before .before .before .before .before .before .before .before .before .reading .given .0 .0) (c .before .before .before .before .before .before .before .before .decide .result) (c .before .before .before .before .before .before .before .before .decide .ensures) (not-false _ (c .if3 .left)) in
-    (omega (arith, g .0), omega (arith, g .1))
+    begins-group (partsOf (log (c .before .before .before .before .before .before .before .before .before .before .before .before .before .before .before)) (entry (c .before .before .before .before .before .before .before .before .before .before .before .before .before .before .before))) (entry (c .before .before .before .before .before .before .before .before .before .before .before .before .before .before .before)) (c .before .before .before .before .before .before .before .decide .result) (effect-so (c .before .before .before .before .before .before .before)) (c .if4 .taken)
 
 sub-i : tie.Need-sub-i Inv-loop μ-loop
 sub-i c = omega (arith, begun (c .before) .0)
 
-cast-log-2 : tie.Need-cast-log-2 Inv-loop μ-loop
-cast-log-2 c = search needs
+cast-remembered : tie.Need-cast-remembered Inv-loop μ-loop
+cast-remembered c = search needs
 
-mul-log-3 : tie.Need-mul-log-3 Inv-loop μ-loop
-mul-log-3 c = search needs
+mul-remembered : tie.Need-mul-remembered Inv-loop μ-loop
+mul-remembered c = search needs
 
-element-write-log-3 : tie.Need-element-write-log-3 Inv-loop μ-loop
-element-write-log-3 c = omega (arith, begun (c .before) .0, begun (c .before) .1)
+array-write-remembered : tie.Need-array-write-remembered Inv-loop μ-loop
+array-write-remembered c = omega (arith, begun (c .before) .0, begun (c .before) .1)
+
+loop-less-2 : tie.Need-loop-less-2 Inv-loop μ-loop
+loop-less-2 c = omega (arith, c .before .before .before .before .before .before .before .before .before .before .before .before .before .before .before .before .before .before .before .before .loop-test .taken)
+
+loop-again-2 : tie.Need-loop-again-2 Inv-loop μ-loop
+loop-again-2 c =
+    let inv = c .before .before .before .before .before .before .before .before .before .before .before .before .before .before .before .before .before .before .before .before .before .loop .inv in
+    let f = c .before .before .before .before .before .before .before .before .decide .result in
+    let all = c .before .before .before .before .before .before .before .before .before .before .before .before .before .before .before .before .before .before .before .before .before .loop .remembered in (
+      inv .0,
+      omega (arith, c .before .before .before .before .before .before .before .before .before .before .before .before .before .before .before .before .before .before .before .before .loop-test .taken, inv .1),
+      inv .2
+          ∙ stored-so (c .before .before .before .before .before .before)
+          (stored-group (log (c .before .before .before .before .before .before .before .before .before .before .before .before .before .before .before .before)) (entry (c .before .before .before .before .before .before .before .before .before .before .before .before .before .before .before .before)) f (c .before .before .before .before .before .before .before .before .before .before .before .before .before .if1 .left) (c .before .before .before .keeping2 .ensures) (c .before .if4 .taken) (c .before .before .before .before .before .before .before .before .before .before .before .before .before .before .before .before .before .before .before .before .before .loop .running) (inv .4)),
+      rows-size (c .before .before),
+      noted-so (c .before .before),
+      summaries-so (c .before .before),
+      length-set all (f .group - 1) (c .before .before .before .before .before .before .before .before .before .before .before .before .before .before .before .before .before .before .before .before .before .loop .running) ∙ inv .6,
+      last-begun all (inv .6) (f .group) (c .before .before .before .before .before .before .before .before .before .before .before .before .before .before .before .before .before .before .before .before .before .loop .running) (begun (c .before) .0) (begun (c .before) .1),
+    )
 
 loop-less-3 : tie.Need-loop-less-3 Inv-loop μ-loop
-loop-less-3 c = omega (arith, c .before .before .before .before .before .before .before .before .before .before .before .before .before .before .before .before .before .before .before .before .before .before .loop-test .taken)
+loop-less-3 c = omega (arith, c .before .before .before .before .before .before .before .before .before .before .before .before .before .before .before .before .before .before .before .loop-test .taken)
 
 loop-again-3 : tie.Need-loop-again-3 Inv-loop μ-loop
-loop-again-3 c = (
-  omega (arith, c .before .before .before .before .before .before .before .before .before .before .before .before .before .before .before .before .before .before .before .before .before .before .loop-test .taken, c .before .before .before .before .before .before .before .before .before .before .before .before .before .before .before .before .before .before .before .before .before .before .before .loop .inv .0),
-  c .before .before .before .before .before .before .before .before .before .before .before .before .before .before .before .before .before .before .before .before .before .before .before .loop .inv .1
-      ∙ stored-so (c .before .before .before .before .before .before .before .before .before) (c .before .before .before .before .before .before .before .if1 .left)
-      (group-stored (c .before .before .before .before .before .before .before .before .before .before .before .before .before .before .before .before .before .before .before .before .before .before .before .loop .log) (c .before .before .before .before .before .before .before .before .before .before .before .before .before .before .before .before .before .before .reading .given .0 .0) (c .before .before .before .before .before .before .before .before .before .decide .result) (c .before .before .before .before .before .before .if2 .left) (c .before .before .before .before .before .before .before .before .before .before .before .before .before .before .before .row-place .ensures) (c .before .before .before .before .keeping .ensures) (not-false _ (c .before .if3 .left)) (c .before .before .before .before .before .before .before .before .before .before .before .before .before .before .before .before .before .before .before .before .before .before .before .loop .running) (c .before .before .before .before .before .before .before .before .before .before .before .before .before .before .before .before .before .before .before .before .before .before .before .loop .inv .3)),
-  size-so (c .before .before .before),
-  noted-so (c .before .before .before),
-)
+loop-again-3 c =
+    let inv = c .before .before .before .before .before .before .before .before .before .before .before .before .before .before .before .before .before .before .before .before .loop .inv in (
+      inv .0,
+      omega (arith, c .before .before .before .before .before .before .before .before .before .before .before .before .before .before .before .before .before .before .before .loop-test .taken, inv .1),
+      inv .2
+          ∙ stored-so (c .before .before .before .before .before)
+          (stored-row (log (c .before .before .before .before .before .before .before .before .before .before .before .before .before .before .before)) (entry (c .before .before .before .before .before .before .before .before .before .before .before .before .before .before .before)) (c .before .before .before .before .before .before .before .decide .result) (c .before .before .before .before .before .before .before .before .before .before .before .before .if1 .left) (c .before .before .keeping2 .ensures) (c .if4 .left)),
+      rows-size (c .before),
+      noted-so (c .before),
+      summaries-so (c .before),
+      inv .6,
+      inv .7,
+    )
+
+returns : tie.Need-returns Inv-loop μ-loop
+returns c =
+    let s = c .before in
+    let ends = parts (none-left (log-of s) (drop (s .loop .at) (bytes-of s)) (s .loop .left) (c .loop-test .left) ∙ whole s) in
+    (ends .0, s .loop .inv .0 ∙ ends .1)
+
+returns-2 : tie.Need-returns-2 Inv-loop μ-loop
+returns-2 c =
+    let s = c .before .before .before .before .before .before in
+    let told = c .before .enum-told .given in
+    let reads : readRecord (record-of s) ≡ Refused (told .0 .0) = sym (at-hand (c .before .before .before)) ∙ told .1 in
+    let same : c .refusal-in .result ≡ told .0 .0 = c .refusal-in .ensures ∙ ap refusalIn (told .1) in
+    parts
+    (sym (record-refused (log-of s) (bytes-of s) (s .loop .at) (ap (λ (n : ℕ). answered (log-of s) n) same ∙ refused (log-of s) reads) (s .loop .left) (omega (arith, c .before .before .before .before .before .loop-test .taken)) (λ k. record-refusal _ reads (sym same ∙ k)))
+    ∙ whole s)
 
 returns-3 : tie.Need-returns-3 Inv-loop μ-loop
-returns-3 c = parts (none-left (c .before .loop .log) (drop (c .before .loop .at) (c .before .before .before .args .lent .now)) (c .before .loop .left) (c .loop-test .left) ∙ whole (c .before))
+returns-3 c = parts (refused-so (c .before .before .before .before .before) (enter-answered (log (c .before .before .before .before .before)) (entry (c .before .before .before .before .before)) (take-so (c .before)) (c .if2 .taken)) (c .if2 .taken))
+
+returns-4 : tie.Need-returns-4 Inv-loop μ-loop
+returns-4 c =
+    parts
+    (refused-so (c .before .before .before .before .before .before .before .before .before .before) (vote-refused (log (c .before .before .before .before .before .before .before .before .before .before)) (entry (c .before .before .before .before .before .before .before .before .before .before)) (c .before .before .before .before .before .before .before .if1 .left) (c .before .before .decide .result) (effect-so (c .before .before)) (c .if3 .taken)) (c .if3 .taken))
 
 pub entered-spec : {M : Type 1} → statement M
 entered-spec =
@@ -293,6 +406,7 @@ entered-spec =
     (tie.spec
     Inv-loop
     μ-loop
+    none-requires
     loop-holds
     add-end
     sub-read
@@ -302,38 +416,45 @@ entered-spec =
     enum-known-reading
     enum-told
     refusal-in-requires
-    returns
     sub-left
     cast-store
-    row-place-requires
-    mul-old
-    element-copy-out-old
-    mul-t35
-    element-copy-out-t38
-    remembered-in-requires
-    decide-requires
-    returns-2
-    element-write-log
-    mul-log
-    element-copy-out-log
-    cast-log
-    shl-log
-    mul-log-2
-    element-write-log-2
+    mul-take-refusal
+    array-read-take-refusal
+    take-refusal-requires
+    array-write-holders
+    mul-takers
+    array-read-takers
+    cast-takers
+    shl-takers
+    mul-takers-2
+    array-write-takers
     loop-less
     loop-again
-    mul-old-2
-    element-copy-out-old-2
+    cast-tx
+    mul-old
+    array-copy-out-old
+    cast-parts
+    array-read-parts
+    parts-requires
+    decide-requires
     keeping-requires
+    mul-summaries
+    array-set-from-summaries
+    mul-keeping
+    array-copy-out-keeping
+    keeping-requires-2
+    mul-rows
+    array-set-from-rows
     noted-requires
-    mul-row
-    element-set-from-row
+    sub-i
+    cast-remembered
+    mul-remembered
+    array-write-remembered
     loop-less-2
     loop-again-2
-    sub-i
-    cast-log-2
-    mul-log-3
-    element-write-log-3
     loop-less-3
     loop-again-3
-    returns-3)
+    returns
+    returns-2
+    returns-3
+    returns-4)

@@ -39,6 +39,9 @@ running-requires c κs = search needs
 digit-requires : tie.Need-digit-requires Inv-loop μ-loop
 digit-requires c κs = search needs
 
+cast-set : tie.Need-cast-set Inv-loop μ-loop
+cast-set c = omega (arith, c .digit .ensures, digit-small (c .before .running .result))
+
 mul-set : tie.Need-mul-set Inv-loop μ-loop
 mul-set c = let s = c .before .before .before .before .before in let n : length (s .args .t1 .rows) ≡ transactions = rows-length (s .args .t1) _ (s .good .0) in
     let l = c .before .before .before .before .loop in let room : l .set < 2 ^ 31 = rw (l .inv .1) (set-room running (s .args .t1 .rows) 31 (l .t) n (c .before .before .before .loop-test .taken)) in omega arith
@@ -72,6 +75,7 @@ running-set-spec =
     element-copy-out-row
     running-requires
     digit-requires
+    cast-set
     mul-set
     add-set
     sub-t

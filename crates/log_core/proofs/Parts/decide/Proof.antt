@@ -1,72 +1,81 @@
 use borrow.Author.Needs.{needs}
-use borrow.Author.Tests.{not-false, not-true}
-use mathlib.Core.Path.{_≡_, ap, sym, _∙_}
-use Rattle.log_votes.specs.declared.Row.{Row}
-use Rattle.log_votes.specs.Outcome.{isCommitted, isOpen, outcomeOfVotes}
-use Rattle.log_core.specs.Decide.{commits, runsOn}
-use Rattle.log_core.proofs.DecideLaws.{effect-committed, effect-kept, effect-refused, effect-taken}
+use mathlib.Core.Bool.{Bool, false}
+use mathlib.Core.Path.{_≡_, sym, _∙_}
+use native.Mathlib.Omega.{arith}
+use Rattle.log_entry.specs.Entry.{outside}
+use Rattle.log_entry.specs.Refusal.{outsideLimits}
+use Rattle.log_entry.proofs.InsideLaws.{inside-vote}
+use Rattle.log_core.specs.declared.VoteParts.{VoteParts}
+use Rattle.log_core.specs.Decide.{votePartsOf}
+use Rattle.log_core.proofs.DecideLaws.{answer-outside, answer-take, effect-refused, effect-take}
+use Rattle.log_core.proofs.Lengths.{row-length}
 use Rattle.log_core.proofs.Parts.decide.Statement.{statement}
 use Rattle.log_core.proofs.Parts.decide.Tie as tie
 
--- the test was made of the outcome with the vote
-tested : (c : tie.After-is-commit) → commits (c .before .before .before .before .before .before .before .args .self) (c .before .before .before .before .before .before .before .args .e) ≡ c .is-commit .result
-tested c =
-    sym (c .is-commit .ensures ∙ ap isCommitted (c .before .outcome .ensures) ∙ ap (λ (r : Row). isCommitted (outcomeOfVotes (r .votes))) (c .before .before .keeping .ensures))
+inside : (c : tie.Else1) → outside (c .before .before .before .args .e) ≡ false
+inside c = sym (c .before .outside .ensures) ∙ c .if1 .left
 
-refusal-requires : tie.Need-refusal-requires
-refusal-requires c κs = search needs
+outside-requires : tie.Need-outside-requires
+outside-requires c κs = search needs
 
 returns : tie.Need-returns
-returns c = effect-refused (c .before .before .before .args .self) (c .before .before .before .args .e) (c .before .before .refusal .result) (c .before .before .refusal .ensures) (c .if1 .taken)
+returns c =
+    let a = c .before .before .before .args in
+    effect-refused (a .self) (a .e) outsideLimits (answer-outside (a .self) (a .e) (sym (c .before .outside .ensures) ∙ c .if1 .taken)) (λ k. omega arith)
+
+take-refusal-requires : tie.Need-take-refusal-requires
+take-refusal-requires c κs = search needs
 
 returns-2 : tie.Need-returns-2
-returns-2 c = effect-taken (c .before .before .before .before .args .self) (c .before .before .before .before .args .e) (sym (c .before .before .before .refusal .ensures) ∙ c .before .if1 .left) (c .if2 .taken)
+returns-2 c =
+    let a = c .before .before .before .before .before .before .args in
+    effect-take (a .self) (a .e) (c .take-refusal .result) (c .take-refusal .ensures ∙ answer-take (a .self) (a .e) (inside (c .before .before .before)) (c .before .if2 .taken)) (c .before .if2 .taken)
 
-keeping-requires : tie.Need-keeping-requires
-keeping-requires c κs = search needs
+tally-requires : tie.Need-tally-requires
+tally-requires c κs = search needs
 
-outcome-requires : tie.Need-outcome-requires
-outcome-requires c κs = search needs
+any-clash-requires : tie.Need-any-clash-requires
+any-clash-requires c κs = search needs
 
-is-commit-requires : tie.Need-is-commit-requires
-is-commit-requires c κs = search needs
+cast-t12 : tie.Need-cast-t12
+cast-t12 c = search needs
 
-is-open-requires : tie.Need-is-open-requires
-is-open-requires c κs = search needs
+array-read-t15 : tie.Need-array-read-t15
+array-read-t15 c =
+    inside-vote (c .before .before .before .before .before .before .before .before .args .e) (inside (c .before .before .before .before .before)) (c .before .before .before .if2 .left) .by
 
--- whether it runs was asked of the same outcome
-asked : (c : tie.After-is-open) → c .is-open .result ≡ runsOn (c .before .before .before .before .before .before .before .before .before .args .self) (c .before .before .before .before .before .before .before .before .before .args .e)
-asked c =
-    c .is-open .ensures ∙ ap isOpen (c .before .before .before .outcome .ensures) ∙ ap (λ (r : Row). isOpen (outcomeOfVotes (r .votes))) (c .before .before .before .before .keeping .ensures)
+decide-requires : tie.Need-decide-requires
+decide-requires c κs = search needs
 
 returns-3 : tie.Need-returns-3
 returns-3 c =
-    effect-kept (c .before .before .before .before .before .before .before .before .before .args .self) (c .before .before .before .before .before .before .before .before .before .args .e) (sym (c .before .before .before .before .before .before .before .before .refusal .ensures) ∙ c .before .before .before .before .before .before .if1 .left) (c .before .before .before .before .before .if2 .left)
-    (c .is-open .result) (tested (c .before .before) ∙ not-true _ (c .before .if3 .taken)) (asked c)
-
-has32-requires : tie.Need-has32-requires
-has32-requires c κs = search needs
-
-next-group-requires : tie.Need-next-group-requires
-next-group-requires c κs = search needs
-
-returns-4 : tie.Need-returns-4
-returns-4 c =
-    effect-committed (c .before .before .before .before .before .before .before .before .before .before .args .self) (c .before .before .before .before .before .before .before .before .before .before .args .e) (sym (c .before .before .before .before .before .before .before .before .before .refusal .ensures) ∙ c .before .before .before .before .before .before .before .if1 .left) (c .before .before .before .before .before .before .if2 .left)
-    (c .next-group .result) (c .before .has32 .result) (tested (c .before .before .before) ∙ not-false _ (c .before .before .if3 .left)) (c .before .has32 .ensures) (c .next-group .ensures)
+    let s = c .before .before .before .before .before .before .before .before .before in
+    let p = s .args .self in
+    let e = s .args .e in
+    let tally = c .before .before .before .tally .ensures in
+    let clash = c .before .before .any-clash .ensures in
+    c .decide .ensures p
+    (λ i. record {
+      tally = tally i;
+      clash = clash i;
+      group = p .row .group;
+      holder = votePartsOf p e .holder;
+      groups = p .groups;
+      remembered = p .remembered;
+    })
+    (row-length p _ (s .good .0)) (inside (c .before .before .before .before .before .before)) (c .before .before .before .before .if2 .left)
 
 pub decide-spec : {M : Type 1} → statement M
 decide-spec =
     tie.close
     (tie.spec
-    refusal-requires
+    outside-requires
     returns
+    take-refusal-requires
     returns-2
-    keeping-requires
-    outcome-requires
-    is-commit-requires
-    is-open-requires
-    returns-3
-    has32-requires
-    next-group-requires
-    returns-4)
+    tally-requires
+    any-clash-requires
+    cast-t12
+    array-read-t15
+    decide-requires
+    returns-3)

@@ -3,7 +3,7 @@ use mathlib.Core.Bool.{false}
 use mathlib.Core.Path.{_≡_, sym, _∙_}
 use Rattle.log_entry.specs.Entry.{outside}
 use Rattle.log_entry.proofs.InsideLaws.{inside-vote}
-use Rattle.log_core.proofs.DecideLaws.{answer-held, answer-outside, answer-taken, answer-vote}
+use Rattle.log_core.proofs.DecideLaws.{answer-outside, answer-take, answer-vote}
 use Rattle.log_core.proofs.Parts.refusal.Statement.{statement}
 use Rattle.log_core.proofs.Parts.refusal.Tie as tie
 
@@ -16,26 +16,27 @@ outside-requires c κs = search needs
 returns : tie.Need-returns
 returns c = answer-outside (c .before .before .args .self) (c .before .before .args .e) (sym (c .before .outside .ensures) ∙ c .if1 .taken)
 
-holds-or-held-requires : tie.Need-holds-or-held-requires
-holds-or-held-requires c κs = search needs
+take-refusal-requires : tie.Need-take-refusal-requires
+take-refusal-requires c κs = search needs
 
 returns-2 : tie.Need-returns-2
-returns-2 c = answer-held (c .before .before .before .before .before .before .args .self) (c .before .before .before .before .before .before .args .e) (sym (c .before .before .before .before .before .outside .ensures) ∙ c .before .before .before .before .if1 .left) (c .before .before .if2 .taken) (sym (c .before .holds-or-held .ensures) ∙ c .if3 .taken)
-
-returns-3 : tie.Need-returns-3
-returns-3 c = answer-taken (c .before .before .before .before .before .before .args .self) (c .before .before .before .before .before .before .args .e) (sym (c .before .before .before .before .before .outside .ensures) ∙ c .before .before .before .before .if1 .left) (c .before .before .if2 .taken) (sym (c .before .holds-or-held .ensures) ∙ c .if3 .left)
+returns-2 c =
+    let a = c .before .before .before .before .before .args in
+    c .take-refusal .ensures ∙ answer-take (a .self) (a .e) (inside (c .before .before .before)) (c .before .if2 .taken)
 
 cast-vote-refusal : tie.Need-cast-vote-refusal
 cast-vote-refusal c = search needs
 
 array-read-vote-refusal : tie.Need-array-read-vote-refusal
-array-read-vote-refusal c = inside-vote (c .before .before .before .before .before .args .e) (sym (c .before .before .before .before .outside .ensures) ∙ c .before .before .before .if1 .left) (c .before .if2 .left) .by
+array-read-vote-refusal c = inside-vote (c .before .before .before .before .before .args .e) (inside (c .before .before .before)) (c .before .if2 .left) .by
 
 vote-refusal-requires : tie.Need-vote-refusal-requires
 vote-refusal-requires c κs = search needs
 
-returns-4 : tie.Need-returns-4
-returns-4 c = c .vote-refusal .ensures ∙ answer-vote (c .before .before .before .before .before .before .args .self) (c .before .before .before .before .before .before .args .e) (sym (c .before .before .before .before .before .outside .ensures) ∙ c .before .before .before .before .if1 .left) (c .before .before .if2 .left)
+returns-3 : tie.Need-returns-3
+returns-3 c =
+    let a = c .before .before .before .before .before .before .args in
+    c .vote-refusal .ensures ∙ answer-vote (a .self) (a .e) (inside (c .before .before .before .before)) (c .before .before .if2 .left)
 
 pub refusal-spec : {M : Type 1} → statement M
 refusal-spec =
@@ -43,10 +44,9 @@ refusal-spec =
     (tie.spec
     outside-requires
     returns
-    holds-or-held-requires
+    take-refusal-requires
     returns-2
-    returns-3
     cast-vote-refusal
     array-read-vote-refusal
     vote-refusal-requires
-    returns-4)
+    returns-3)
