@@ -13,7 +13,7 @@ use Rattle.log_entry.specs.Limits.{transactions}
 use Rattle.log_votes.specs.declared.Row.{Row}
 use Rattle.log_votes.specs.Outcome.{isKept, isOpen, outcomeOfVotes, running}
 use Rattle.log_votes.specs.Row.{emptyRow, inGroup, keeping, noRow, voteOfEntry}
-use Rattle.log_votes.specs.Scan.{anyFrom, setOf}
+use Rattle.log_votes.specs.Scan.{anyFrom}
 use Rattle.log_votes.proofs.ScanLaws.{any-set}
 use Rattle.log_votes.proofs.SetLaws.{set-changed, set-has, set-lt, set-of-none}
 use Rattle.log_core.specs.Group.{runningSet}

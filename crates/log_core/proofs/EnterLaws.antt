@@ -1,10 +1,10 @@
 -- The log after an entry, by its effect.
-use Prim.Native.Nat.{ℕ, _%_, _*_, _+_, _-_, _<_, _^_}
+use Prim.Native.Nat.{ℕ, _%_, _*_, _-_, _<_, _^_}
 use mathlib.Core.Bool.{Bool, cond, false, true}
 use mathlib.Core.Path.{_≡_, ap, ap₂, refl, sym, _∙_}
 use native.Mathlib.Nat.{mod-eq-of-lt, one-mul}
 use native.Mathlib.Omega.{arith}
-use borrow.Author.Tests.{eq-eqb, ne-eqb}
+use borrow.Author.Tests.{ne-eqb}
 use lib.Bits.{bitOr}
 use lib.Dec.{eqb}
 use lib.ListN.{getD, set}
@@ -17,7 +17,6 @@ use Rattle.log_entry.proofs.InsideLaws.{inside-vote}
 use Rattle.log_votes.specs.declared.Row.{Row}
 use Rattle.log_votes.specs.Row.{inGroup, keeping}
 use Rattle.log_core.specs.declared.Effect.{Effect}
-use Rattle.log_core.specs.declared.Entered.{Entered}
 use Rattle.log_core.specs.declared.Log.{Log}
 use Rattle.log_core.specs.declared.Parts.{Parts}
 use Rattle.log_core.specs.Decide.{effectOf, partsOf, refusal}

@@ -4,7 +4,6 @@ use mathlib.Core.Bool.{Bool, false, not, true, true≢false, _&&_, _||_}
 use mathlib.Core.List.{List}
 use mathlib.Core.Path.{_≡_, ap, refl, sym, _∙_}
 use native.Mathlib.Nat.{mod-eq-of-lt, one-mul}
-use native.Mathlib.Omega.{arith}
 use borrow.Author.Tests.{eq-eqb, eqb-true, ne-eqb}
 use lib.Bits.{bitOr}
 use lib.Dec.{eqb}

@@ -11,7 +11,7 @@ use lib.ListN.{drop, getD, length, length-replicate, length-set, set, take}
 use Rattle.log_entry.specs.declared.Entry.{Entry}
 use Rattle.log_entry.proofs.InsideLaws.{inside-process, inside-store, inside-vote}
 use Rattle.log_entry.specs.Entry.{outside}
-use Rattle.log_entry.specs.Limits.{stores, transactions}
+use Rattle.log_entry.specs.Limits.{transactions}
 use Rattle.log_entry.specs.Refusal.{accepted}
 use Rattle.log_votes.specs.declared.Row.{Row}
 use Rattle.log_votes.specs.Outcome.{running}

@@ -1,5 +1,4 @@
 use borrow.Author.Needs.{needs}
-use Rattle.host_lent.specs.Summary.{summaryParts}
 use Rattle.host_lent.proofs.Summary.parts.Statement.{statement}
 use Rattle.host_lent.proofs.Summary.parts.Tie as tie
 

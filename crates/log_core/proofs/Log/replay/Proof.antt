@@ -1,4 +1,3 @@
-use borrow.Author.Needs.{needs}
 use mathlib.Core.Path.{refl}
 use Rattle.log_core.proofs.ReplayLaws.{no-groups}
 use Rattle.log_core.proofs.Log.replay.Statement.{statement}

@@ -1,7 +1,7 @@
 -- From the last row to the first, the digits passed are the set of the rows passed.
 use borrow.Author.Needs.{needs}
 use Prim.Native.Nat.{_*_, _+_, _<_, _^_, _≤_}
-use mathlib.Core.Path.{_≡_, ap, ap₂, refl, sym, _∙_}
+use mathlib.Core.Path.{_≡_, ap, ap₂, _∙_}
 use mathlib.Core.Bool.{cond}
 use native.Mathlib.Omega.{arith}
 use Prim.Native.Nat.{ℕ}

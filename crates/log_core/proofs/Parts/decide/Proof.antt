@@ -1,11 +1,10 @@
 use borrow.Author.Needs.{needs}
-use mathlib.Core.Bool.{Bool, false}
+use mathlib.Core.Bool.{false}
 use mathlib.Core.Path.{_≡_, sym, _∙_}
 use native.Mathlib.Omega.{arith}
 use Rattle.log_entry.specs.Entry.{outside}
 use Rattle.log_entry.specs.Refusal.{outsideLimits}
 use Rattle.log_entry.proofs.InsideLaws.{inside-vote}
-use Rattle.log_core.specs.declared.VoteParts.{VoteParts}
 use Rattle.log_core.specs.Decide.{votePartsOf}
 use Rattle.log_core.proofs.DecideLaws.{answer-outside, answer-take, effect-refused, effect-take}
 use Rattle.log_core.proofs.Lengths.{row-length}

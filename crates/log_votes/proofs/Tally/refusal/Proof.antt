@@ -1,9 +1,6 @@
 use borrow.Author.Needs.{needs}
-use Prim.Native.Nat.{ℕ}
-use mathlib.Core.Path.{_≡_, ap, sym, _∙_}
-use Rattle.log_entry.specs.Bits.{has}
+use mathlib.Core.Path.{_≡_, sym, _∙_}
 use Rattle.log_votes.specs.declared.Row.{Row}
-use Rattle.log_votes.specs.declared.Tally.{Tally}
 use Rattle.log_votes.specs.Outcome.{tallyOf}
 use Rattle.log_votes.specs.Row.{voteOfStore}
 use Rattle.log_votes.proofs.RefusalLaws.{vote-accepted, vote-ill-formed, vote-kept-already, vote-not-holder, vote-other-list}
