@@ -62,11 +62,12 @@ pub record Filled (l : Log) (store : ℕ) (out : Replay) (rest : List Replayed) 
 
 module _ (l : Log) (store : ℕ) where
   pub filled-start : (out : Replay) → out ≡ noReplay → Filled l store out (replayRows l store)
+  unfolding noReplay
   filled-start out is = subst (λ (o : Replay). Filled l store o (replayRows l store)) (sym is) (record { stored = refl; counted = omega arith })
 
   -- without a group there are no rows
   pub no-groups : l .groups ≡ 0 → noReplay ≡ replayOf l store
-  unfolding replayOf replayFrom
+  unfolding noReplay replayOf replayFrom
   no-groups h = rw h
 
   pub filled-same : (out : Replay) (rest rest′ : List Replayed) → rest ≡ rest′ → Filled l store out rest → Filled l store out rest′

@@ -17,7 +17,7 @@ abbrev pub noReplayed : Replayed
 noReplayed = record { group = 0; tx = 0; update = 0 }
 
 -- the replay without rows
-abbrev pub noReplay : Replay
+unfoldable pub noReplay : Replay
 noReplay = record { count = 0; rows = replicate transactions noReplayed }
 
 -- the group's part of the replay, the first row being transaction tx

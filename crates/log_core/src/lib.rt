@@ -1,6 +1,7 @@
 // The commit log, document 01's plain log: it keeps the stores' votes, and decides.
 ghost use mathlib.Core.Path.{_≡_};
 ghost use Rattle.log_core.specs.Log.{emptyLog};
+ghost use Rattle.log_core.specs.Replay.{noReplay};
 use log_entry::limits::STORE_PLACES;
 use log_entry::limits::TRANSACTION_PLACES;
 use log_votes::Row;
@@ -83,6 +84,23 @@ pub struct Replayed {
 pub struct Replay {
     pub count: u8,
     pub rows: [Replayed; TRANSACTION_PLACES],
+}
+
+impl Replay {
+    // The replay without rows.
+    pub fn none() -> Replay
+        ensures { λ r. ⌜ r ≡ noReplay ⌝ }
+    {
+        let row = Replayed {
+            group: 0,
+            tx: 0,
+            update: 0,
+        };
+        Replay {
+            count: 0,
+            rows: [row; TRANSACTION_PLACES],
+        }
+    }
 }
 
 impl Log {

@@ -4,7 +4,6 @@ ghost use Rattle.log_core.specs.Replay.{noReplay, replayOf};
 use crate::Log;
 use crate::Replay;
 use crate::Replayed;
-use log_entry::limits::TRANSACTION_PLACES;
 use log_entry::limits::TRANSACTIONS;
 
 impl Log {
@@ -44,15 +43,7 @@ impl Log {
     pub fn replay(self, store: u8) -> Replay
         ensures { λ r. ⌜ r ≡ replayOf self store ⌝ }
     {
-        let none = Replayed {
-            group: 0,
-            tx: 0,
-            update: 0,
-        };
-        let empty = Replay {
-            count: 0,
-            rows: [none; TRANSACTION_PLACES],
-        };
+        let empty = Replay::none();
         if self.groups == 0 {
             return empty;
         }

@@ -22,7 +22,8 @@ use Rattle.model_protocol.specs.declared.Heard.{Heard}
 use Rattle.model_protocol.specs.declared.World.{World}
 use Rattle.model_protocol.specs.Batch.{noEntry}
 use Rattle.model_protocol.specs.Limits.{slotPlaces, processPlaces, queuePlaces}
-use Rattle.model_protocol.specs.Message.{noMessage, noReplay}
+use Rattle.log_core.specs.Replay.{noReplay}
+use Rattle.model_protocol.specs.Message.{noMessage}
 use Rattle.model_protocol.specs.Queue.{queueOf}
 use Rattle.model_protocol.specs.Step.{run, stepOf}
 use Rattle.model_protocol.specs.World.{emptySlot, freshCoordinator, freshProcess, freshWorld}

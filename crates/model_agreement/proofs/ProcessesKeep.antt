@@ -16,7 +16,7 @@ use Rattle.log_core.specs.declared.Replay.{Replay}
 use Rattle.model_protocol.specs.declared.Heard.{Heard}
 use Rattle.model_protocol.specs.declared.Process.{Process}
 use Rattle.model_protocol.specs.declared.World.{World}
-use Rattle.model_protocol.specs.Message.{noReplay}
+use Rattle.log_core.specs.Replay.{noReplay}
 use Rattle.model_protocol.specs.Process.{hearingOutcome, taking}
 use Rattle.model_protocol.specs.World.{freshProcess, processOf}
 use Rattle.model_agreement.specs.Content.{Content, restore, tell}

@@ -12,7 +12,8 @@ use Rattle.model_steps.specs.Limits.{messages}
 use Rattle.model_paxos.proofs.Grow.{New, NewAll, new, newAt}
 use Rattle.model_protocol.specs.declared.Message.{Message}
 use Rattle.model_protocol.specs.declared.World.{World}
-use Rattle.model_protocol.specs.Message.{noMessage, noReplay}
+use Rattle.log_core.specs.Replay.{noReplay}
+use Rattle.model_protocol.specs.Message.{noMessage}
 use Rattle.model_protocol.specs.Send.{sendToAll}
 use Rattle.model_agreement.specs.Content.{Content, contentOf}
 

@@ -17,7 +17,7 @@ use Rattle.model_paxos.specs.Ballot.{Majority}
 use Rattle.model_paxos.specs.Messages.{accept, accepted, prepare}
 use Rattle.model_protocol.specs.declared.Batch.{Batch}
 use Rattle.model_protocol.specs.declared.World.{World}
-use Rattle.model_protocol.specs.Message.{noReplay}
+use Rattle.log_core.specs.Replay.{noReplay}
 use Rattle.model_protocol.specs.Step.{stepOf}
 use Rattle.model_protocol.specs.World.{freshWorld, messageOf, replayWith}
 use Rattle.model_agreement.specs.Content.{Content, contentOf, paxos, request, restore, tell}

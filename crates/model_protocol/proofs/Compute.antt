@@ -8,7 +8,7 @@ use Rattle.log_core.specs.Enter.{enter, entered, feed, stored}
 use Rattle.log_core.specs.Group.{remembered}
 use Rattle.log_core.specs.Log.{emptyLog}
 use Rattle.log_votes.specs.Outcome.{outcomeOfVotes, running}
-use Rattle.log_core.specs.Replay.{groupReplay, replayFrom, replayOf}
+use Rattle.log_core.specs.Replay.{groupReplay, noReplay, replayFrom, replayOf}
 use Rattle.log_votes.specs.Scan.{allFrom, anyFrom, setOf}
 use Rattle.model_steps.specs.declared.Step.{Step}
 use Rattle.model_steps.specs.Limits.{outsideStep}
@@ -16,7 +16,6 @@ use Rattle.model_protocol.specs.declared.World.{World}
 use Rattle.model_protocol.specs.Batch.{batchOf, noBatch}
 use Rattle.model_protocol.specs.Coordinator.{batchToPropose, learning, promiseHeard}
 use Rattle.model_protocol.specs.Deliver.{deliveryChange}
-use Rattle.model_protocol.specs.Message.{noReplay}
 use Rattle.model_protocol.specs.Places.{placesOf}
 use Rattle.model_protocol.specs.Queue.{firstBatch, isIn, joining, leftBy, queueOf, without}
 use Rattle.model_protocol.specs.Send.{copyOf, sendToAll}

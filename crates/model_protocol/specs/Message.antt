@@ -1,21 +1,13 @@
 -- The messages of each kind. What a kind does not use is 0.
 use Prim.Native.Nat.{ℕ}
-use lib.ListN.{replicate}
 use Rattle.log_entry.specs.declared.Entry.{Entry}
-use Rattle.log_entry.specs.Limits.{transactions}
 use Rattle.log_votes.specs.declared.Outcome.{Outcome}
 use Rattle.log_votes.specs.declared.Outcome.the-variants.{Open}
-use Rattle.log_core.specs.declared.Replay.{Replay}
-use Rattle.log_core.specs.Replay.{noReplayed}
 use Rattle.model_protocol.specs.declared.Batch.{Batch}
 use Rattle.model_protocol.specs.declared.Kind.{Kind}
 use Rattle.model_protocol.specs.declared.Kind.the-variants.{Request, Prepare, Accept, Promise, Accepted, Tell, Restore}
 use Rattle.model_protocol.specs.declared.Message.{Message}
 use Rattle.model_protocol.specs.Batch.{noBatch, noEntry}
-
--- the place of no replay
-unfoldable pub noReplay : Replay
-noReplay = record { count = 0; rows = replicate transactions noReplayed }
 
 -- a message between an acceptor and the ballot's coordinator
 abbrev pub ballotMessage : Kind → ℕ → ℕ → ℕ → ℕ → Batch → Message

@@ -9,6 +9,7 @@ use Rattle.log_core.specs.declared.Log.{Log}
 use Rattle.log_core.specs.declared.Replay.{Replay}
 use Rattle.log_votes.specs.declared.Outcome.the-variants.{Open}
 use Rattle.log_core.specs.Log.{emptyLog}
+use Rattle.log_core.specs.Replay.{noReplay}
 use Rattle.model_steps.specs.declared.Role.{Role}
 use Rattle.model_steps.specs.declared.Role.the-variants.{Acceptor, Coord, Proc}
 use Rattle.model_steps.specs.Limits.{coordinators, instances, messages, mostAcceptors}
@@ -21,7 +22,7 @@ use Rattle.model_protocol.specs.declared.Round.{Round}
 use Rattle.model_protocol.specs.declared.World.{World}
 use Rattle.model_protocol.specs.Batch.{noBatch}
 use Rattle.model_protocol.specs.Limits.{slotPlaces, processPlaces}
-use Rattle.model_protocol.specs.Message.{noMessage, noReplay}
+use Rattle.model_protocol.specs.Message.{noMessage}
 use Rattle.model_protocol.specs.Queue.{queueOf}
 
 -- ---- at first

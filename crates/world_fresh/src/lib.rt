@@ -2,12 +2,11 @@
 ghost use mathlib.Core.List.{[]};
 ghost use mathlib.Core.Path.{_≡_};
 ghost use Rattle.model_protocol.specs.Batch.{noBatch, noEntry};
-ghost use Rattle.model_protocol.specs.Message.{noMessage, noReplay};
+ghost use Rattle.model_protocol.specs.Message.{noMessage};
 ghost use Rattle.model_protocol.specs.Queue.{queueOf};
 ghost use Rattle.model_protocol.specs.World.{allUp, emptySlot, freshCoordinator, freshProcess, freshWorld, newRound};
 use log_core::Log;
 use log_core::Replay;
-use log_core::Replayed;
 use log_entry::Entry;
 use log_entry::limits::TRANSACTION_PLACES;
 use log_votes::Outcome;
@@ -91,21 +90,6 @@ pub fn fresh_coordinator() -> Coordinator
     }
 }
 
-pub fn no_replay() -> Replay
-    ensures { λ r. ⌜ r ≡ noReplay ⌝ }
-{
-    let none = Replayed {
-        group: 0,
-        tx: 0,
-        update: 0,
-    };
-    Replay {
-        count: 0,
-        rows: [none; TRANSACTION_PLACES],
-    }
-}
-
-// The place of no message.
 pub fn no_message() -> Message
     ensures { λ r. ⌜ r ≡ noMessage ⌝ }
 {
@@ -166,7 +150,7 @@ pub fn fresh_world() -> World
     let log = Log::empty();
     let process = fresh_process();
     let none = no_message();
-    let replay = no_replay();
+    let replay = Replay::none();
     World {
         acceptors: 0,
         slots: [slot; SLOT_PLACES],

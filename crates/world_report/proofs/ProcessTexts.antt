@@ -14,7 +14,7 @@ use Rattle.log_votes.proofs.Outcome.{the-type as outcome-type}
 use Rattle.log_votes.proofs.InList.{in-list}
 use Rattle.log_core.specs.declared.Replay.{Replay}
 use Rattle.model_protocol.specs.declared.Process.{Process}
-use Rattle.model_protocol.specs.Message.{noReplay}
+use Rattle.log_core.specs.Replay.{noReplay}
 use Rattle.model_protocol.specs.World.{freshProcess}
 use Rattle.text_report.specs.Report.{replayText, rowsOf}
 use Rattle.world_report.proofs.Elements.{element-from-1}

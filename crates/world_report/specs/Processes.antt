@@ -11,7 +11,7 @@ use Rattle.log_votes.specs.declared.Outcome.the-variants.{Open}
 use Rattle.log_votes.specs.Outcome.{isOpen}
 use Rattle.log_core.specs.declared.Replay.{Replay}
 use Rattle.model_protocol.specs.declared.Process.{Process}
-use Rattle.model_protocol.specs.Message.{noReplay}
+use Rattle.log_core.specs.Replay.{noReplay}
 use Rattle.model_protocol.specs.World.{freshProcess}
 use Rattle.text_report.specs.Report.{each, end, field, outcomeField, replayText, rowsOf}
 

@@ -18,8 +18,8 @@ fresh-process-requires c κs = search needs
 no-message-requires : tie.Need-no-message-requires
 no-message-requires c κs = search needs
 
-no-replay-requires : tie.Need-no-replay-requires
-no-replay-requires c κs = search needs
+none-requires : tie.Need-none-requires
+none-requires c κs = search needs
 
 all-up-requires : tie.Need-all-up-requires
 all-up-requires c κs = search needs
@@ -37,6 +37,6 @@ fresh-world-spec =
     empty-requires
     fresh-process-requires
     no-message-requires
-    no-replay-requires
+    none-requires
     all-up-requires
     returns)

@@ -1,16 +1,20 @@
-use mathlib.Core.Path.{refl}
+use borrow.Author.Needs.{needs}
+use mathlib.Core.Path.{_∙_}
 use Rattle.log_core.proofs.ReplayLaws.{no-groups}
 use Rattle.log_core.proofs.Log.replay.Statement.{statement}
 use Rattle.log_core.proofs.Log.replay.Tie as tie
 
+none-requires : tie.Need-none-requires
+none-requires c κs = search needs
+
 returns : tie.Need-returns
-returns c = no-groups (c .before .before .args .self) (c .before .before .args .store) (c .if1 .taken)
+returns c = c .before .before .none .ensures ∙ no-groups (c .before .before .before .args .self) (c .before .before .before .args .store) (c .if1 .taken)
 
 replay-into-requires : tie.Need-replay-into-requires
-replay-into-requires c κs = refl
+replay-into-requires c κs = c .before .before .none .ensures
 
 returns-2 : tie.Need-returns-2
 returns-2 c = c .replay-into .ensures
 
 pub replay-spec : {M : Type 1} → statement M
-replay-spec = tie.close (tie.spec returns replay-into-requires returns-2)
+replay-spec = tie.close (tie.spec none-requires returns replay-into-requires returns-2)

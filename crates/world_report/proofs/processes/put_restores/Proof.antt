@@ -3,7 +3,7 @@ use native.Mathlib.Omega.{arith}
 use borrow.Author.Needs.{needs}
 use lib.ListN.{getD}
 use Rattle.log_entry.specs.Limits.{processes}
-use Rattle.model_protocol.specs.Message.{noReplay}
+use Rattle.log_core.specs.Replay.{noReplay}
 use Rattle.model_protocol.specs.World.{freshProcess}
 use Rattle.world_report.specs.Longest.{longestRestore}
 use Rattle.world_report.specs.Processes.{restoreText}
