@@ -9,14 +9,8 @@ use Rattle.host_lent.proofs.LentLaws.{count-beyond, count-within, parts
 use Rattle.host_lent.proofs.lent_log.Statement.{statement}
 use Rattle.host_lent.proofs.lent_log.Tie as tie
 
-empty-requires : tie.Need-empty-requires
-empty-requires c κs = search needs
-
 returns : tie.Need-returns
 returns c = parts (ap (λ (l : Log). answered l outsideLimits) (c .empty .ensures) ∙ count-beyond (c .before .before .before .args .lent .now) (c .before .before .before .args .count) (c .before .if1 .taken))
-
-none-requires : tie.Need-none-requires
-none-requires c κs = search needs
 
 entered-requires : tie.Need-entered-requires
 entered-requires c κs = (c .before .none .ensures, omega (arith, c .before .before .if1 .left))
@@ -27,4 +21,4 @@ returns-2 c =
     (c .entered .ensures .0 ∙ ap (λ (t : Entered). t .log) w, c .entered .ensures .1 ∙ ap (λ (t : Entered). t .answer) w)
 
 pub lent-log-spec : {M : Type 1} → statement M
-lent-log-spec = tie.close (tie.spec empty-requires returns none-requires entered-requires returns-2)
+lent-log-spec = tie.close (tie.spec (λ c κs. search needs) returns (λ c κs. search needs) entered-requires returns-2)

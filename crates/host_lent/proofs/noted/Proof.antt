@@ -10,9 +10,6 @@ use Rattle.host_lent.proofs.noted.Tie as tie
 shl-bit : tie.Need-shl-bit
 shl-bit c = omega (arith, c .pre .0)
 
-has32-requires : tie.Need-has32-requires
-has32-requires c κs = search needs
-
 returns : tie.Need-returns
 returns c =
     let a = c .before .before .before .args in
@@ -47,4 +44,12 @@ returns-4 c =
 
 pub noted-spec : {M : Type 1} → statement M
 noted-spec =
-    tie.close (tie.spec shl-bit has32-requires returns sub-result returns-2 add-result returns-3 returns-4)
+    tie.close (tie.spec
+    shl-bit
+    (λ c κs. search needs)
+    returns
+    sub-result
+    returns-2
+    add-result
+    returns-3
+    returns-4)

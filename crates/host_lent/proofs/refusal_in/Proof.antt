@@ -4,12 +4,6 @@ use Rattle.host_lent.specs.Lent.{refusalIn}
 use Rattle.host_lent.proofs.refusal_in.Statement.{statement}
 use Rattle.host_lent.proofs.refusal_in.Tie as tie
 
-enum-known-reading : tie.Need-enum-known-reading
-enum-known-reading c = search needs
-
-enum-known-reading-2 : tie.Need-enum-known-reading-2
-enum-known-reading-2 c = search needs
-
 returns : tie.Need-returns
 returns c = ap refusalIn (sym (c .before .reading .given .1))
 
@@ -17,4 +11,4 @@ returns-2 : tie.Need-returns-2
 returns-2 c = ap refusalIn (sym (c .before .reading2 .given .1))
 
 pub refusal-in-spec : {M : Type 1} → statement M
-refusal-in-spec = tie.close (tie.spec enum-known-reading enum-known-reading-2 returns returns-2)
+refusal-in-spec = tie.close (tie.spec (λ c. search needs) (λ c. search needs) returns returns-2)

@@ -12,13 +12,10 @@ returns c =
     let a = c .before .before .args in
     sym (ap (λ (e : Entered). e .answer) (refused-is (a .log) (a .c) (a .c .refused) refl (ne-eqb (a .c .refused) accepted (c .if1 .taken))))
 
-answer-to-requires : tie.Need-answer-to-requires
-answer-to-requires c κs = search needs
-
 returns-2 : tie.Need-returns-2
 returns-2 c =
     let a = c .before .before .before .args in
     c .answer-to .ensures ∙ sym (ap (λ (e : Entered). e .answer) (entry-is (a .log) (a .c) (c .before .if1 .left)))
 
 pub answer-to-spec : {M : Type 1} → statement M
-answer-to-spec = tie.close (tie.spec returns answer-to-requires returns-2)
+answer-to-spec = tie.close (tie.spec returns (λ c κs. search needs) returns-2)

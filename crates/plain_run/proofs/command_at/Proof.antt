@@ -10,16 +10,10 @@ use borrow.Author.Needs.{needs}
 use Rattle.plain_run.proofs.command_at.Statement.{statement}
 use Rattle.plain_run.proofs.command_at.Tie as tie
 
-refuse-requires : tie.Need-refuse-requires
-refuse-requires c κs = search needs
-
 returns : tie.Need-returns
 returns c l =
     let a = c .before .before .args in
     refused-is l (c .refuse .result) noPlace (c .refuse .ensures) refl ∙ last-line l (a .line) (a .count) (c .before .if1 .taken)
-
-refuse-requires-2 : tie.Need-refuse-requires-2
-refuse-requires-2 c κs = search needs
 
 returns-2 : tie.Need-returns-2
 returns-2 c l =
@@ -28,23 +22,14 @@ returns-2 c l =
     ∙ held-long l (a .line) (c .before .if2 .taken)
     ∙ usual-line l (a .line) (a .count) (c .before .before .before .if1 .left)
 
-cast-n : tie.Need-cast-n
-cast-n c = search needs
-
 array-share-prefix-bytes : tie.Need-array-share-prefix-bytes
 array-share-prefix-bytes c = let a = c .before .before .before .before .before .args in omega (arith, bytes-length (a .line) _ (c .before .before .before .before .before .good .1 .0))
 
 slice-aggregate-read-entry : tie.Need-slice-aggregate-read-entry
 slice-aggregate-read-entry c = let a = c .before .before .before .before .before .before .args in sym (length-take-le (a .line .length) (a .line .bytes) (omega (arith, bytes-length (a .line) _ (c .before .before .before .before .before .before .good .1 .0))))
 
-read-entry-requires : tie.Need-read-entry-requires
-read-entry-requires c κs = search needs
-
 enum-told : tie.Need-enum-told
 enum-told c = search needs
-
-refuse-requires-3 : tie.Need-refuse-requires-3
-refuse-requires-3 c κs = search needs
 
 returns-3 : tie.Need-returns-3
 returns-3 c l =
@@ -52,12 +37,6 @@ returns-3 c l =
     refused-is l (c .refuse3 .result) outsideLimits (c .refuse3 .ensures) refl
     ∙ held-short l (a .line) (c .before .before .before .before .before .before .before .if2 .left) Outside (sym (c .before .before .before .read-entry .ensures) ∙ c .before .enum-told .given .1)
     ∙ usual-line l (a .line) (a .count) (c .before .before .before .before .before .before .before .before .before .if1 .left)
-
-enum-known-reading : tie.Need-enum-known-reading
-enum-known-reading c = search needs
-
-refuse-requires-4 : tie.Need-refuse-requires-4
-refuse-requires-4 c κs = search needs
 
 returns-4 : tie.Need-returns-4
 returns-4 c l =
@@ -77,18 +56,17 @@ pub command-at-spec : {M : Type 1} → statement M
 command-at-spec =
     tie.close
     (tie.spec
-    refuse-requires
+    (λ c κs. search needs)
     returns
-    refuse-requires-2
+    (λ c κs. search needs)
     returns-2
-    cast-n
+    (λ c. search needs)
     array-share-prefix-bytes
     slice-aggregate-read-entry
-    read-entry-requires
+    (λ c κs. search needs)
     enum-told
-    refuse-requires-3
+    (λ c κs. search needs)
     returns-3
-    enum-known-reading
-    refuse-requires-4
+    (λ c. search needs) (λ c κs. search needs)
     returns-4
     returns-5)

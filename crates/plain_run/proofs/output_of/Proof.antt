@@ -11,21 +11,6 @@ use Rattle.plain_run.proofs.Meaning.{output-is-plain}
 use Rattle.plain_run.proofs.output_of.Statement.{statement}
 use Rattle.plain_run.proofs.output_of.Tie as tie
 
-finish-requires : tie.Need-finish-requires
-finish-requires c κs = search needs
-
-slice-aggregate-put-answers : tie.Need-slice-aggregate-put-answers
-slice-aggregate-put-answers c = search needs
-
-put-answers-requires : tie.Need-put-answers-requires
-put-answers-requires c κs = search needs
-
-slice-aggregate-put-log : tie.Need-slice-aggregate-put-log
-slice-aggregate-put-log c = search needs
-
-put-log-requires : tie.Need-put-log-requires
-put-log-requires c κs = search needs
-
 returns : tie.Need-returns
 returns c =
     λ bytes is.
@@ -37,9 +22,6 @@ pub output-of-spec : {M : Type 1} → statement M
 output-of-spec =
     tie.close
     (tie.spec
-    finish-requires
-    slice-aggregate-put-answers
-    put-answers-requires
-    slice-aggregate-put-log
-    put-log-requires
+    (λ c κs. search needs) (λ c. search needs) (λ c κs. search needs) (λ c. search needs)
+    (λ c κs. search needs)
     returns)

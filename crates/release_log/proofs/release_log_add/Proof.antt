@@ -5,42 +5,18 @@ use Rattle.host_lent.proofs.LentLaws.{whole-of}
 use Rattle.release_log.proofs.release_log_add.Statement.{statement}
 use Rattle.release_log.proofs.release_log_add.Tie as tie
 
-lent-log-requires : tie.Need-lent-log-requires
-lent-log-requires c κs = search needs
-
-same-length : tie.Need-same-length
-same-length c = search needs
-
 returns : tie.Need-returns
 returns c = let a = c .before .before .before .before .before .before .args in records-refused (a .records .now) (a .count) _ (whole-of (c .before .before .lent-log .ensures .0) (c .before .before .lent-log .ensures .1)) (c .before .if1 .taken)
-
-read-requires : tie.Need-read-requires
-read-requires c κs = search needs
-
-enum-known-n : tie.Need-enum-known-n
-enum-known-n c = search needs
-
-cast-result : tie.Need-cast-result
-cast-result c = search needs
-
-enum-known-e : tie.Need-enum-known-e
-enum-known-e c = search needs
 
 add-entry-requires : tie.Need-add-entry-requires
 add-entry-requires c κs =
     let a = c .before .before .before .before .before .before .before .before .before .before .args in
     count-fits (a .records .now) (a .count) (sym (c .before .before .before .before .before .before .lent-log .ensures .1) ∙ c .before .before .before .before .before .if1 .left)
 
-same-length-2 : tie.Need-same-length-2
-same-length-2 c = search needs
-
 returns-2 : tie.Need-returns-2
 returns-2 c =
     let a = c .before .before .before .before .before .before .before .before .before .args in
     numbers-refused (a .records .now) (a .count) _ (whole-of (c .before .before .before .before .before .lent-log .ensures .0) (c .before .before .before .before .before .lent-log .ensures .1)) (c .before .before .before .before .if1 .left) (c .before .before .before .read .ensures) (c .before .n .given .1)
-
-same-length-3 : tie.Need-same-length-3
-same-length-3 c = search needs
 
 returns-3 : tie.Need-returns-3
 returns-3 c =
@@ -60,15 +36,11 @@ pub release-log-add-spec : {M : Type 1} → statement M
 release-log-add-spec =
     tie.close
     (tie.spec
-    lent-log-requires
-    same-length
+    (λ c κs. search needs) (λ c. search needs)
     returns
-    read-requires
-    enum-known-n
-    cast-result
-    enum-known-e
+    (λ c κs. search needs) (λ c. search needs) (λ c. search needs) (λ c. search needs)
     add-entry-requires
-    same-length-2
+    (λ c. search needs)
     returns-2
-    same-length-3
+    (λ c. search needs)
     returns-3)

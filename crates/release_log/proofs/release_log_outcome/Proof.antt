@@ -12,38 +12,11 @@ use Rattle.release_log.proofs.QueryLaws.{numbers-outside, records-refus
 use Rattle.release_log.proofs.release_log_outcome.Statement.{statement}
 use Rattle.release_log.proofs.release_log_outcome.Tie as tie
 
-lent-log-requires : tie.Need-lent-log-requires
-lent-log-requires c κs = search needs
-
 returns : tie.Need-returns
 returns c = records-refused _ _ (whole-of (c .before .before .lent-log .ensures .0) (c .before .before .lent-log .ensures .1)) (c .before .if1 .taken)
 
-cast-if2 : tie.Need-cast-if2
-cast-if2 c = search needs
-
-cast-result : tie.Need-cast-result
-cast-result c = search needs
-
 returns-2 : tie.Need-returns-2
 returns-2 c = numbers-outside _ _ (whole-of (c .before .before .lent-log .ensures .0) (c .before .before .lent-log .ensures .1)) (c .before .if1 .left) (le-leb transactions (c .before .before .before .before .before .before .args .tx) (c .if2 .taken))
-
-mul-row : tie.Need-mul-row
-mul-row c = search needs
-
-element-copy-out-row : tie.Need-element-copy-out-row
-element-copy-out-row c = search needs
-
-outcome-requires : tie.Need-outcome-requires
-outcome-requires c κs = search needs
-
-number-requires : tie.Need-number-requires
-number-requires c κs = search needs
-
-answer-byte-requires : tie.Need-answer-byte-requires
-answer-byte-requires c κs = search needs
-
-same-length : tie.Need-same-length
-same-length c = search needs
 
 returns-3 : tie.Need-returns-3
 returns-3 c =
@@ -64,15 +37,10 @@ pub release-log-outcome-spec : {M : Type 1} → statement M
 release-log-outcome-spec =
     tie.close
     (tie.spec
-    lent-log-requires
+    (λ c κs. search needs)
     returns
-    cast-if2
-    cast-result
+    (λ c. search needs) (λ c. search needs)
     returns-2
-    mul-row
-    element-copy-out-row
-    outcome-requires
-    number-requires
-    answer-byte-requires
-    same-length
+    (λ c. search needs) (λ c. search needs) (λ c κs. search needs) (λ c κs. search needs)
+    (λ c κs. search needs) (λ c. search needs)
     returns-3)

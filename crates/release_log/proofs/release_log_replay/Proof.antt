@@ -26,35 +26,17 @@ few c =
     let k = rows-length (t .result) _ (t .ok) in
     omega arith
 
-lent-log-requires : tie.Need-lent-log-requires
-lent-log-requires c κs = search needs
-
 returns : tie.Need-returns
 returns c = records-refused _ _ (whole-of (c .before .before .lent-log .ensures .0) (c .before .before .lent-log .ensures .1)) (c .before .if1 .taken)
 
-cast-if2 : tie.Need-cast-if2
-cast-if2 c = search needs
-
-cast-result : tie.Need-cast-result
-cast-result c = search needs
-
 returns-2 : tie.Need-returns-2
 returns-2 c = numbers-outside _ _ (whole-of (c .before .before .lent-log .ensures .0) (c .before .before .lent-log .ensures .1)) (c .before .if1 .left) (le-leb stores (c .before .before .before .before .before .before .args .store) (c .if2 .taken))
-
-cast-replay : tie.Need-cast-replay
-cast-replay c = search needs
-
-replay-requires : tie.Need-replay-requires
-replay-requires c κs = search needs
 
 answer-rows-requires : tie.Need-answer-rows-requires
 answer-rows-requires c κs =
     let h = replay-count (c .before .before .before .before .lent-log .result) (c .before .before .before .before .before .before .before .before .args .store) (c .replay .ensures) in
     let k = few c in
     omega arith
-
-same-length : tie.Need-same-length
-same-length c = search needs
 
 returns-3 : tie.Need-returns-3
 returns-3 c =
@@ -74,13 +56,11 @@ pub release-log-replay-spec : {M : Type 1} → statement M
 release-log-replay-spec =
     tie.close
     (tie.spec
-    lent-log-requires
+    (λ c κs. search needs)
     returns
-    cast-if2
-    cast-result
+    (λ c. search needs) (λ c. search needs)
     returns-2
-    cast-replay
-    replay-requires
+    (λ c. search needs) (λ c κs. search needs)
     answer-rows-requires
-    same-length
+    (λ c. search needs)
     returns-3)

@@ -14,9 +14,6 @@ returns-2 c =
     let a = c .before .before .before .args in
     other-instance (a .n) (a .k) (a .coord) (a .inst) (a .ballot) (c .before .before .if1 .left) (c .if2 .taken)
 
-owner-requires : tie.Need-owner-requires
-owner-requires c κs = search needs
-
 returns-3 : tie.Need-returns-3
 returns-3 c =
     let a = c .before .before .before .before .before .args in
@@ -28,4 +25,4 @@ returns-4 c =
     own (a .n) (a .k) (a .coord) (a .inst) (a .ballot) (c .before .before .before .before .before .if1 .left) (c .before .before .before .if2 .left) (sym (c .before .before .owner .ensures) ∙ c .before .if3 .left)
 
 pub ballot-barred-spec : {M : Type 1} → statement M
-ballot-barred-spec = tie.close (tie.spec returns returns-2 owner-requires returns-3 returns-4)
+ballot-barred-spec = tie.close (tie.spec returns returns-2 (λ c κs. search needs) returns-3 returns-4)

@@ -15,33 +15,9 @@ unfolding stepChecks firstRefusal
 answer-is c =
     c .first-of .ensures ∙ same-first false false _ _ _ _ _ _ false false refl (c .before .before .before .is-down .ensures) (c .before .before .ballot-barred .ensures) (c .before .lacks-numbers .ensures) refl
 
-is-down-requires : tie.Need-is-down-requires
-is-down-requires c κs = search needs
-
-ballot-barred-requires : tie.Need-ballot-barred-requires
-ballot-barred-requires c κs = search needs
-
-lacks-numbers-requires : tie.Need-lacks-numbers-requires
-lacks-numbers-requires c κs = search needs
-
-first-of-requires : tie.Need-first-of-requires
-first-of-requires c κs = search needs
-
-without-messages-requires : tie.Need-without-messages-requires
-without-messages-requires c κs = search needs
-
 returns : tie.Need-returns
 unfolding planOf
 returns c = let a = c .before .before .before .before .before .before .before .args in c .without-messages .ensures ∙ refused-is _ _ _ (changeOf (a .p) (Open (a .coord) (a .inst) (a .ballot))) (answer-is (c .before .before)) (c .before .if1 .taken)
-
-new-round-requires : tie.Need-new-round-requires
-new-round-requires c κs = search needs
-
-prepare-to-requires : tie.Need-prepare-to-requires
-prepare-to-requires c κs = search needs
-
-sending-requires : tie.Need-sending-requires
-sending-requires c κs = search needs
 
 returns-2 : tie.Need-returns-2
 unfolding planOf changeOf
@@ -55,13 +31,8 @@ pub open-spec : {M : Type 1} → statement M
 open-spec =
     tie.close
     (tie.spec
-    is-down-requires
-    ballot-barred-requires
-    lacks-numbers-requires
-    first-of-requires
-    without-messages-requires
+    (λ c κs. search needs) (λ c κs. search needs) (λ c κs. search needs) (λ c κs. search needs)
+    (λ c κs. search needs)
     returns
-    new-round-requires
-    prepare-to-requires
-    sending-requires
+    (λ c κs. search needs) (λ c κs. search needs) (λ c κs. search needs)
     returns-2)

@@ -20,9 +20,6 @@ returns-3 c =
     let a = c .before .before .before .before .before .args in
     other-ballot (a .n) (a .k) (a .inst) (a .ballot) (c .before .before .before .before .if1 .left) (c .before .before .if2 .left) (c .if3 .taken)
 
-is-majority-requires : tie.Need-is-majority-requires
-is-majority-requires c κs = search needs
-
 returns-4 : tie.Need-returns-4
 returns-4 c =
     let a = c .before .before .before .before .before .before .before .args in
@@ -50,7 +47,7 @@ proposal-barred-spec =
     returns
     returns-2
     returns-3
-    is-majority-requires
+    (λ c κs. search needs)
     returns-4
     returns-5
     returns-6

@@ -18,36 +18,9 @@ unfolding stepChecks firstRefusal
 answer-is c =
     c .first-of .ensures ∙ same-first false false _ _ _ _ _ _ false false refl (c .before .before .before .is-down .ensures) (c .before .before .proposal-barred .ensures) (c .before .lacks-numbers .ensures) refl
 
-is-down-requires : tie.Need-is-down-requires
-is-down-requires c κs = search needs
-
-proposal-barred-requires : tie.Need-proposal-barred-requires
-proposal-barred-requires c κs = search needs
-
-lacks-numbers-requires : tie.Need-lacks-numbers-requires
-lacks-numbers-requires c κs = search needs
-
-first-of-requires : tie.Need-first-of-requires
-first-of-requires c κs = search needs
-
-without-messages-requires : tie.Need-without-messages-requires
-without-messages-requires c κs = search needs
-
 returns : tie.Need-returns
 unfolding planOf
 returns c = let a = c .before .before .before .before .before .before .before .args in c .without-messages .ensures ∙ refused-is _ _ _ (changeOf (a .p) (Propose (a .coord) (a .inst) (a .ballot))) (answer-is (c .before .before)) (c .before .if1 .taken)
-
-batch-to-propose-requires : tie.Need-batch-to-propose-requires
-batch-to-propose-requires c κs = search needs
-
-proposing-requires : tie.Need-proposing-requires
-proposing-requires c κs = search needs
-
-accept-to-requires : tie.Need-accept-to-requires
-accept-to-requires c κs = search needs
-
-sending-requires : tie.Need-sending-requires
-sending-requires c κs = search needs
 
 returns-2 : tie.Need-returns-2
 unfolding planOf changeOf
@@ -62,14 +35,8 @@ pub propose-spec : {M : Type 1} → statement M
 propose-spec =
     tie.close
     (tie.spec
-    is-down-requires
-    proposal-barred-requires
-    lacks-numbers-requires
-    first-of-requires
-    without-messages-requires
+    (λ c κs. search needs) (λ c κs. search needs) (λ c κs. search needs) (λ c κs. search needs)
+    (λ c κs. search needs)
     returns
-    batch-to-propose-requires
-    proposing-requires
-    accept-to-requires
-    sending-requires
+    (λ c κs. search needs) (λ c κs. search needs) (λ c κs. search needs) (λ c κs. search needs)
     returns-2)

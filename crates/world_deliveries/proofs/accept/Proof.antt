@@ -5,23 +5,8 @@ use Rattle.world_deliveries.proofs.DeliveryLaws.{accept-accepted, accep
 use Rattle.world_deliveries.proofs.accept.Statement.{statement}
 use Rattle.world_deliveries.proofs.accept.Tie as tie
 
-accepts-requires : tie.Need-accepts-requires
-accepts-requires c κs = search needs
-
-without-messages-requires : tie.Need-without-messages-requires
-without-messages-requires c κs = search needs
-
 returns : tie.Need-returns
 returns c = c .without-messages .ensures ∙ accept-passed (c .before .before .before .before .args .p) (sym (c .before .before .accepts .ensures) ∙ not-true _ (c .before .if1 .taken))
-
-accepting-requires : tie.Need-accepting-requires
-accepting-requires c κs = search needs
-
-accepted-from-requires : tie.Need-accepted-from-requires
-accepted-from-requires c κs = search needs
-
-sending-requires : tie.Need-sending-requires
-sending-requires c κs = search needs
 
 returns-2 : tie.Need-returns-2
 returns-2 c =
@@ -38,10 +23,7 @@ pub accept-spec : {M : Type 1} → statement M
 accept-spec =
     tie.close
     (tie.spec
-    accepts-requires
-    without-messages-requires
+    (λ c κs. search needs) (λ c κs. search needs)
     returns
-    accepting-requires
-    accepted-from-requires
-    sending-requires
+    (λ c κs. search needs) (λ c κs. search needs) (λ c κs. search needs)
     returns-2)

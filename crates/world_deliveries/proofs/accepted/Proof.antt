@@ -5,29 +5,11 @@ use Rattle.world_deliveries.proofs.DeliveryLaws.{acceptance-counted, ac
 use Rattle.world_deliveries.proofs.accepted.Statement.{statement}
 use Rattle.world_deliveries.proofs.accepted.Tie as tie
 
-is-current-requires : tie.Need-is-current-requires
-is-current-requires c κs = search needs
-
-without-messages-requires : tie.Need-without-messages-requires
-without-messages-requires c κs = search needs
-
 returns : tie.Need-returns
 returns c = c .without-messages .ensures ∙ accepted-other (c .before .before .before .before .before .args .p) (sym (c .before .before .is-current .ensures) ∙ not-true _ (c .before .if1 .taken))
 
-without-messages-requires-2 : tie.Need-without-messages-requires-2
-without-messages-requires-2 c κs = search needs
-
 returns-2 : tie.Need-returns-2
 returns-2 c = c .without-messages2 .ensures ∙ accepted-past (c .before .before .before .before .before .before .before .args .p) (sym (c .before .before .before .before .is-current .ensures) ∙ not-false _ (c .before .before .before .if1 .left)) (c .before .if2 .taken)
-
-counting-requires : tie.Need-counting-requires
-counting-requires c κs = search needs
-
-is-majority-requires : tie.Need-is-majority-requires
-is-majority-requires c κs = search needs
-
-without-messages-requires-3 : tie.Need-without-messages-requires-3
-without-messages-requires-3 c κs = search needs
 
 returns-3 : tie.Need-returns-3
 returns-3 c =
@@ -39,12 +21,6 @@ returns-3 c =
     (c .before .before .before .counting .result)
     (c .before .before .before .counting .ensures)
     (sym (c .before .before .is-majority .ensures) ∙ not-true _ (c .before .if3 .taken))
-
-learning-requires : tie.Need-learning-requires
-learning-requires c κs = search needs
-
-learns-requires : tie.Need-learns-requires
-learns-requires c κs = search needs
 
 returns-4 : tie.Need-returns-4
 returns-4 c =
@@ -63,15 +39,11 @@ pub accepted-spec : {M : Type 1} → statement M
 accepted-spec =
     tie.close
     (tie.spec
-    is-current-requires
-    without-messages-requires
+    (λ c κs. search needs) (λ c κs. search needs)
     returns
-    without-messages-requires-2
+    (λ c κs. search needs)
     returns-2
-    counting-requires
-    is-majority-requires
-    without-messages-requires-3
+    (λ c κs. search needs) (λ c κs. search needs) (λ c κs. search needs)
     returns-3
-    learning-requires
-    learns-requires
+    (λ c κs. search needs) (λ c κs. search needs)
     returns-4)

@@ -6,18 +6,6 @@ use Rattle.world_deliveries.proofs.DeliverLaws.{deliver-done, deliver-r
 use Rattle.world_deliveries.proofs.deliver.Statement.{statement}
 use Rattle.world_deliveries.proofs.deliver.Tie as tie
 
-receiver-down-requires : tie.Need-receiver-down-requires
-receiver-down-requires c κs = search needs
-
-no-room-requires : tie.Need-no-room-requires
-no-room-requires c κs = search needs
-
-first-of-requires : tie.Need-first-of-requires
-first-of-requires c κs = search needs
-
-without-messages-requires : tie.Need-without-messages-requires
-without-messages-requires c κs = search needs
-
 -- the answer is the refusal of the plan
 first-is : (f : tie.After-first-of) → f .first-of .result ≡ refusalIn (f .before .before .before .before .before .args .p) (Deliver (f .before .before .before .before .before .args .msg))
 first-is f =
@@ -32,9 +20,6 @@ returns c =
     let a = f .before .before .before .before .before .args in
     c .without-messages .ensures ∙ deliver-refused (a .p) (a .msg) (f .first-of .result) (first-is f) (c .before .if1 .taken)
 
-hand-requires : tie.Need-hand-requires
-hand-requires c κs = search needs
-
 returns-2 : tie.Need-returns-2
 returns-2 c =
     let f = c .before .before in
@@ -45,10 +30,7 @@ pub deliver-spec : {M : Type 1} → statement M
 deliver-spec =
     tie.close
     (tie.spec
-    receiver-down-requires
-    no-room-requires
-    first-of-requires
-    without-messages-requires
+    (λ c κs. search needs) (λ c κs. search needs) (λ c κs. search needs) (λ c κs. search needs)
     returns
-    hand-requires
+    (λ c κs. search needs)
     returns-2)

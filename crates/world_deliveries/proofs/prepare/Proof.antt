@@ -5,23 +5,8 @@ use Rattle.world_deliveries.proofs.DeliveryLaws.{prepare-passed, prepar
 use Rattle.world_deliveries.proofs.prepare.Statement.{statement}
 use Rattle.world_deliveries.proofs.prepare.Tie as tie
 
-promises-requires : tie.Need-promises-requires
-promises-requires c κs = search needs
-
-without-messages-requires : tie.Need-without-messages-requires
-without-messages-requires c κs = search needs
-
 returns : tie.Need-returns
 returns c = c .without-messages .ensures ∙ prepare-passed (c .before .before .before .before .before .args .p) (sym (c .before .before .promises .ensures) ∙ not-true _ (c .before .if1 .taken))
-
-promising-requires : tie.Need-promising-requires
-promising-requires c κs = search needs
-
-promise-from-requires : tie.Need-promise-from-requires
-promise-from-requires c κs = search needs
-
-sending-requires : tie.Need-sending-requires
-sending-requires c κs = search needs
 
 returns-2 : tie.Need-returns-2
 returns-2 c =
@@ -38,10 +23,7 @@ pub prepare-spec : {M : Type 1} → statement M
 prepare-spec =
     tie.close
     (tie.spec
-    promises-requires
-    without-messages-requires
+    (λ c κs. search needs) (λ c κs. search needs)
     returns
-    promising-requires
-    promise-from-requires
-    sending-requires
+    (λ c κs. search needs) (λ c κs. search needs) (λ c κs. search needs)
     returns-2)

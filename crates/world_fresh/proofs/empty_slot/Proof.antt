@@ -5,11 +5,8 @@ use Rattle.model_protocol.specs.declared.AcceptorSlot.{AcceptorSlot}
 use Rattle.world_fresh.proofs.empty_slot.Statement.{statement}
 use Rattle.world_fresh.proofs.empty_slot.Tie as tie
 
-no-batch-requires : tie.Need-no-batch-requires
-no-batch-requires c κs = search needs
-
 returns : tie.Need-returns
 returns c = cc
 
 pub empty-slot-spec : {M : Type 1} → statement M
-empty-slot-spec = tie.close (tie.spec no-batch-requires returns)
+empty-slot-spec = tie.close (tie.spec (λ c κs. search needs) returns)

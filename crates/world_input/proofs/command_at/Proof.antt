@@ -4,17 +4,11 @@ use borrow.Author.Needs.{needs}
 use Rattle.world_input.proofs.command_at.Statement.{statement}
 use Rattle.world_input.proofs.command_at.Tie as tie
 
-refuse-requires : tie.Need-refuse-requires
-refuse-requires c κs = search needs
-
 returns : tie.Need-returns
 returns c = c .refuse .ensures ∙ command-last (c .before .before .args .count) (c .before .before .args .line) (c .before .if1 .taken)
-
-command-of-requires : tie.Need-command-of-requires
-command-of-requires c κs = search needs
 
 returns-2 : tie.Need-returns-2
 returns-2 c = c .command-of .ensures ∙ command-usual (c .before .before .args .count) (c .before .before .args .line) (c .before .if1 .left)
 
 pub command-at-spec : {M : Type 1} → statement M
-command-at-spec = tie.close (tie.spec refuse-requires returns command-of-requires returns-2)
+command-at-spec = tie.close (tie.spec (λ c κs. search needs) returns (λ c κs. search needs) returns-2)

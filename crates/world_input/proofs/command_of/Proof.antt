@@ -8,14 +8,8 @@ use borrow.Author.Needs.{needs}
 use Rattle.world_input.proofs.command_of.Statement.{statement}
 use Rattle.world_input.proofs.command_of.Tie as tie
 
-refuse-requires : tie.Need-refuse-requires
-refuse-requires c κs = search needs
-
 returns : tie.Need-returns
 returns c = c .refuse .ensures ∙ held-long (c .before .before .before .args .line) (c .before .if1 .taken)
-
-cast-n : tie.Need-cast-n
-cast-n c = search needs
 
 array-share-prefix-bytes : tie.Need-array-share-prefix-bytes
 array-share-prefix-bytes c = let a = c .before .before .before .before .args in omega (arith, bytes-length (a .line) _ (c .before .before .before .before .good .0))
@@ -23,23 +17,11 @@ array-share-prefix-bytes c = let a = c .before .before .before .before .args in 
 slice-aggregate-read-step : tie.Need-slice-aggregate-read-step
 slice-aggregate-read-step c = let a = c .before .before .before .before .before .args in sym (length-take-le (a .line .length) (a .line .bytes) (omega (arith, bytes-length (a .line) _ (c .before .before .before .before .before .good .0))))
 
-read-step-requires : tie.Need-read-step-requires
-read-step-requires c κs = search needs
-
 enum-told : tie.Need-enum-told
 enum-told c = search needs
 
-refuse-requires-2 : tie.Need-refuse-requires-2
-refuse-requires-2 c κs = search needs
-
 returns-2 : tie.Need-returns-2
 returns-2 c = c .refuse2 .ensures ∙ held-short (c .before .before .before .before .before .before .before .before .before .args .line) (c .before .before .before .before .before .before .before .if1 .left) Outside (sym (c .before .before .before .read-step .ensures) ∙ c .before .enum-told .given .1)
-
-enum-known-reading : tie.Need-enum-known-reading
-enum-known-reading c = search needs
-
-refuse-requires-3 : tie.Need-refuse-requires-3
-refuse-requires-3 c κs = search needs
 
 returns-3 : tie.Need-returns-3
 returns-3 c = c .refuse3 .ensures ∙ held-short (c .before .before .before .before .before .before .before .before .before .args .line) (c .before .before .before .before .before .before .before .if1 .left) Unreadable (sym (c .before .before .before .read-step .ensures) ∙ neither (c .before .before .before .read-step .result) (c .before .before .match .keys2) (c .before .match2 .keys2))
@@ -51,16 +33,15 @@ pub command-of-spec : {M : Type 1} → statement M
 command-of-spec =
     tie.close
     (tie.spec
-    refuse-requires
+    (λ c κs. search needs)
     returns
-    cast-n
+    (λ c. search needs)
     array-share-prefix-bytes
     slice-aggregate-read-step
-    read-step-requires
+    (λ c κs. search needs)
     enum-told
-    refuse-requires-2
+    (λ c κs. search needs)
     returns-2
-    enum-known-reading
-    refuse-requires-3
+    (λ c. search needs) (λ c κs. search needs)
     returns-3
     returns-4)

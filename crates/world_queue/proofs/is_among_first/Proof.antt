@@ -8,9 +8,6 @@ use Rattle.model_protocol.specs.Queue.{isIn}
 use Rattle.world_queue.proofs.is_among_first.Statement.{statement}
 use Rattle.world_queue.proofs.is_among_first.Tie as tie
 
-lend-requires : tie.Need-lend-requires
-lend-requires c κs = search needs
-
 -- all eight are lent
 returns : tie.Need-returns
 returns c =
@@ -19,11 +16,8 @@ returns c =
     let n : length es ≡ queuePlaces = s .good .0 .1 .0 .1 in
     c .lend .ensures ∙ ap (isIn (s .args .e)) (take-all queuePlaces es (omega arith) ∙ sym (take-all (s .args .count) es (omega arith)))
 
-lend-requires-2 : tie.Need-lend-requires-2
-lend-requires-2 c κs = search needs
-
 returns-2 : tie.Need-returns-2
 returns-2 c = search needs
 
 pub is-among-first-spec : {M : Type 1} → statement M
-is-among-first-spec = tie.close (tie.spec lend-requires returns lend-requires-2 returns-2)
+is-among-first-spec = tie.close (tie.spec (λ c κs. search needs) returns (λ c κs. search needs) (λ c. search needs))

@@ -18,24 +18,9 @@ answer-is c =
     let unmet = eqb (c .before .before .before .args .p .acceptors) 0 in
     c .first-of .ensures ∙ same-first false false _ _ unmet unmet false false false false refl (c .before .before .is-down .ensures) refl refl refl
 
-is-down-requires : tie.Need-is-down-requires
-is-down-requires c κs = search needs
-
-first-of-requires : tie.Need-first-of-requires
-first-of-requires c κs = search needs
-
-without-messages-requires : tie.Need-without-messages-requires
-without-messages-requires c κs = search needs
-
 returns : tie.Need-returns
 unfolding planOf
 returns c = let a = c .before .before .before .before .before .args in c .without-messages .ensures ∙ refused-is _ _ _ (changeOf (a .p) (Crash (a .role) (a .id))) (answer-is (c .before .before)) (c .before .if1 .taken)
-
-crashed-requires : tie.Need-crashed-requires
-crashed-requires c κs = search needs
-
-without-messages-requires-2 : tie.Need-without-messages-requires-2
-without-messages-requires-2 c κs = search needs
 
 returns-2 : tie.Need-returns-2
 unfolding planOf changeOf
@@ -47,10 +32,7 @@ pub crash-spec : {M : Type 1} → statement M
 crash-spec =
     tie.close
     (tie.spec
-    is-down-requires
-    first-of-requires
-    without-messages-requires
+    (λ c κs. search needs) (λ c κs. search needs) (λ c κs. search needs)
     returns
-    crashed-requires
-    without-messages-requires-2
+    (λ c κs. search needs) (λ c κs. search needs)
     returns-2)

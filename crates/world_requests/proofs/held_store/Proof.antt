@@ -19,23 +19,11 @@ eight s = s .good .0 .1 .0 .1
 loop-holds : tie.Need-loop-holds Inv-loop μ-loop
 loop-holds c = (omega arith, refl)
 
-cast-if1 : tie.Need-cast-if1 Inv-loop μ-loop
-cast-if1 c = omega arith
-
-array-read-if1 : tie.Need-array-read-if1 Inv-loop μ-loop
-array-read-if1 c = omega arith
-
 returns : tie.Need-returns Inv-loop μ-loop
 returns c =
     let s = c .before .before .before in
     let l = c .before .before .loop in
     sym (l .inv .1 ∙ held-here (s .args .process) (s .args .t1) (l .s) (omega (arith, eight s)) (c .if1 .taken))
-
-add-s : tie.Need-add-s Inv-loop μ-loop
-add-s c = omega arith
-
-loop-less : tie.Need-loop-less Inv-loop μ-loop
-loop-less c = omega arith
 
 loop-again : tie.Need-loop-again Inv-loop μ-loop
 loop-again c =
@@ -56,10 +44,8 @@ held-store-spec =
     Inv-loop
     μ-loop
     loop-holds
-    cast-if1
-    array-read-if1
+    (λ c. omega arith) (λ c. omega arith)
     returns
-    add-s
-    loop-less
+    (λ c. omega arith) (λ c. omega arith)
     loop-again
     returns-2)

@@ -20,42 +20,9 @@ answer-is c =
     let unmet = or-is (eqb (c .before .before .before .before .before .before .before .before .before .args .p .acceptors) 0) (c .before .before .before .either2 .ensures) (c .before .before .before .before .voter-not-holder .ensures) in
     c .first-of .ensures ∙ same-first false false _ _ _ _ _ _ _ _ refl down unmet (c .before .before .lacks-numbers .ensures) (c .before .ill-formed .ensures)
 
-is-down-requires : tie.Need-is-down-requires
-is-down-requires c κs = search needs
-
-is-down-requires-2 : tie.Need-is-down-requires-2
-is-down-requires-2 c κs = search needs
-
-either-requires : tie.Need-either-requires
-either-requires c κs = search needs
-
-voter-not-holder-requires : tie.Need-voter-not-holder-requires
-voter-not-holder-requires c κs = search needs
-
-either-requires-2 : tie.Need-either-requires-2
-either-requires-2 c κs = search needs
-
-lacks-numbers-requires : tie.Need-lacks-numbers-requires
-lacks-numbers-requires c κs = search needs
-
-ill-formed-requires : tie.Need-ill-formed-requires
-ill-formed-requires c κs = search needs
-
-first-of-requires : tie.Need-first-of-requires
-first-of-requires c κs = search needs
-
-without-messages-requires : tie.Need-without-messages-requires
-without-messages-requires c κs = search needs
-
 returns : tie.Need-returns
 unfolding planOf
 returns c = let a = c .before .before .before .before .before .before .before .before .before .before .before .args in c .without-messages .ensures ∙ refused-is _ _ _ (changeOf (a .p) (Request (a .e) (a .to))) (answer-is (c .before .before)) (c .before .if1 .taken)
-
-request-to-requires : tie.Need-request-to-requires
-request-to-requires c κs = search needs
-
-sending-requires : tie.Need-sending-requires
-sending-requires c κs = search needs
 
 returns-2 : tie.Need-returns-2
 unfolding planOf changeOf
@@ -67,16 +34,9 @@ pub request-spec : {M : Type 1} → statement M
 request-spec =
     tie.close
     (tie.spec
-    is-down-requires
-    is-down-requires-2
-    either-requires
-    voter-not-holder-requires
-    either-requires-2
-    lacks-numbers-requires
-    ill-formed-requires
-    first-of-requires
-    without-messages-requires
+    (λ c κs. search needs) (λ c κs. search needs) (λ c κs. search needs) (λ c κs. search needs)
+    (λ c κs. search needs) (λ c κs. search needs) (λ c κs. search needs) (λ c κs. search needs)
+    (λ c κs. search needs)
     returns
-    request-to-requires
-    sending-requires
+    (λ c κs. search needs) (λ c κs. search needs)
     returns-2)

@@ -14,27 +14,9 @@ unfolding stepChecks firstRefusal
 answer-is c =
     c .first-of .ensures ∙ same-first false false _ _ _ _ _ _ false false refl (c .before .before .either-down .ensures) (c .before .before .before .either .ensures) (c .before .lacks-numbers .ensures) refl
 
-either-requires : tie.Need-either-requires
-either-requires c κs = search needs
-
-either-down-requires : tie.Need-either-down-requires
-either-down-requires c κs = search needs
-
-lacks-numbers-requires : tie.Need-lacks-numbers-requires
-lacks-numbers-requires c κs = search needs
-
-first-of-requires : tie.Need-first-of-requires
-first-of-requires c κs = search needs
-
-without-messages-requires : tie.Need-without-messages-requires
-without-messages-requires c κs = search needs
-
 returns : tie.Need-returns
 unfolding planOf
 returns c = let a = c .before .before .before .before .before .before .before .before .before .args in c .without-messages .ensures ∙ refused-is _ _ _ (changeOf (a .p) (Restore (a .coord) (a .process))) (answer-is (c .before .before)) (c .before .if1 .taken)
-
-gives-replay-requires : tie.Need-gives-replay-requires
-gives-replay-requires c κs = search needs
 
 returns-2 : tie.Need-returns-2
 unfolding planOf changeOf
@@ -44,11 +26,8 @@ pub restore-spec : {M : Type 1} → statement M
 restore-spec =
     tie.close
     (tie.spec
-    either-requires
-    either-down-requires
-    lacks-numbers-requires
-    first-of-requires
-    without-messages-requires
+    (λ c κs. search needs) (λ c κs. search needs) (λ c κs. search needs) (λ c κs. search needs)
+    (λ c κs. search needs)
     returns
-    gives-replay-requires
+    (λ c κs. search needs)
     returns-2)

@@ -5,12 +5,6 @@ use Rattle.model_protocol.specs.Message.{restoreTo}
 use Rattle.world_requests.proofs.restored.Statement.{statement}
 use Rattle.world_requests.proofs.restored.Tie as tie
 
-held-store-requires : tie.Need-held-store-requires
-held-store-requires c κs = search needs
-
-restore-to-requires : tie.Need-restore-to-requires
-restore-to-requires c κs = search needs
-
 returns : tie.Need-returns
 returns c =
     let a = c .before .before .before .args in
@@ -18,4 +12,4 @@ returns c =
 
 pub restored-spec : {M : Type 1} → statement M
 restored-spec =
-    tie.close (tie.spec held-store-requires restore-to-requires returns)
+    tie.close (tie.spec (λ c κs. search needs) (λ c κs. search needs) returns)

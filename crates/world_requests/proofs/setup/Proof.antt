@@ -12,18 +12,9 @@ answer-is : (c : tie.After-first-of) → c .first-of .result ≡ refusalIn (c .b
 unfolding stepChecks firstRefusal
 answer-is c = c .first-of .ensures
 
-first-of-requires : tie.Need-first-of-requires
-first-of-requires c κs = search needs
-
-without-messages-requires : tie.Need-without-messages-requires
-without-messages-requires c κs = search needs
-
 returns : tie.Need-returns
 unfolding planOf
 returns c = c .without-messages .ensures ∙ refused-is _ _ _ (changeOf (c .before .before .before .before .args .p) (Setup (c .before .before .before .before .args .n))) (answer-is (c .before .before)) (c .before .if1 .taken)
-
-without-messages-requires-2 : tie.Need-without-messages-requires-2
-without-messages-requires-2 c κs = search needs
 
 returns-2 : tie.Need-returns-2
 unfolding planOf changeOf
@@ -31,4 +22,8 @@ returns-2 c = c .without-messages2 .ensures ∙ done-is (c .before .before .befo
 
 pub setup-spec : {M : Type 1} → statement M
 setup-spec =
-    tie.close (tie.spec first-of-requires without-messages-requires returns without-messages-requires-2 returns-2)
+    tie.close (tie.spec
+    (λ c κs. search needs) (λ c κs. search needs)
+    returns
+    (λ c κs. search needs)
+    returns-2)

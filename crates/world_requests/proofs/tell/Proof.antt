@@ -16,30 +16,9 @@ unfolding stepChecks firstRefusal
 answer-is c =
     c .first-of .ensures ∙ same-first false false _ _ _ _ _ _ false false refl (c .before .before .either-down .ensures) (or-is (eqb (c .before .before .before .before .before .before .before .args .p .acceptors) 0) (c .before .before .before .either .ensures) (c .before .before .before .before .before .is-open .ensures)) (c .before .lacks-numbers .ensures) refl
 
-is-open-requires : tie.Need-is-open-requires
-is-open-requires c κs = search needs
-
-either-requires : tie.Need-either-requires
-either-requires c κs = search needs
-
-either-down-requires : tie.Need-either-down-requires
-either-down-requires c κs = search needs
-
-lacks-numbers-requires : tie.Need-lacks-numbers-requires
-lacks-numbers-requires c κs = search needs
-
-first-of-requires : tie.Need-first-of-requires
-first-of-requires c κs = search needs
-
-without-messages-requires : tie.Need-without-messages-requires
-without-messages-requires c κs = search needs
-
 returns : tie.Need-returns
 unfolding planOf
 returns c = let a = c .before .before .before .before .before .before .before .before .before .args in c .without-messages .ensures ∙ refused-is _ _ _ (changeOf (a .p) (Tell (a .coord) (a .process) (a .tx))) (answer-is (c .before .before)) (c .before .if1 .taken)
-
-sending-requires : tie.Need-sending-requires
-sending-requires c κs = search needs
 
 returns-2 : tie.Need-returns-2
 unfolding planOf changeOf
@@ -49,12 +28,8 @@ pub tell-spec : {M : Type 1} → statement M
 tell-spec =
     tie.close
     (tie.spec
-    is-open-requires
-    either-requires
-    either-down-requires
-    lacks-numbers-requires
-    first-of-requires
-    without-messages-requires
+    (λ c κs. search needs) (λ c κs. search needs) (λ c κs. search needs) (λ c κs. search needs)
+    (λ c κs. search needs) (λ c κs. search needs)
     returns
-    sending-requires
+    (λ c κs. search needs)
     returns-2)

@@ -8,21 +8,6 @@ use Rattle.world_run.proofs.Meaning.{agreed-prints, input-agrees}
 use Rattle.world_run.proofs.output_of.Statement.{statement}
 use Rattle.world_run.proofs.output_of.Tie as tie
 
-run-fed-requires : tie.Need-run-fed-requires
-run-fed-requires c κs = search needs
-
-slice-aggregate-put-answers : tie.Need-slice-aggregate-put-answers
-slice-aggregate-put-answers c = search needs
-
-put-answers-requires : tie.Need-put-answers-requires
-put-answers-requires c κs = search needs
-
-slice-aggregate-put-world : tie.Need-slice-aggregate-put-world
-slice-aggregate-put-world c = search needs
-
-put-world-requires : tie.Need-put-world-requires
-put-world-requires c κs = search needs
-
 returns : tie.Need-returns
 returns c =
     let s = c .before .before .before .before .before .before .before .before .run-fed in
@@ -39,9 +24,6 @@ pub output-of-spec : {M : Type 1} → statement M
 output-of-spec =
     tie.close
     (tie.spec
-    run-fed-requires
-    slice-aggregate-put-answers
-    put-answers-requires
-    slice-aggregate-put-world
-    put-world-requires
+    (λ c κs. search needs) (λ c. search needs) (λ c κs. search needs) (λ c. search needs)
+    (λ c κs. search needs)
     returns)

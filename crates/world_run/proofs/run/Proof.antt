@@ -4,15 +4,6 @@ use Rattle.world_run.proofs.Carried.{carried-ran}
 use Rattle.world_run.proofs.run.Statement.{statement}
 use Rattle.world_run.proofs.run.Tie as tie
 
-at-most-requires : tie.Need-at-most-requires
-at-most-requires c κs = search needs
-
-fresh-world-requires : tie.Need-fresh-world-requires
-fresh-world-requires c κs = search needs
-
-advance-requires : tie.Need-advance-requires
-advance-requires c κs = search needs
-
 returns : tie.Need-returns
 returns c =
     let s = c .before .before .before .before .before in
@@ -27,4 +18,4 @@ returns c =
     (c .before .before .advance .ensures)
 
 pub run-spec : {M : Type 1} → statement M
-run-spec = tie.close (tie.spec at-most-requires fresh-world-requires advance-requires returns)
+run-spec = tie.close (tie.spec (λ c κs. search needs) (λ c κs. search needs) (λ c κs. search needs) returns)

@@ -8,12 +8,6 @@ use Rattle.world_run.proofs.Meaning.{ran-agrees}
 use Rattle.world_run.proofs.run_fed.Statement.{statement}
 use Rattle.world_run.proofs.run_fed.Tie as tie
 
-finish-requires : tie.Need-finish-requires
-finish-requires c κs = search needs
-
-run-requires : tie.Need-run-requires
-run-requires c κs = search needs
-
 returns : tie.Need-returns
 returns c =
     λ bytes is.
@@ -25,4 +19,4 @@ returns c =
     (c .run .ensures)
 
 pub run-fed-spec : {M : Type 1} → statement M
-run-fed-spec = tie.close (tie.spec finish-requires run-requires returns)
+run-fed-spec = tie.close (tie.spec (λ c κs. search needs) (λ c κs. search needs) returns)

@@ -11,11 +11,8 @@ returns c = rw (eq-eqb (c .before .before .args .self .tally .commits) 0 (c .if1
 returns-2 : tie.Need-returns-2
 returns-2 c = rw (ne-eqb (c .before .before .before .before .before .args .self .tally .commits) 0 (c .before .before .before .if1 .left), c .before .before .if2 .taken)
 
-within8-requires : tie.Need-within8-requires
-within8-requires c κs = search needs
-
 returns-3 : tie.Need-returns-3
 returns-3 c = rw (ne-eqb (c .before .before .before .before .args .self .tally .commits) 0 (c .before .before .if1 .left), c .before .if2 .left) (ap not (c .within8 .ensures))
 
 pub clashes-spec : {M : Type 1} → statement M
-clashes-spec = tie.close (tie.spec returns returns-2 within8-requires returns-3)
+clashes-spec = tie.close (tie.spec returns returns-2 (λ c κs. search needs) returns-3)

@@ -3,9 +3,6 @@ use Rattle.host_lent.proofs.SummaryLaws.{summary-abort, summary-commit}
 use Rattle.host_lent.proofs.Summary.keeping.Statement.{statement}
 use Rattle.host_lent.proofs.Summary.keeping.Tie as tie
 
-keeping-requires : tie.Need-keeping-requires
-keeping-requires c κs = search needs
-
 returns : tie.Need-returns
 returns c r is here agrees free =
     let a = c .before .before .args in
@@ -17,4 +14,4 @@ returns-2 c r is here agrees free =
     summary-abort (a .self) r is (a .e) (a .group) here agrees free (c .before .keeping .ensures r (is .0) (is .3) free) (c .if1 .left)
 
 pub keeping-spec : {M : Type 1} → statement M
-keeping-spec = tie.close (tie.spec keeping-requires returns returns-2)
+keeping-spec = tie.close (tie.spec (λ c κs. search needs) returns returns-2)

@@ -2,9 +2,6 @@ use borrow.Author.Needs.{needs}
 use Rattle.host_lent.proofs.Summary.parts.Statement.{statement}
 use Rattle.host_lent.proofs.Summary.parts.Tie as tie
 
-clashes-requires : tie.Need-clashes-requires
-clashes-requires c κs = search needs
-
 returns : tie.Need-returns
 returns c =
     let a = c .before .before .args in
@@ -12,4 +9,4 @@ returns c =
     λ i. record { tally = a .self .tally; clash = clash i; group = a .self .group; holder = a .holder; groups = a .groups; remembered = a .remembered }
 
 pub parts-spec : {M : Type 1} → statement M
-parts-spec = tie.close (tie.spec clashes-requires returns)
+parts-spec = tie.close (tie.spec (λ c κs. search needs) returns)

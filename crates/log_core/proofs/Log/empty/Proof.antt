@@ -3,11 +3,8 @@ use Rattle.log_core.proofs.EmptyLaws.{rows-without-votes}
 use Rattle.log_core.proofs.Log.empty.Statement.{statement}
 use Rattle.log_core.proofs.Log.empty.Tie as tie
 
-none-requires : tie.Need-none-requires
-none-requires c κs = search needs
-
 returns : tie.Need-returns
 returns c = rows-without-votes (c .none .result) (c .none .ensures)
 
 pub empty-spec : {M : Type 1} → statement M
-empty-spec = tie.close (tie.spec none-requires returns)
+empty-spec = tie.close (tie.spec (λ c κs. search needs) returns)

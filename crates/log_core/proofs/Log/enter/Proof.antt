@@ -12,17 +12,8 @@ use Rattle.log_core.proofs.EnterLaws.{enter-outside, enter-refused, ent
 use Rattle.log_core.proofs.Log.enter.Statement.{statement}
 use Rattle.log_core.proofs.Log.enter.Tie as tie
 
-outside-requires : tie.Need-outside-requires
-outside-requires c κs = search needs
-
 returns : tie.Need-returns
 returns c = enter-outside (c .before .before .args .t1) (c .before .before .args .e) (sym (c .before .outside .ensures) ∙ c .if1 .taken)
-
-cast-store : tie.Need-cast-store
-cast-store c = search needs
-
-row-place-requires : tie.Need-row-place-requires
-row-place-requires c κs = search needs
 
 mul-t11 : tie.Need-mul-t11
 mul-t11 c = omega (arith, place-inside (c .before .before .before .before .before .args .e) (sym (c .before .before .before .before .outside .ensures) ∙ c .before .before .before .if1 .left) (c .before .row-place .ensures))
@@ -30,17 +21,8 @@ mul-t11 c = omega (arith, place-inside (c .before .before .before .before .befor
 element-copy-out-t14 : tie.Need-element-copy-out-t14
 element-copy-out-t14 c = place-inside (c .before .before .before .before .before .args .e) (sym (c .before .before .before .before .outside .ensures) ∙ c .before .before .before .if1 .left) (c .before .row-place .ensures)
 
-mul-t16 : tie.Need-mul-t16
-mul-t16 c = search needs
-
 element-copy-out-t19 : tie.Need-element-copy-out-t19
 element-copy-out-t19 c = inside-store (c .before .before .before .before .before .before .before .args .e) (sym (c .before .before .before .before .before .before .outside .ensures) ∙ c .before .before .before .before .before .if1 .left)
-
-remembered-in-requires : tie.Need-remembered-in-requires
-remembered-in-requires c κs = search needs
-
-decide-requires : tie.Need-decide-requires
-decide-requires c κs = search needs
 
 returns-2 : tie.Need-returns-2
 returns-2 c =
@@ -62,16 +44,14 @@ pub enter-spec : {M : Type 1} → statement M
 enter-spec =
     tie.close
     (tie.spec
-    outside-requires
+    (λ c κs. search needs)
     returns
-    cast-store
-    row-place-requires
+    (λ c. search needs) (λ c κs. search needs)
     mul-t11
     element-copy-out-t14
-    mul-t16
+    (λ c. search needs)
     element-copy-out-t19
-    remembered-in-requires
-    decide-requires
+    (λ c κs. search needs) (λ c κs. search needs)
     returns-2
     stored-requires
     returns-3)

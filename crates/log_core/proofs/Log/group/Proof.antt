@@ -8,14 +8,8 @@ use Rattle.log_core.proofs.Log.group.Tie as tie
 returns : tie.Need-returns
 returns c = let a = c .before in ap (λ (r : Row). r .group) (no-row (a .args .t1) _ (a .good .0) (a .args .tx) (c .if1 .taken))
 
-mul-row : tie.Need-mul-row
-mul-row c = search needs
-
-element-copy-out-row : tie.Need-element-copy-out-row
-element-copy-out-row c = search needs
-
 returns-2 : tie.Need-returns-2
 returns-2 c = search needs
 
 pub group-spec : {M : Type 1} → statement M
-group-spec = tie.close (tie.spec returns mul-row element-copy-out-row returns-2)
+group-spec = tie.close (tie.spec returns (λ c. search needs) (λ c. search needs) (λ c. search needs))

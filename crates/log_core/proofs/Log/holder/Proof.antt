@@ -6,11 +6,8 @@ use Rattle.log_core.proofs.Log.holder.Tie as tie
 returns : tie.Need-returns
 returns c = let a = c .before in no-holder (a .args .t1) _ (a .good .0) (a .args .store) (c .if1 .taken)
 
-element-copy-out-result : tie.Need-element-copy-out-result
-element-copy-out-result c = search needs
-
 returns-2 : tie.Need-returns-2
 returns-2 c = search needs
 
 pub holder-spec : {M : Type 1} → statement M
-holder-spec = tie.close (tie.spec returns element-copy-out-result returns-2)
+holder-spec = tie.close (tie.spec returns (λ c. search needs) (λ c. search needs))

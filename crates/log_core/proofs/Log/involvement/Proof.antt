@@ -10,18 +10,11 @@ use Rattle.log_core.proofs.Log.involvement.Tie as tie
 returns : tie.Need-returns
 returns c = let a = c .before in unknown-without-votes (a .args .store) ∙ ap (λ (r : Row). involvementOfVotes (a .args .store) (r .votes)) (no-row (a .args .t1) _ (a .good .0) (a .args .tx) (c .if1 .taken))
 
-mul-row : tie.Need-mul-row
-mul-row c = search needs
-
-element-copy-out-row : tie.Need-element-copy-out-row
-element-copy-out-row c = search needs
-
-involvement-requires : tie.Need-involvement-requires
-involvement-requires c κs = search needs
-
 returns-2 : tie.Need-returns-2
 returns-2 c = search needs
 
 pub involvement-spec : {M : Type 1} → statement M
 involvement-spec =
-    tie.close (tie.spec returns mul-row element-copy-out-row involvement-requires returns-2)
+    tie.close (tie.spec
+    returns
+    (λ c. search needs) (λ c. search needs) (λ c κs. search needs) (λ c. search needs))

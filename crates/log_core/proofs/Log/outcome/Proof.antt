@@ -10,17 +10,10 @@ use Rattle.log_core.proofs.Log.outcome.Tie as tie
 returns : tie.Need-returns
 returns c = let a = c .before in open-without-votes ∙ ap (λ (r : Row). outcomeOfVotes (r .votes)) (no-row (a .args .t1) _ (a .good .0) (a .args .tx) (c .if1 .taken))
 
-mul-row : tie.Need-mul-row
-mul-row c = search needs
-
-element-copy-out-row : tie.Need-element-copy-out-row
-element-copy-out-row c = search needs
-
-outcome-requires : tie.Need-outcome-requires
-outcome-requires c κs = search needs
-
 returns-2 : tie.Need-returns-2
 returns-2 c = search needs
 
 pub outcome-spec : {M : Type 1} → statement M
-outcome-spec = tie.close (tie.spec returns mul-row element-copy-out-row outcome-requires returns-2)
+outcome-spec = tie.close (tie.spec
+    returns
+    (λ c. search needs) (λ c. search needs) (λ c κs. search needs) (λ c. search needs))

@@ -4,9 +4,6 @@ use Rattle.log_core.proofs.ReplayLaws.{no-groups}
 use Rattle.log_core.proofs.Log.replay.Statement.{statement}
 use Rattle.log_core.proofs.Log.replay.Tie as tie
 
-none-requires : tie.Need-none-requires
-none-requires c κs = search needs
-
 returns : tie.Need-returns
 returns c = c .before .before .none .ensures ∙ no-groups (c .before .before .before .args .self) (c .before .before .before .args .store) (c .if1 .taken)
 
@@ -17,4 +14,4 @@ returns-2 : tie.Need-returns-2
 returns-2 c = c .replay-into .ensures
 
 pub replay-spec : {M : Type 1} → statement M
-replay-spec = tie.close (tie.spec none-requires returns replay-into-requires returns-2)
+replay-spec = tie.close (tie.spec (λ c κs. search needs) returns replay-into-requires returns-2)

@@ -24,21 +24,6 @@ abbrev μ-loop : tie.MeasureT-loop
 loop-holds : tie.Need-loop-holds Inv-loop μ-loop
 loop-holds c = let s = c in let n : length (s .args .t1 .rows) ≡ transactions = rows-length (s .args .t1) _ (s .good .0) in (omega arith, set-none running (s .args .t1 .rows) transactions (omega arith))
 
-sub-row : tie.Need-sub-row Inv-loop μ-loop
-sub-row c = omega arith
-
-mul-row : tie.Need-mul-row Inv-loop μ-loop
-mul-row c = omega arith
-
-element-copy-out-row : tie.Need-element-copy-out-row Inv-loop μ-loop
-element-copy-out-row c = omega arith
-
-running-requires : tie.Need-running-requires Inv-loop μ-loop
-running-requires c κs = search needs
-
-digit-requires : tie.Need-digit-requires Inv-loop μ-loop
-digit-requires c κs = search needs
-
 cast-set : tie.Need-cast-set Inv-loop μ-loop
 cast-set c = omega (arith, c .digit .ensures, digit-small (c .before .running .result))
 
@@ -49,12 +34,6 @@ mul-set c = let s = c .before .before .before .before .before in let n : length 
 add-set : tie.Need-add-set Inv-loop μ-loop
 add-set c = let s = c .before .before .before .before .before in let n : length (s .args .t1 .rows) ≡ transactions = rows-length (s .args .t1) _ (s .good .0) in
     let l = c .before .before .before .before .loop in let room : l .set < 2 ^ 31 = rw (l .inv .1) (set-room running (s .args .t1 .rows) 31 (l .t) n (c .before .before .before .loop-test .taken)) in omega (arith, c .digit .ensures, digit-small (c .before .running .result))
-
-sub-t : tie.Need-sub-t Inv-loop μ-loop
-sub-t c = omega arith
-
-loop-less : tie.Need-loop-less Inv-loop μ-loop
-loop-less c = omega arith
 
 loop-again : tie.Need-loop-again Inv-loop μ-loop
 loop-again c = let s = c .before .before .before .before .before in let n : length (s .args .t1 .rows) ≡ transactions = rows-length (s .args .t1) _ (s .good .0) in
@@ -70,15 +49,11 @@ running-set-spec =
     Inv-loop
     μ-loop
     loop-holds
-    sub-row
-    mul-row
-    element-copy-out-row
-    running-requires
-    digit-requires
+    (λ c. omega arith) (λ c. omega arith) (λ c. omega arith) (λ c κs. search needs)
+    (λ c κs. search needs)
     cast-set
     mul-set
     add-set
-    sub-t
-    loop-less
+    (λ c. omega arith) (λ c. omega arith)
     loop-again
     returns)

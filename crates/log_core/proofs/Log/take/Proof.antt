@@ -5,14 +5,8 @@ use Rattle.log_core.specs.Enter.{enter}
 use Rattle.log_core.proofs.Log.take.Statement.{statement}
 use Rattle.log_core.proofs.Log.take.Tie as tie
 
-take-of-requires : tie.Need-take-of-requires
-take-of-requires c κs = search needs
-
-enter-requires : tie.Need-enter-requires
-enter-requires c κs = search needs
-
 returns : tie.Need-returns
 returns c = c .enter .ensures ∙ ap (λ (e : Entry). enter (c .before .before .args .self) e) (c .before .take-of .ensures)
 
 pub take-spec : {M : Type 1} → statement M
-take-spec = tie.close (tie.spec take-of-requires enter-requires returns)
+take-spec = tie.close (tie.spec (λ c κs. search needs) (λ c κs. search needs) returns)

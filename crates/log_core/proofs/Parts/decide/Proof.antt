@@ -14,37 +14,19 @@ use Rattle.log_core.proofs.Parts.decide.Tie as tie
 inside : (c : tie.Else1) → outside (c .before .before .before .args .e) ≡ false
 inside c = sym (c .before .outside .ensures) ∙ c .if1 .left
 
-outside-requires : tie.Need-outside-requires
-outside-requires c κs = search needs
-
 returns : tie.Need-returns
 returns c =
     let a = c .before .before .before .args in
     effect-refused (a .self) (a .e) outsideLimits (answer-outside (a .self) (a .e) (sym (c .before .outside .ensures) ∙ c .if1 .taken)) (λ k. omega arith)
-
-take-refusal-requires : tie.Need-take-refusal-requires
-take-refusal-requires c κs = search needs
 
 returns-2 : tie.Need-returns-2
 returns-2 c =
     let a = c .before .before .before .before .before .before .args in
     effect-take (a .self) (a .e) (c .take-refusal .result) (c .take-refusal .ensures ∙ answer-take (a .self) (a .e) (inside (c .before .before .before)) (c .before .if2 .taken)) (c .before .if2 .taken)
 
-tally-requires : tie.Need-tally-requires
-tally-requires c κs = search needs
-
-any-clash-requires : tie.Need-any-clash-requires
-any-clash-requires c κs = search needs
-
-cast-t12 : tie.Need-cast-t12
-cast-t12 c = search needs
-
 array-read-t15 : tie.Need-array-read-t15
 array-read-t15 c =
     inside-vote (c .before .before .before .before .before .before .before .before .args .e) (inside (c .before .before .before .before .before)) (c .before .before .before .if2 .left) .by
-
-decide-requires : tie.Need-decide-requires
-decide-requires c κs = search needs
 
 returns-3 : tie.Need-returns-3
 returns-3 c =
@@ -68,13 +50,11 @@ pub decide-spec : {M : Type 1} → statement M
 decide-spec =
     tie.close
     (tie.spec
-    outside-requires
+    (λ c κs. search needs)
     returns
-    take-refusal-requires
+    (λ c κs. search needs)
     returns-2
-    tally-requires
-    any-clash-requires
-    cast-t12
+    (λ c κs. search needs) (λ c κs. search needs) (λ c. search needs)
     array-read-t15
-    decide-requires
+    (λ c κs. search needs)
     returns-3)

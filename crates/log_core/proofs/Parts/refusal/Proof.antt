@@ -10,28 +10,16 @@ use Rattle.log_core.proofs.Parts.refusal.Tie as tie
 inside : (c : tie.Else1) → outside (c .before .before .args .e) ≡ false
 inside c = sym (c .before .outside .ensures) ∙ c .if1 .left
 
-outside-requires : tie.Need-outside-requires
-outside-requires c κs = search needs
-
 returns : tie.Need-returns
 returns c = answer-outside (c .before .before .args .self) (c .before .before .args .e) (sym (c .before .outside .ensures) ∙ c .if1 .taken)
-
-take-refusal-requires : tie.Need-take-refusal-requires
-take-refusal-requires c κs = search needs
 
 returns-2 : tie.Need-returns-2
 returns-2 c =
     let a = c .before .before .before .before .before .args in
     c .take-refusal .ensures ∙ answer-take (a .self) (a .e) (inside (c .before .before .before)) (c .before .if2 .taken)
 
-cast-vote-refusal : tie.Need-cast-vote-refusal
-cast-vote-refusal c = search needs
-
 array-read-vote-refusal : tie.Need-array-read-vote-refusal
 array-read-vote-refusal c = inside-vote (c .before .before .before .before .before .args .e) (inside (c .before .before .before)) (c .before .if2 .left) .by
-
-vote-refusal-requires : tie.Need-vote-refusal-requires
-vote-refusal-requires c κs = search needs
 
 returns-3 : tie.Need-returns-3
 returns-3 c =
@@ -42,11 +30,11 @@ pub refusal-spec : {M : Type 1} → statement M
 refusal-spec =
     tie.close
     (tie.spec
-    outside-requires
+    (λ c κs. search needs)
     returns
-    take-refusal-requires
+    (λ c κs. search needs)
     returns-2
-    cast-vote-refusal
+    (λ c. search needs)
     array-read-vote-refusal
-    vote-refusal-requires
+    (λ c κs. search needs)
     returns-3)

@@ -30,23 +30,11 @@ outcome-so c p so size inside vote =
     let fits = vote-fits p e vote so (answered (c .before .before) p so) (c .before .if1 .left) in
     c .outcome-with .ensures (p .row) (ap (λ (v : VoteParts). v .tally) so) size (inside-store e inside) (fits .0) (fits .1)
 
-refusal-requires : tie.Need-refusal-requires
-refusal-requires c κs = search needs
-
 returns : tie.Need-returns
 returns c p so size inside vote =
     let e = c .before .before .before .args .e in
     let n = c .before .refusal .result in
     vote-refused p e vote so n (vote-answer p e vote so inside n (answered (c .before) p so)) (c .if1 .taken)
-
-outcome-with-requires : tie.Need-outcome-with-requires
-outcome-with-requires c κs = search needs
-
-is-commit-requires : tie.Need-is-commit-requires
-is-commit-requires c κs = search needs
-
-is-open-requires : tie.Need-is-open-requires
-is-open-requires c κs = search needs
 
 returns-2 : tie.Need-returns-2
 returns-2 c p so size inside vote =
@@ -56,12 +44,6 @@ returns-2 c p so size inside vote =
     let o = outcome-so (c .before .before .before) p so size inside vote in
     vote-kept p e vote so (sym is ∙ c .before .before .before .before .if1 .left) (c .is-open .result)
     (sym (c .before .before .is-commit .ensures ∙ ap isCommitted o) ∙ not-true _ (c .before .if2 .taken)) (c .is-open .ensures ∙ ap isOpen o)
-
-has32-requires : tie.Need-has32-requires
-has32-requires c κs = search needs
-
-next-group-requires : tie.Need-next-group-requires
-next-group-requires c κs = search needs
 
 returns-3 : tie.Need-returns-3
 returns-3 c p so size inside vote =
@@ -76,12 +58,9 @@ pub decide-spec : {M : Type 1} → statement M
 decide-spec =
     tie.close
     (tie.spec
-    refusal-requires
+    (λ c κs. search needs)
     returns
-    outcome-with-requires
-    is-commit-requires
-    is-open-requires
+    (λ c κs. search needs) (λ c κs. search needs) (λ c κs. search needs)
     returns-2
-    has32-requires
-    next-group-requires
+    (λ c κs. search needs) (λ c κs. search needs)
     returns-3)

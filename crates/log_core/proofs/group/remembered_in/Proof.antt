@@ -14,21 +14,13 @@ returns-2 c =
     let a = c .before .before in
     rw (ne-eqb (a .args .g) 0 (c .before .if1 .left)) (sym (List·getD-eq-default (a .args .t1) 0 (omega (arith, a .good .0 .1 .0 .1, c .if2 .taken))))
 
-sub-i : tie.Need-sub-i
-sub-i c = search needs
-
-cast-result : tie.Need-cast-result
-cast-result c = search needs
-
-mul-result : tie.Need-mul-result
-mul-result c = search needs
-
-array-read-result : tie.Need-array-read-result
-array-read-result c = search needs
-
 returns-3 : tie.Need-returns-3
 returns-3 c = rw (ne-eqb (c .before .before .args .g) 0 (c .before .if1 .left))
 
 pub remembered-in-spec : {M : Type 1} → statement M
 remembered-in-spec =
-    tie.close (tie.spec returns returns-2 sub-i cast-result mul-result array-read-result returns-3)
+    tie.close (tie.spec
+    returns
+    returns-2
+    (λ c. search needs) (λ c. search needs) (λ c. search needs) (λ c. search needs)
+    returns-3)

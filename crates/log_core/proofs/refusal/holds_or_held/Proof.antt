@@ -23,9 +23,6 @@ abbrev μ-loop : tie.MeasureT-loop
 loop-holds : tie.Need-loop-holds Inv-loop μ-loop
 loop-holds c = (omega arith, refl)
 
-array-read-if1 : tie.Need-array-read-if1 Inv-loop μ-loop
-array-read-if1 c = omega arith
-
 returns : tie.Need-returns Inv-loop μ-loop
 returns c =
     let s = c .before .before .before in
@@ -34,21 +31,12 @@ returns c =
     ap (λ (b : Bool). b || has (s .args .takers) (s .args .process))
     (sym (l .inv .1 ∙ any-hit (isHolder (s .args .process)) (s .args .t1) 0 (l .i) (omega arith) (eq-eqb _ _ (c .if1 .taken))))
 
-add-i : tie.Need-add-i Inv-loop μ-loop
-add-i c = omega arith
-
-loop-less : tie.Need-loop-less Inv-loop μ-loop
-loop-less c = omega arith
-
 loop-again : tie.Need-loop-again Inv-loop μ-loop
 loop-again c =
     let s = c .before .before .before in
     let l = c .before .before .loop in
     let n : length (s .args .t1) ≡ stores = s .good .0 .1 .0 .1 in
     (omega arith, l .inv .1 ∙ any-miss (isHolder (s .args .process)) (s .args .t1) 0 (l .i) (omega arith) (ne-eqb _ _ (c .if1 .left)))
-
-has16-requires : tie.Need-has16-requires Inv-loop μ-loop
-has16-requires c κs = search needs
 
 returns-2 : tie.Need-returns-2 Inv-loop μ-loop
 returns-2 c =
@@ -65,10 +53,9 @@ holds-or-held-spec =
     Inv-loop
     μ-loop
     loop-holds
-    array-read-if1
+    (λ c. omega arith)
     returns
-    add-i
-    loop-less
+    (λ c. omega arith) (λ c. omega arith)
     loop-again
-    has16-requires
+    (λ c κs. search needs)
     returns-2)

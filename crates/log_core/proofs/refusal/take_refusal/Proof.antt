@@ -4,9 +4,6 @@ use Rattle.log_entry.specs.Refusal.{firstRefusal}
 use Rattle.log_core.proofs.refusal.take_refusal.Statement.{statement}
 use Rattle.log_core.proofs.refusal.take_refusal.Tie as tie
 
-holds-or-held-requires : tie.Need-holds-or-held-requires
-holds-or-held-requires c κs = search needs
-
 returns : tie.Need-returns
 unfolding firstRefusal
 returns c = rw (sym (c .before .holds-or-held .ensures) ∙ c .if1 .taken)
@@ -16,4 +13,4 @@ unfolding firstRefusal
 returns-2 c = rw (sym (c .before .holds-or-held .ensures) ∙ c .if1 .left)
 
 pub take-refusal-spec : {M : Type 1} → statement M
-take-refusal-spec = tie.close (tie.spec holds-or-held-requires returns returns-2)
+take-refusal-spec = tie.close (tie.spec (λ c κs. search needs) returns returns-2)

@@ -3,14 +3,8 @@ use Rattle.log_entry.proofs.EntryLaws.{ill-abort, ill-by, ill-commit, i
 use Rattle.log_entry.proofs.Entry.ill_formed.Statement.{statement}
 use Rattle.log_entry.proofs.Entry.ill_formed.Tie as tie
 
-has8-requires : tie.Need-has8-requires
-has8-requires c κs = search needs
-
 returns : tie.Need-returns
 returns c = ill-store (c .before .before .args .self) (cc)
-
-has8-requires-2 : tie.Need-has8-requires-2
-has8-requires-2 c κs = search needs
 
 returns-2 : tie.Need-returns-2
 returns-2 c = ill-by (c .before .before .before .before .args .self) (cc) (cc)
@@ -23,4 +17,10 @@ returns-4 c = ill-abort (c .before .before .before .before .before .before .args
 
 pub ill-formed-spec : {M : Type 1} → statement M
 ill-formed-spec =
-    tie.close (tie.spec has8-requires returns has8-requires-2 returns-2 returns-3 returns-4)
+    tie.close (tie.spec
+    (λ c κs. search needs)
+    returns
+    (λ c κs. search needs)
+    returns-2
+    returns-3
+    returns-4)

@@ -5,9 +5,6 @@ use Rattle.log_entry.proofs.EntryLaws.{inside-take, outside-by, outside
 use Rattle.log_entry.proofs.Entry.outside.Statement.{statement}
 use Rattle.log_entry.proofs.Entry.outside.Tie as tie
 
-no-process-requires : tie.Need-no-process-requires
-no-process-requires c κs = search needs
-
 returns : tie.Need-returns
 returns c = outside-process (c .before .before .args .self) (sym (c .before .no-process .ensures) ∙ c .if1 .taken)
 
@@ -25,4 +22,4 @@ returns-5 c =
     outside-tx (c .before .before .before .before .before .before .before .before .args .self) (sym (c .before .before .before .before .before .before .before .no-process .ensures) ∙ c .before .before .before .before .before .before .if1 .left) (c .before .before .before .before .if2 .left) (c .before .before .before .if3 .left) (c .before .if4 .left) (omega arith) (omega arith)
 
 pub outside-spec : {M : Type 1} → statement M
-outside-spec = tie.close (tie.spec no-process-requires returns returns-2 returns-3 returns-4 returns-5)
+outside-spec = tie.close (tie.spec (λ c κs. search needs) returns returns-2 returns-3 returns-4 returns-5)

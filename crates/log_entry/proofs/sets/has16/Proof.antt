@@ -6,11 +6,8 @@ use Rattle.log_entry.proofs.sets.has16.Tie as tie
 returns : tie.Need-returns
 returns c = let a = c .before .args in beyond 16 (a .set) (a .k) (c .before .fits .set .fits) (c .if1 .taken)
 
-shr-result : tie.Need-shr-result
-shr-result c = search needs
-
 returns-2 : tie.Need-returns-2
 returns-2 c = search needs
 
 pub has16-spec : {M : Type 1} → statement M
-has16-spec = tie.close (tie.spec returns shr-result returns-2)
+has16-spec = tie.close (tie.spec returns (λ c. search needs) (λ c. search needs))

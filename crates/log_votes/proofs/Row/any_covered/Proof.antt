@@ -38,27 +38,12 @@ tested c =
 loop-holds : tie.Need-loop-holds Inv-loop μ-loop
 loop-holds c = (omega arith, refl)
 
-mul-v : tie.Need-mul-v Inv-loop μ-loop
-mul-v c = omega arith
-
-element-copy-out-v : tie.Need-element-copy-out-v Inv-loop μ-loop
-element-copy-out-v c = omega arith
-
-is-within-requires : tie.Need-is-within-requires Inv-loop μ-loop
-is-within-requires c κs = search needs
-
 returns : tie.Need-returns Inv-loop μ-loop
 returns c =
     let s = c .before .before .before .before .before in
     let l = c .before .before .before .before .loop in
     let n : length (s .args .t1 .votes) ≡ stores = votes-length (s .args .t1) _ (s .good .0) in
     sym (l .inv .1 ∙ any-hit (isCovered (s .args .t1 .votes)) (s .args .t1 .votes) noVote (l .i) (omega arith) (tested (c .before) ∙ c .if1 .taken))
-
-add-i : tie.Need-add-i Inv-loop μ-loop
-add-i c = omega arith
-
-loop-less : tie.Need-loop-less Inv-loop μ-loop
-loop-less c = omega arith
 
 loop-again : tie.Need-loop-again Inv-loop μ-loop
 loop-again c =
@@ -77,4 +62,12 @@ returns-2 c =
 pub any-covered-spec : {M : Type 1} → statement M
 any-covered-spec =
     tie.close
-    (tie.spec Inv-loop μ-loop loop-holds mul-v element-copy-out-v is-within-requires returns add-i loop-less loop-again returns-2)
+    (tie.spec
+    Inv-loop
+    μ-loop
+    loop-holds
+    (λ c. omega arith) (λ c. omega arith) (λ c κs. search needs)
+    returns
+    (λ c. omega arith) (λ c. omega arith)
+    loop-again
+    returns-2)

@@ -15,15 +15,9 @@ tested : (c : tie.After-tally) → anyCommit (c .before .before .before .args .s
 tested c =
     sym (ap (λ (t : Tally). not (eqb (t .commits) 0)) (c .tally .ensures) ∙ any-in-set (λ (v : Vote). v .kept && v .commit) 0 (c .before .before .before .args .self .votes))
 
-any-listing-requires : tie.Need-any-listing-requires
-any-listing-requires c κs = search needs
-
 returns : tie.Need-returns
 unfolding involvementOfVotes
 returns c = rw (sym (c .before .any-listing .ensures) ∙ c .if1 .taken)
-
-tally-requires : tie.Need-tally-requires
-tally-requires c κs = search needs
 
 returns-2 : tie.Need-returns-2
 unfolding involvementOfVotes
@@ -36,4 +30,4 @@ returns-3 c =
     rw (sym (c .before .before .before .before .any-listing .ensures) ∙ c .before .before .before .if1 .left, tested (c .before .before), eq-eqb (c .before .before .tally .result .commits) 0 (c .if2 .left))
 
 pub involvement-spec : {M : Type 1} → statement M
-involvement-spec = tie.close (tie.spec any-listing-requires returns tally-requires returns-2 returns-3)
+involvement-spec = tie.close (tie.spec (λ c κs. search needs) returns (λ c κs. search needs) returns-2 returns-3)

@@ -10,11 +10,8 @@ use Rattle.log_votes.proofs.Row.none.Tie as tie
 abbrev all : Vote → Row
 all v = record { votes = replicate stores v; group = 0 }
 
-none-requires : tie.Need-none-requires
-none-requires c κs = search needs
-
 returns : tie.Need-returns
 returns c = ap all (c .none .ensures)
 
 pub none-spec : {M : Type 1} → statement M
-none-spec = tie.close (tie.spec none-requires returns)
+none-spec = tie.close (tie.spec (λ c κs. search needs) returns)

@@ -6,9 +6,6 @@ use Rattle.log_votes.proofs.TallyLaws.{any-abort, no-abort}
 use Rattle.log_votes.proofs.Row.outcome.Statement.{statement}
 use Rattle.log_votes.proofs.Row.outcome.Tie as tie
 
-tally-requires : tie.Need-tally-requires
-tally-requires c κs = search needs
-
 returns : tie.Need-returns
 unfolding outcomeOfVotes
 returns c = rw (any-abort (c .before .before .before .args .self .votes) (c .before .before .tally .ensures) (c .if1 .taken))
@@ -27,4 +24,4 @@ returns-3 c =
     rw (no-abort (c .before .before .before .before .before .args .self .votes) (c .before .before .before .before .tally .ensures) (c .before .before .if1 .left), sym (c .before .any-covered .ensures) ∙ c .if2 .left)
 
 pub outcome-spec : {M : Type 1} → statement M
-outcome-spec = tie.close (tie.spec tally-requires returns any-covered-requires returns-2 returns-3)
+outcome-spec = tie.close (tie.spec (λ c κs. search needs) returns any-covered-requires returns-2 returns-3)

@@ -9,16 +9,10 @@ use Rattle.log_votes.proofs.Row.replays.Tie as tie
 returns : tie.Need-returns
 returns c = let a = c .before .before .args in rw (ne-eqb (a .self .group) (a .g) (c .if1 .taken))
 
-vote-of-requires : tie.Need-vote-of-requires
-vote-of-requires c κs = search needs
-
-is-commit-requires : tie.Need-is-commit-requires
-is-commit-requires c κs = search needs
-
 returns-2 : tie.Need-returns-2
 returns-2 c =
     let a = c .before .before .before .before .args in
     rw (eq-eqb (a .self .group) (a .g) (c .before .before .if1 .left)) (c .is-commit .ensures ∙ ap (λ (v : Vote). v .kept && v .commit) (c .before .vote-of .ensures))
 
 pub replays-spec : {M : Type 1} → statement M
-replays-spec = tie.close (tie.spec returns vote-of-requires is-commit-requires returns-2)
+replays-spec = tie.close (tie.spec returns (λ c κs. search needs) (λ c κs. search needs) returns-2)

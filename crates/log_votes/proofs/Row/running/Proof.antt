@@ -5,18 +5,9 @@ use Rattle.log_votes.specs.Outcome.{isOpen, running}
 use Rattle.log_votes.proofs.Row.running.Statement.{statement}
 use Rattle.log_votes.proofs.Row.running.Tie as tie
 
-any-kept-requires : tie.Need-any-kept-requires
-any-kept-requires c κs = search needs
-
 returns : tie.Need-returns
 unfolding running
 returns c = rw (sym (c .before .any-kept .ensures) ∙ not-true _ (c .if1 .taken))
-
-outcome-requires : tie.Need-outcome-requires
-outcome-requires c κs = search needs
-
-is-open-requires : tie.Need-is-open-requires
-is-open-requires c κs = search needs
 
 returns-2 : tie.Need-returns-2
 unfolding running
@@ -24,4 +15,8 @@ returns-2 c = rw (sym (c .before .before .before .any-kept .ensures) ∙ not-fal
 
 pub running-spec : {M : Type 1} → statement M
 running-spec =
-    tie.close (tie.spec any-kept-requires returns outcome-requires is-open-requires returns-2)
+    tie.close (tie.spec
+    (λ c κs. search needs)
+    returns
+    (λ c κs. search needs) (λ c κs. search needs)
+    returns-2)

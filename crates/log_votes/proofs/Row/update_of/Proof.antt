@@ -4,11 +4,8 @@ use Rattle.log_votes.specs.declared.Vote.{Vote}
 use Rattle.log_votes.proofs.Row.update_of.Statement.{statement}
 use Rattle.log_votes.proofs.Row.update_of.Tie as tie
 
-vote-of-requires : tie.Need-vote-of-requires
-vote-of-requires c κs = search needs
-
 returns : tie.Need-returns
 returns c = ap (λ (v : Vote). v .update) (c .vote-of .ensures)
 
 pub update-of-spec : {M : Type 1} → statement M
-update-of-spec = tie.close (tie.spec vote-of-requires returns)
+update-of-spec = tie.close (tie.spec (λ c κs. search needs) returns)

@@ -11,9 +11,6 @@ use Rattle.log_votes.proofs.Tally.keeping.Tie as tie
 returns : tie.Need-returns
 returns c r is size free = let e = c .before .before .args .e in is ∙ ap tallyOf (sym (set-out (r .votes) (e .store) (voteOfEntry e) (omega (arith, size, c .if1 .taken))))
 
-shl-bit : tie.Need-shl-bit
-shl-bit c = search needs
-
 returns-2 : tie.Need-returns-2
 returns-2 c r is size free =
     let a = c .before .before .before .before .before .before .args in
@@ -25,4 +22,4 @@ returns-3 c r is size free =
     tally-abort r (a .e) (omega (arith, size, c .before .before .before .if1 .left)) free is (bit-shifted (a .e .store) (c .before .before .before .if1 .left)) (c .before .if2 .left)
 
 pub keeping-spec : {M : Type 1} → statement M
-keeping-spec = tie.close (tie.spec returns shl-bit returns-2 returns-3)
+keeping-spec = tie.close (tie.spec returns (λ c. search needs) returns-2 returns-3)

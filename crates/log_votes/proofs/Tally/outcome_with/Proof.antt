@@ -5,16 +5,10 @@ use Rattle.log_votes.proofs.TallyLaws.{abort-with, commit-with, open-wi
 use Rattle.log_votes.proofs.Tally.outcome_with.Statement.{statement}
 use Rattle.log_votes.proofs.Tally.outcome_with.Tie as tie
 
-keeping-requires : tie.Need-keeping-requires
-keeping-requires c κs = search needs
-
 returns : tie.Need-returns
 returns c r is size here agrees free =
     let a = c .before .before .before .args in
     abort-with r (a .e) (omega (arith, size, here)) (c .before .before .keeping .ensures r is size free) (c .if1 .taken)
-
-within8-requires : tie.Need-within8-requires
-within8-requires c κs = search needs
 
 returns-2 : tie.Need-returns-2
 returns-2 c r is size here agrees free =
@@ -28,4 +22,4 @@ returns-3 c r is size here agrees free =
 
 pub outcome-with-spec : {M : Type 1} → statement M
 outcome-with-spec =
-    tie.close (tie.spec keeping-requires returns within8-requires returns-2 returns-3)
+    tie.close (tie.spec (λ c κs. search needs) returns (λ c κs. search needs) returns-2 returns-3)

@@ -13,9 +13,6 @@ tested : (c : tie.After-has8) (r : Row) → c .before .before .before .before .b
     → voteOfStore (c .before .before .before .before .before .before .args .e .store) r .kept ≡ c .has8 .result
 tested c r is = sym (c .has8 .ensures ∙ kept-in r is (c .before .before .before .before .before .before .args .e .store))
 
-ill-formed-requires : tie.Need-ill-formed-requires
-ill-formed-requires c κs = search needs
-
 returns : tie.Need-returns
 returns c r is clash = let a = c .before .before .args in vote-ill-formed r (a .holder) (a .e) (sym (c .before .ill-formed .ensures) ∙ c .if1 .taken)
 
@@ -28,9 +25,6 @@ returns-3 : tie.Need-returns-3
 returns-3 c r is clash =
     let a = c .before .before .before .before .before .args in
     vote-other-list r (a .holder) (a .e) (sym (c .before .before .before .before .ill-formed .ensures) ∙ c .before .before .before .if1 .left) (c .before .if2 .left) (sym clash ∙ c .if3 .taken)
-
-has8-requires : tie.Need-has8-requires
-has8-requires c κs = search needs
 
 returns-4 : tie.Need-returns-4
 returns-4 c r is clash =
@@ -45,4 +39,11 @@ returns-5 c r is clash =
 pub refusal-spec : {M : Type 1} → statement M
 refusal-spec =
     tie.close
-    (tie.spec ill-formed-requires returns returns-2 returns-3 has8-requires returns-4 returns-5)
+    (tie.spec
+    (λ c κs. search needs)
+    returns
+    returns-2
+    returns-3
+    (λ c κs. search needs)
+    returns-4
+    returns-5)

@@ -5,20 +5,14 @@ use borrow.Author.Tests.{not-false, not-true}
 use Rattle.log_votes.proofs.Vote.clashes.Statement.{statement}
 use Rattle.log_votes.proofs.Vote.clashes.Tie as tie
 
-is-commit-requires : tie.Need-is-commit-requires
-is-commit-requires c κs = search needs
-
 returns : tie.Need-returns
 returns c = rw (sym (c .before .is-commit .ensures) ∙ not-true _ (c .if1 .taken))
 
 returns-2 : tie.Need-returns-2
 returns-2 c = rw (sym (c .before .before .before .before .is-commit .ensures) ∙ not-false _ (c .before .before .before .if1 .left), c .before .before .if2 .taken)
 
-within8-requires : tie.Need-within8-requires
-within8-requires c κs = search needs
-
 returns-3 : tie.Need-returns-3
 returns-3 c = rw (sym (c .before .before .before .is-commit .ensures) ∙ not-false _ (c .before .before .if1 .left), c .before .if2 .left) (ap not (c .within8 .ensures))
 
 pub clashes-spec : {M : Type 1} → statement M
-clashes-spec = tie.close (tie.spec is-commit-requires returns returns-2 within8-requires returns-3)
+clashes-spec = tie.close (tie.spec (λ c κs. search needs) returns returns-2 (λ c κs. search needs) returns-3)

@@ -2,9 +2,6 @@ use borrow.Author.Needs.{needs}
 use Rattle.log_votes.proofs.Vote.is_within.Statement.{statement}
 use Rattle.log_votes.proofs.Vote.is_within.Tie as tie
 
-within8-requires : tie.Need-within8-requires
-within8-requires c κs = search needs
-
 returns : tie.Need-returns
 returns c = rw (c .before .if1 .taken, c .within8 .ensures)
 
@@ -12,4 +9,4 @@ returns-2 : tie.Need-returns-2
 returns-2 c = search needs
 
 pub is-within-spec : {M : Type 1} → statement M
-is-within-spec = tie.close (tie.spec within8-requires returns returns-2)
+is-within-spec = tie.close (tie.spec (λ c κs. search needs) returns (λ c. search needs))

@@ -3,9 +3,6 @@ use mathlib.Core.Path.{refl}
 use Rattle.log_votes.proofs.Vote.lists.Statement.{statement}
 use Rattle.log_votes.proofs.Vote.lists.Tie as tie
 
-has8-requires : tie.Need-has8-requires
-has8-requires c κs = search needs
-
 returns : tie.Need-returns
 returns c = rw (c .before .if1 .taken, c .has8 .ensures)
 
@@ -13,4 +10,4 @@ returns-2 : tie.Need-returns-2
 returns-2 c = search needs
 
 pub lists-spec : {M : Type 1} → statement M
-lists-spec = tie.close (tie.spec has8-requires returns returns-2)
+lists-spec = tie.close (tie.spec (λ c κs. search needs) returns (λ c. search needs))

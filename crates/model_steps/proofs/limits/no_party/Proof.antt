@@ -8,15 +8,6 @@ use Rattle.model_steps.proofs.limits.no_party.Tie as tie
 enum-told : tie.Need-enum-told
 enum-told c = search needs
 
-enum-told-2 : tie.Need-enum-told-2
-enum-told-2 c = search needs
-
-enum-told-3 : tie.Need-enum-told-3
-enum-told-3 c = search needs
-
-no-process-requires : tie.Need-no-process-requires
-no-process-requires c κs = search needs
-
 returns : tie.Need-returns
 returns c = let a = c .before .before .args in ap (λ (r : Role). noParty (a .acceptors) r (a .id)) (sym (c .enum-told .given .1))
 
@@ -29,4 +20,9 @@ returns-3 c = let a = c .before .before .before .args in c .no-process .ensures 
 pub no-party-spec : {M : Type 1} → statement M
 no-party-spec =
     tie.close
-    (tie.spec enum-told enum-told-2 enum-told-3 no-process-requires returns returns-2 returns-3)
+    (tie.spec
+    enum-told
+    (λ c. search needs) (λ c. search needs) (λ c κs. search needs)
+    returns
+    returns-2
+    returns-3)

@@ -8,20 +8,11 @@ use borrow.Author.Needs.{needs}
 use Rattle.plain_run.proofs.Input.finish.Statement.{statement}
 use Rattle.plain_run.proofs.Input.finish.Tie as tie
 
-is-over-requires : tie.Need-is-over-requires
-is-over-requires c κs = search needs
-
 returns : tie.Need-returns
 returns c = finished-over isOver answerLine (stateOf (c .before .before .before .before .args .self)) (sym (c .before .is-over .ensures) ∙ c .if1 .taken)
 
 returns-2 : tie.Need-returns-2
 returns-2 c = finished-empty isOver answerLine (stateOf (c .before .before .before .before .before .before .args .self)) (sym (c .before .before .before .is-over .ensures) ∙ c .before .before .if1 .left) (c .if2 .taken)
-
-slice-aggregate-feed : tie.Need-slice-aggregate-feed
-slice-aggregate-feed c = search needs
-
-feed-requires : tie.Need-feed-requires
-feed-requires c κs = search needs
 
 returns-3 : tie.Need-returns-3
 returns-3 c =
@@ -32,4 +23,9 @@ returns-3 c =
 pub finish-spec : {M : Type 1} → statement M
 finish-spec =
     tie.close
-    (tie.spec is-over-requires returns returns-2 slice-aggregate-feed feed-requires returns-3)
+    (tie.spec
+    (λ c κs. search needs)
+    returns
+    returns-2
+    (λ c. search needs) (λ c κs. search needs)
+    returns-3)

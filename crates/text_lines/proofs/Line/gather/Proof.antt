@@ -17,28 +17,10 @@ abbrev μ-loop : tie.MeasureT-loop
 loop-holds : tie.Need-loop-holds Inv-loop μ-loop
 loop-holds c = refl
 
-shared-slice-read-c : tie.Need-shared-slice-read-c Inv-loop μ-loop
-shared-slice-read-c c = omega arith
-
-add-i : tie.Need-add-i Inv-loop μ-loop
-add-i c = omega arith
-
 returns : tie.Need-returns Inv-loop μ-loop
 returns c =
     let l = c .before .before .before .loop in
     sym (l .inv ∙ gathered-lf (l .self) (c .before .before .before .before .args .piece .now) (l .i) (c .before .before .loop-test .taken) (c .if1 .taken))
-
-cast-self : tie.Need-cast-self Inv-loop μ-loop
-cast-self c = omega arith
-
-element-write-self : tie.Need-element-write-self Inv-loop μ-loop
-element-write-self c = omega arith
-
-add-self : tie.Need-add-self Inv-loop μ-loop
-add-self c = omega arith
-
-loop-less : tie.Need-loop-less Inv-loop μ-loop
-loop-less c = omega arith
 
 loop-again : tie.Need-loop-again Inv-loop μ-loop
 loop-again c =
@@ -47,12 +29,6 @@ loop-again c =
     l .inv
     ∙ gathered-byte (l .self) s (l .i) (c .before .before .before .loop-test .taken) (c .before .if1 .left)
     ∙ ap (λ (k : Line). gathered k (drop (l .i + 1) s)) (with-room (l .self) (getD s (l .i) 0) (c .if2 .taken))
-
-add-self-2 : tie.Need-add-self-2 Inv-loop μ-loop
-add-self-2 c = omega arith
-
-loop-less-2 : tie.Need-loop-less-2 Inv-loop μ-loop
-loop-less-2 c = omega arith
 
 loop-again-2 : tie.Need-loop-again-2 Inv-loop μ-loop
 loop-again-2 c =
@@ -74,15 +50,10 @@ gather-spec =
     Inv-loop
     μ-loop
     loop-holds
-    shared-slice-read-c
-    add-i
+    (λ c. omega arith) (λ c. omega arith)
     returns
-    cast-self
-    element-write-self
-    add-self
-    loop-less
+    (λ c. omega arith) (λ c. omega arith) (λ c. omega arith) (λ c. omega arith)
     loop-again
-    add-self-2
-    loop-less-2
+    (λ c. omega arith) (λ c. omega arith)
     loop-again-2
     returns-2)

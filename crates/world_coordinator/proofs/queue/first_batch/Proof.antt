@@ -20,38 +20,8 @@ Inv-loop queue entries₀ count i₀ entries i =
 abbrev μ-loop : tie.MeasureT-loop
 μ-loop queue entries₀ count i₀ entries i = count - i
 
-no-entry-requires : tie.Need-no-entry-requires Inv-loop μ-loop
-no-entry-requires c κs = search needs
-
-least-requires : tie.Need-least-requires Inv-loop μ-loop
-least-requires c κs = search needs
-
 loop-holds : tie.Need-loop-holds Inv-loop μ-loop
 loop-holds c = (omega arith, refl)
-
-cast-entries : tie.Need-cast-entries Inv-loop μ-loop
-cast-entries c = omega arith
-
-mul-entries : tie.Need-mul-entries Inv-loop μ-loop
-mul-entries c = omega arith
-
-element-copy-out-entries : tie.Need-element-copy-out-entries Inv-loop μ-loop
-element-copy-out-entries c = omega arith
-
-cast-entries-2 : tie.Need-cast-entries-2 Inv-loop μ-loop
-cast-entries-2 c = omega arith
-
-mul-entries-2 : tie.Need-mul-entries-2 Inv-loop μ-loop
-mul-entries-2 c = omega arith
-
-array-set-from-entries : tie.Need-array-set-from-entries Inv-loop μ-loop
-array-set-from-entries c = omega arith
-
-add-i : tie.Need-add-i Inv-loop μ-loop
-add-i c = omega arith
-
-loop-less : tie.Need-loop-less Inv-loop μ-loop
-loop-less c = omega arith
 
 loop-again : tie.Need-loop-again Inv-loop μ-loop
 loop-again c =
@@ -78,16 +48,9 @@ first-batch-spec =
     (tie.spec
     Inv-loop
     μ-loop
-    no-entry-requires
-    least-requires
+    (λ c κs. search needs) (λ c κs. search needs)
     loop-holds
-    cast-entries
-    mul-entries
-    element-copy-out-entries
-    cast-entries-2
-    mul-entries-2
-    array-set-from-entries
-    add-i
-    loop-less
+    (λ c. omega arith) (λ c. omega arith) (λ c. omega arith) (λ c. omega arith) (λ c. omega arith)
+    (λ c. omega arith) (λ c. omega arith) (λ c. omega arith)
     loop-again
     returns)

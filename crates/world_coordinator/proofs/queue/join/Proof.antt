@@ -8,14 +8,8 @@ use Rattle.world_coordinator.proofs.QueueLaws.{joins, stays-full, there
 use Rattle.world_coordinator.proofs.queue.join.Statement.{statement}
 use Rattle.world_coordinator.proofs.queue.join.Tie as tie
 
-is-queued-requires : tie.Need-is-queued-requires
-is-queued-requires c κs = search needs
-
 returns : tie.Need-returns
 returns c = there-already (c .before .before .args .t1) (c .before .before .args .e) (sym (c .before .is-queued .ensures) ∙ c .if1 .taken)
-
-is-full-requires : tie.Need-is-full-requires
-is-full-requires c κs = search needs
 
 returns-2 : tie.Need-returns-2
 returns-2 c =
@@ -26,12 +20,6 @@ returns-2 c =
 -- the queue is not full
 has-room : (c : tie.Else2) → c .before .before .before .before .args .t1 .count < queuePlaces
 has-room c = leb-false queuePlaces (c .before .before .before .before .args .t1 .count) (sym (c .before .is-full .ensures) ∙ c .if2 .left)
-
-cast-e : tie.Need-cast-e
-cast-e c = search needs
-
-mul-e : tie.Need-mul-e
-mul-e c = search needs
 
 element-set-from-e : tie.Need-element-set-from-e
 element-set-from-e c = omega (arith, has-room c)
@@ -49,12 +37,11 @@ pub join-spec : {M : Type 1} → statement M
 join-spec =
     tie.close
     (tie.spec
-    is-queued-requires
+    (λ c κs. search needs)
     returns
-    is-full-requires
+    (λ c κs. search needs)
     returns-2
-    cast-e
-    mul-e
+    (λ c. search needs) (λ c. search needs)
     element-set-from-e
     add-queue
     returns-3)

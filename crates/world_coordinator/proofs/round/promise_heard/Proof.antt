@@ -6,9 +6,6 @@ use Rattle.world_coordinator.proofs.round.promise_heard.Tie as tie
 returns : tie.Need-returns
 returns c = heard-past (c .before .args .a) _ _ (c .if1 .taken)
 
-with-acceptor-requires : tie.Need-with-acceptor-requires
-with-acceptor-requires c κs = search needs
-
 returns-2 : tie.Need-returns-2
 returns-2 c =
     let k = c .before .before in
@@ -22,4 +19,4 @@ returns-3 c =
     higher-held (s .round) (s .a) (k .with-acceptor .result) (s .accepted) (s .batch) (k .with-acceptor .ensures) (k .before .if1 .left) (c .if2 .left)
 
 pub promise-heard-spec : {M : Type 1} → statement M
-promise-heard-spec = tie.close (tie.spec returns with-acceptor-requires returns-2 returns-3)
+promise-heard-spec = tie.close (tie.spec returns (λ c κs. search needs) returns-2 returns-3)

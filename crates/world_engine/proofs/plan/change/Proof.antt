@@ -6,29 +6,14 @@ use Rattle.world_engine.proofs.ChangeLaws.{command-outside, command-pla
 use Rattle.world_engine.proofs.plan.change.Statement.{statement}
 use Rattle.world_engine.proofs.plan.change.Tie as tie
 
-without-messages-requires : tie.Need-without-messages-requires
-without-messages-requires c κs = search needs
-
 returns : tie.Need-returns
 returns c = let a = c .before .before .before .args in c .without-messages .ensures ∙ command-refused (a .o) (a .p) (c .before .if1 .taken)
-
-counted-requires : tie.Need-counted-requires
-counted-requires c κs = search needs
-
-outside-requires : tie.Need-outside-requires
-outside-requires c κs = search needs
-
-without-messages-requires-2 : tie.Need-without-messages-requires-2
-without-messages-requires-2 c κs = search needs
 
 returns-2 : tie.Need-returns-2
 returns-2 c =
     let a = c .before .before .before .before .before .before .args in
     c .without-messages2 .ensures
     ∙ command-outside (a .o) (a .p) (c .before .before .before .before .if1 .left) (ap (λ (n : ℕ). outsideStep n (a .o .step)) (sym (c .before .before .before .counted .ensures)) ∙ sym (c .before .before .outside .ensures) ∙ c .before .if2 .taken)
-
-plan-requires : tie.Need-plan-requires
-plan-requires c κs = search needs
 
 returns-3 : tie.Need-returns-3
 returns-3 c =
@@ -40,11 +25,9 @@ pub change-spec : {M : Type 1} → statement M
 change-spec =
     tie.close
     (tie.spec
-    without-messages-requires
+    (λ c κs. search needs)
     returns
-    counted-requires
-    outside-requires
-    without-messages-requires-2
+    (λ c κs. search needs) (λ c κs. search needs) (λ c κs. search needs)
     returns-2
-    plan-requires
+    (λ c κs. search needs)
     returns-3)

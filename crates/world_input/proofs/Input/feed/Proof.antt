@@ -32,32 +32,17 @@ returns c =
     let l = c .before .before .loop in
     sym (l .inv .1 ∙ fed-over over withLine (record { state = commandsIn (l .commands); line = l .line }) (drop (l .at) (c .before .before .before .before .before .before .args .piece .now)) (over-last (l .commands) (l .inv .0) (c .if1 .taken)))
 
-gather-requires : tie.Need-gather-requires Inv-loop μ-loop
-gather-requires c κs = search needs
-
 returns-2 : tie.Need-returns-2 Inv-loop μ-loop
 returns-2 c =
     let l = c .before .before .before .before .before .before .loop in
     let s = c .before .before .before .before .before .before .before .before .before .before .args .piece .now in
     sym (l .inv .1 ∙ fed-begun over withLine (record { state = commandsIn (l .commands); line = l .line }) (drop (l .at) s) (seen s (c .before .before .before .gather .result)) (over-not (l .commands) (l .inv .0) (c .before .before .before .before .if1 .left)) (c .before .before .before .gather .ensures) (not-true _ (c .if2 .taken)))
 
-command-at-requires : tie.Need-command-at-requires Inv-loop μ-loop
-command-at-requires c κs = search needs
-
-cast-t8 : tie.Need-cast-t8 Inv-loop μ-loop
-cast-t8 c = omega arith
-
 mul-t13 : tie.Need-mul-t13 Inv-loop μ-loop
 mul-t13 c = let l = c .before .before .before .before .before .before .before .loop in omega arith
 
 element-set-from-commands : tie.Need-element-set-from-commands Inv-loop μ-loop
 element-set-from-commands c = let l = c .before .before .before .before .before .before .before .loop in omega (arith, l .inv .0)
-
-add-commands : tie.Need-add-commands Inv-loop μ-loop
-add-commands c = omega arith
-
-none-requires : tie.Need-none-requires Inv-loop μ-loop
-none-requires c κs = search needs
 
 loop-less : tie.Need-loop-less Inv-loop μ-loop
 loop-less c =
@@ -94,14 +79,12 @@ feed-spec =
     μ-loop
     loop-holds
     returns
-    gather-requires
+    (λ c κs. search needs)
     returns-2
-    command-at-requires
-    cast-t8
+    (λ c κs. search needs) (λ c. omega arith)
     mul-t13
     element-set-from-commands
-    add-commands
-    none-requires
+    (λ c. omega arith) (λ c κs. search needs)
     loop-less
     loop-again
     returns-3)

@@ -20,21 +20,6 @@ returns c = let i = c .before .before .before .args .self in finished-over over 
 returns-2 : tie.Need-returns-2
 returns-2 c = let i = c .before .before .before .before .before .args .self in finished-empty over withLine (stateOf i) (over-not (i .commands) (room (c .before .before .before)) (c .before .before .if1 .left)) (c .if2 .taken)
 
-command-at-requires : tie.Need-command-at-requires
-command-at-requires c κs = search needs
-
-cast-t7 : tie.Need-cast-t7
-cast-t7 c = search needs
-
-mul-t8 : tie.Need-mul-t8
-mul-t8 c = search needs
-
-element-set-from-commands : tie.Need-element-set-from-commands
-element-set-from-commands c = search needs
-
-add-commands : tie.Need-add-commands
-add-commands c = search needs
-
 returns-3 : tie.Need-returns-3
 returns-3 c =
     let i = c .before .before .before .before .before .before .args .self in
@@ -49,9 +34,6 @@ finish-spec =
     (tie.spec
     returns
     returns-2
-    command-at-requires
-    cast-t7
-    mul-t8
-    element-set-from-commands
-    add-commands
+    (λ c κs. search needs) (λ c. search needs) (λ c. search needs) (λ c. search needs)
+    (λ c. search needs)
     returns-3)

@@ -6,14 +6,8 @@ use Rattle.model_protocol.specs.Message.{ballotMessage}
 use Rattle.world_messages.proofs.message.accepted_from.Statement.{statement}
 use Rattle.world_messages.proofs.message.accepted_from.Tie as tie
 
-no-batch-requires : tie.Need-no-batch-requires
-no-batch-requires c κs = search needs
-
-ballot-message-requires : tie.Need-ballot-message-requires
-ballot-message-requires c κs = search needs
-
 returns : tie.Need-returns
 returns c = let a = c .before .before .args in c .ballot-message .ensures ∙ ap (λ (v : Batch). ballotMessage Accepted (a .inst) (a .ballot) (a .acceptor) 0 v) (c .before .no-batch .ensures)
 
 pub accepted-from-spec : {M : Type 1} → statement M
-accepted-from-spec = tie.close (tie.spec no-batch-requires ballot-message-requires returns)
+accepted-from-spec = tie.close (tie.spec (λ c κs. search needs) (λ c κs. search needs) returns)

@@ -2,11 +2,8 @@ use borrow.Author.Needs.{needs}
 use Rattle.world_messages.proofs.message.ballot_message.Statement.{statement}
 use Rattle.world_messages.proofs.message.ballot_message.Tie as tie
 
-no-entry-requires : tie.Need-no-entry-requires
-no-entry-requires c κs = search needs
-
 returns : tie.Need-returns
 returns c = rw (c .no-entry .ensures)
 
 pub ballot-message-spec : {M : Type 1} → statement M
-ballot-message-spec = tie.close (tie.spec no-entry-requires returns)
+ballot-message-spec = tie.close (tie.spec (λ c κs. search needs) returns)

@@ -7,14 +7,8 @@ use Rattle.model_protocol.specs.declared.Kind.the-variants.{Restore}
 use Rattle.world_messages.proofs.message.restore_to.Statement.{statement}
 use Rattle.world_messages.proofs.message.restore_to.Tie as tie
 
-no-entry-requires : tie.Need-no-entry-requires
-no-entry-requires c κs = search needs
-
-direct-message-requires : tie.Need-direct-message-requires
-direct-message-requires c κs = search needs
-
 returns : tie.Need-returns
 returns c = let a = c .before .before .args in c .direct-message .ensures ∙ ap (λ (e : Entry). directMessage Restore (a .process) e 0 Open (a .store) (a .position)) (c .before .no-entry .ensures)
 
 pub restore-to-spec : {M : Type 1} → statement M
-restore-to-spec = tie.close (tie.spec no-entry-requires direct-message-requires returns)
+restore-to-spec = tie.close (tie.spec (λ c κs. search needs) (λ c κs. search needs) returns)

@@ -6,14 +6,8 @@ use Rattle.model_protocol.specs.declared.Kind.the-variants.{Tell}
 use Rattle.world_messages.proofs.message.tell_to.Statement.{statement}
 use Rattle.world_messages.proofs.message.tell_to.Tie as tie
 
-no-entry-requires : tie.Need-no-entry-requires
-no-entry-requires c κs = search needs
-
-direct-message-requires : tie.Need-direct-message-requires
-direct-message-requires c κs = search needs
-
 returns : tie.Need-returns
 returns c = let a = c .before .before .args in c .direct-message .ensures ∙ ap (λ (e : Entry). directMessage Tell (a .process) e (a .tx) (a .outcome) 0 0) (c .before .no-entry .ensures)
 
 pub tell-to-spec : {M : Type 1} → statement M
-tell-to-spec = tie.close (tie.spec no-entry-requires direct-message-requires returns)
+tell-to-spec = tie.close (tie.spec (λ c κs. search needs) (λ c κs. search needs) returns)

@@ -10,21 +10,6 @@ use Rattle.world_messages.proofs.parties.crashed.Tie as tie
 enum-told : tie.Need-enum-told
 enum-told c = search needs
 
-element-write-d : tie.Need-element-write-d
-element-write-d c = search needs
-
-enum-told-2 : tie.Need-enum-told-2
-enum-told-2 c = search needs
-
-element-write-d-2 : tie.Need-element-write-d-2
-element-write-d-2 c = search needs
-
-enum-told-3 : tie.Need-enum-told-3
-enum-told-3 c = search needs
-
-element-write-d-3 : tie.Need-element-write-d-3
-element-write-d-3 c = search needs
-
 returns : tie.Need-returns
 returns c = let a = c .before .before .before .args in ap (λ (r : Role). crashed (a .t1) r (a .id)) (sym (c .before .enum-told .given .1))
 
@@ -48,11 +33,8 @@ crashed-spec =
     tie.close
     (tie.spec
     enum-told
-    element-write-d
-    enum-told-2
-    element-write-d-2
-    enum-told-3
-    element-write-d-3
+    (λ c. search needs) (λ c. search needs) (λ c. search needs) (λ c. search needs)
+    (λ c. search needs)
     returns
     returns-2
     returns-3

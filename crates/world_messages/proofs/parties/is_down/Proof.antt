@@ -13,26 +13,11 @@ enum-told c = search needs
 returns : tie.Need-returns
 returns c = let s = c .before .before .before in let a = s .args in no-party-there (a .t1 .acceptors) (a .id) (omega (arith, acceptors-length (a .t1) _ (s .good .0), c .if1 .taken)) ∙ ap (λ (r : Role). isDown (a .t1) r (a .id)) (sym (c .before .enum-told .given .1))
 
-element-copy-out-result : tie.Need-element-copy-out-result
-element-copy-out-result c = search needs
-
-enum-told-2 : tie.Need-enum-told-2
-enum-told-2 c = search needs
-
 returns-2 : tie.Need-returns-2
 returns-2 c = let s = c .before .before .before in let a = s .args in no-party-there (a .t1 .coordinators) (a .id) (omega (arith, coordinators-length (a .t1) _ (s .good .0), c .if2 .taken)) ∙ ap (λ (r : Role). isDown (a .t1) r (a .id)) (sym (c .before .enum-told2 .given .1))
 
-element-copy-out-result-2 : tie.Need-element-copy-out-result-2
-element-copy-out-result-2 c = search needs
-
-enum-told-3 : tie.Need-enum-told-3
-enum-told-3 c = search needs
-
 returns-3 : tie.Need-returns-3
 returns-3 c = let s = c .before .before .before in let a = s .args in no-party-there (a .t1 .processes) (a .id) (omega (arith, processes-length (a .t1) _ (s .good .0), c .if3 .taken)) ∙ ap (λ (r : Role). isDown (a .t1) r (a .id)) (sym (c .before .enum-told3 .given .1))
-
-element-copy-out-result-3 : tie.Need-element-copy-out-result-3
-element-copy-out-result-3 c = search needs
 
 returns-4 : tie.Need-returns-4
 returns-4 c = let a = c .before .before .before .before .args in ap (λ (r : Role). isDown (a .t1) r (a .id)) (sym (c .before .before .enum-told .given .1))
@@ -49,13 +34,11 @@ is-down-spec =
     (tie.spec
     enum-told
     returns
-    element-copy-out-result
-    enum-told-2
+    (λ c. search needs) (λ c. search needs)
     returns-2
-    element-copy-out-result-2
-    enum-told-3
+    (λ c. search needs) (λ c. search needs)
     returns-3
-    element-copy-out-result-3
+    (λ c. search needs)
     returns-4
     returns-5
     returns-6)

@@ -2,11 +2,8 @@ use borrow.Author.Needs.{needs}
 use Rattle.world_parts.proofs.changes.learns.Statement.{statement}
 use Rattle.world_parts.proofs.changes.learns.Tie as tie
 
-no-message-requires : tie.Need-no-message-requires
-no-message-requires c κs = search needs
-
 returns : tie.Need-returns
 returns c = cc
 
 pub learns-spec : {M : Type 1} → statement M
-learns-spec = tie.close (tie.spec no-message-requires returns)
+learns-spec = tie.close (tie.spec (λ c κs. search needs) returns)

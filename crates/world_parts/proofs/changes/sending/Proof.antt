@@ -2,11 +2,8 @@ use borrow.Author.Needs.{needs}
 use Rattle.world_parts.proofs.changes.sending.Statement.{statement}
 use Rattle.world_parts.proofs.changes.sending.Tie as tie
 
-no-batch-requires : tie.Need-no-batch-requires
-no-batch-requires c κs = search needs
-
 returns : tie.Need-returns
 returns c = cc
 
 pub sending-spec : {M : Type 1} → statement M
-sending-spec = tie.close (tie.spec no-batch-requires returns)
+sending-spec = tie.close (tie.spec (λ c κs. search needs) returns)

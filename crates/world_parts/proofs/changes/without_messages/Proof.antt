@@ -2,14 +2,8 @@ use borrow.Author.Needs.{needs}
 use Rattle.world_parts.proofs.changes.without_messages.Statement.{statement}
 use Rattle.world_parts.proofs.changes.without_messages.Tie as tie
 
-no-message-requires : tie.Need-no-message-requires
-no-message-requires c κs = search needs
-
-no-batch-requires : tie.Need-no-batch-requires
-no-batch-requires c κs = search needs
-
 returns : tie.Need-returns
 returns c = cc
 
 pub without-messages-spec : {M : Type 1} → statement M
-without-messages-spec = tie.close (tie.spec no-message-requires no-batch-requires returns)
+without-messages-spec = tie.close (tie.spec (λ c κs. search needs) (λ c κs. search needs) returns)

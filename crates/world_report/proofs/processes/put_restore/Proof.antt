@@ -4,15 +4,6 @@ use Rattle.world_report.proofs.ProcessTexts.{none-taken, one-taken}
 use Rattle.world_report.proofs.processes.put_restore.Statement.{statement}
 use Rattle.world_report.proofs.processes.put_restore.Tie as tie
 
-restore-line-requires : tie.Need-restore-line-requires
-restore-line-requires c κs = search needs
-
-put-replay-requires : tie.Need-put-replay-requires
-put-replay-requires c κs = search needs
-
-same-length : tie.Need-same-length
-same-length c = search needs
-
 returns : tie.Need-returns
 returns c =
     let a = c .before .before .before .args in
@@ -25,4 +16,7 @@ returns-2 c =
 
 pub put-restore-spec : {M : Type 1} → statement M
 put-restore-spec =
-    tie.close (tie.spec returns restore-line-requires put-replay-requires same-length returns-2)
+    tie.close (tie.spec
+    returns
+    (λ c κs. search needs) (λ c κs. search needs) (λ c. search needs)
+    returns-2)
