@@ -135,8 +135,8 @@ impl Input {
         }
     }
 
-    // The input after a piece of any length. It owns the log and stores the answers in place, so
-    // that a refused line copies neither.
+    // The input after a piece of any length. It owns the log and the answers: an answer is stored in
+    // place, and a log comes back only where an entry was accepted.
     pub fn feed(self, piece: &[u8]) -> Input
         ensures { λ r. ⌜ stateOf r ≡ fed isOver answerLine (stateOf self) (now (piece .entry)) ⌝ }
     {
