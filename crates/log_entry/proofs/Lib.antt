@@ -1,6 +1,5 @@
 pub mod EntryLaws
 pub mod EqualEntries
 pub mod InsideLaws
-pub mod SameLaws
 pub mod SetLaws
 pub mod Tests

@@ -30,10 +30,7 @@ pub struct Entry {
 pub fn no_process(p: u8) -> bool
     ensures { λ r. ⌜ r ≡ noProcess p ⌝ }
 {
-    if p == 0 {
-        return true;
-    }
-    PROCESSES < p
+    (p == 0) | (PROCESSES < p)
 }
 
 impl Entry {
@@ -79,62 +76,33 @@ impl Entry {
     pub fn outside(self) -> bool
         ensures { λ r. ⌜ r ≡ outside self ⌝ }
     {
-        if no_process(self.process) {
-            return true;
-        }
-        if STORES <= self.store {
-            return true;
-        }
-        if self.take {
-            return false;
-        }
-        if STORES <= self.by {
-            return true;
-        }
-        TRANSACTIONS <= self.tx
+        let beyond = (STORES <= self.by) | (TRANSACTIONS <= self.tx);
+        no_process(self.process) | (STORES <= self.store) | (!self.take & beyond)
     }
 
     // Refusal 7, of a vote.
     pub fn ill_formed(self) -> bool
         ensures { λ r. ⌜ r ≡ illFormed self ⌝ }
     {
-        if !sets::has8(self.participants, self.store) {
-            return true;
-        }
-        if !sets::has8(self.participants, self.by) {
-            return true;
-        }
+        let list = self.participants;
+        let lacks = !sets::has8(list, self.store) | !sets::has8(list, self.by);
         if self.commit {
-            return self.by != self.store;
+            return lacks | (self.by != self.store);
         }
-        self.update != 0
+        lacks | (self.update != 0)
     }
 
     // Whether the two are equal in all values.
     pub fn same(self, other: Entry) -> bool
         ensures { λ r. ⌜ r ≡ sameEntry self other ⌝ }
     {
-        if self.take != other.take {
-            return false;
-        }
-        if self.process != other.process {
-            return false;
-        }
-        if self.by != other.by {
-            return false;
-        }
-        if self.store != other.store {
-            return false;
-        }
-        if self.tx != other.tx {
-            return false;
-        }
-        if self.participants != other.participants {
-            return false;
-        }
-        if self.commit != other.commit {
-            return false;
-        }
-        self.update == other.update
+        (self.take == other.take)
+            & (self.process == other.process)
+            & (self.by == other.by)
+            & (self.store == other.store)
+            & (self.tx == other.tx)
+            & (self.participants == other.participants)
+            & (self.commit == other.commit)
+            & (self.update == other.update)
     }
 }

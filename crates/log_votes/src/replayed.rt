@@ -8,10 +8,7 @@ impl Row {
     pub fn replays(self, store: u8, g: u8) -> bool
         ensures { λ r. ⌜ r ≡ replays store g self ⌝ }
     {
-        if self.group != g {
-            return false;
-        }
-        self.vote_of(store).is_commit()
+        (self.group == g) & self.vote_of(store).is_commit()
     }
 
     // The update of the store's vote, 0 if there is none.

@@ -26,10 +26,7 @@ impl Vote {
     pub fn is_commit(self) -> bool
         ensures { λ r. ⌜ r ≡ (self .kept && self .commit) ⌝ }
     {
-        if self.kept {
-            return self.commit;
-        }
-        false
+        self.kept & self.commit
     }
 
     // Whether the vote is kept and lists the store.
@@ -46,10 +43,7 @@ impl Vote {
     pub fn is_within(self, set: u8) -> bool
         ensures { λ r. ⌜ r ≡ (self .kept && within (self .participants) set) ⌝ }
     {
-        if self.kept {
-            return sets::within8(self.participants, set);
-        }
-        false
+        self.kept & sets::within8(self.participants, set)
     }
 
     // Whether this is a kept commit vote with whose list the entry clashes.
