@@ -29,52 +29,31 @@ pub const COMMAND_PLACES: usize = COMMANDS as usize;
 fn setup_outside(n: u8) -> bool
     ensures { λ r. ⌜ r ≡ not (eqb n fewestAcceptors || eqb n mostAcceptors) ⌝ }
 {
-    if n == FEWEST_ACCEPTORS {
-        return false;
-    }
-    n != MOST_ACCEPTORS
+    !((n == FEWEST_ACCEPTORS) | (n == MOST_ACCEPTORS))
 }
 
 fn no_request(e: Entry, to: u8) -> bool
     ensures { λ r. ⌜ r ≡ (outside e || noCoordinator to) ⌝ }
 {
-    if e.outside() {
-        return true;
-    }
-    COORDINATORS <= to
+    e.outside() | (COORDINATORS <= to)
 }
 
 fn no_round(coord: u8, inst: u8, ballot: u8) -> bool
     ensures { λ r. ⌜ r ≡ (noCoordinator coord || leb instances inst || noBallot ballot) ⌝ }
 {
-    if COORDINATORS <= coord {
-        return true;
-    }
-    if INSTANCES <= inst {
-        return true;
-    }
-    ballot == 0
+    (COORDINATORS <= coord) | (INSTANCES <= inst) | (ballot == 0)
 }
 
 fn no_tell(coord: u8, process: u8, tx: u8) -> bool
     ensures { λ r. ⌜ r ≡ (noCoordinator coord || noProcess process || leb transactions tx) ⌝ }
 {
-    if COORDINATORS <= coord {
-        return true;
-    }
-    if log_entry::no_process(process) {
-        return true;
-    }
-    TRANSACTIONS <= tx
+    (COORDINATORS <= coord) | log_entry::no_process(process) | (TRANSACTIONS <= tx)
 }
 
 fn no_restore(coord: u8, process: u8) -> bool
     ensures { λ r. ⌜ r ≡ (noCoordinator coord || noProcess process) ⌝ }
 {
-    if COORDINATORS <= coord {
-        return true;
-    }
-    log_entry::no_process(process)
+    (COORDINATORS <= coord) | log_entry::no_process(process)
 }
 
 fn no_party(acceptors: u8, role: Role, id: u8) -> bool

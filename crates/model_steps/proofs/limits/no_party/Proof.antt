@@ -5,9 +5,6 @@ use Rattle.model_steps.specs.Limits.{noParty}
 use Rattle.model_steps.proofs.limits.no_party.Statement.{statement}
 use Rattle.model_steps.proofs.limits.no_party.Tie as tie
 
-enum-told : tie.Need-enum-told
-enum-told c = search needs
-
 returns : tie.Need-returns
 returns c = let a = c .before .before .args in ap (λ (r : Role). noParty (a .acceptors) r (a .id)) (sym (c .enum-told .given .1))
 
@@ -18,11 +15,4 @@ returns-3 : tie.Need-returns-3
 returns-3 c = let a = c .before .before .before .args in c .no-process .ensures ∙ ap (λ (r : Role). noParty (a .acceptors) r (a .id)) (sym (c .before .enum-told3 .given .1))
 
 pub no-party-spec : {M : Type 1} → statement M
-no-party-spec =
-    tie.close
-    (tie.spec
-    enum-told
-    (λ c. search needs) (λ c. search needs) (λ c κs. search needs)
-    returns
-    returns-2
-    returns-3)
+no-party-spec = tie.close (tie.spec (λ c. search needs) (λ c. search needs) (λ c. search needs) (λ c κs. search needs) returns returns-2 returns-3)
