@@ -1,6 +1,6 @@
 -- A number in a given count of lower-case hexadecimal digits.
 use Prim.Native.Nat.{ℕ, suc, _+_, _-_, _*_, _/_, _%_}
-use mathlib.Core.Bool.{Bool, _&&_, _||_, cond}
+use mathlib.Core.Bool.{Bool, false, _&&_, _||_, cond}
 use mathlib.Core.List.{List, [], _∷_, _++_}
 use lib.Dec.{leb, ltb}
 use Rattle.text_ascii.specs.Decimal.{isDigit}
@@ -24,6 +24,11 @@ hex (suc k) n = hex k (n / 16) ++ hexDigit (n % 16) ∷ []
 
 abbrev pub isHexDigit : ℕ → Bool
 isHexDigit c = isDigit c || (leb 97 c && leb c 102)
+
+-- such a digit stands in front
+abbrev pub beginsHexDigit : List ℕ → Bool
+beginsHexDigit [] = false
+beginsHexDigit (c ∷ s) = isHexDigit c
 
 -- the number of a digit's byte
 abbrev pub hexDigitOf : ℕ → ℕ

@@ -25,16 +25,15 @@ pub fn byte(out: &mut [u8], at: usize, b: u8) -> usize
     at
 }
 
-pub fn word(out: &mut [u8], at: usize, bytes: &[u8]) -> usize
+pub fn word(out: &mut [u8], mut at: usize, bytes: &[u8]) -> usize
     ensures { λ r. ⌜ Wrote (now (out .entry)) at (now (bytes .entry)) (now (out .exit)) r ⌝ }
 {
-    let mut to = at;
     let mut i: usize = 0;
     while i < bytes.len() {
-        to = byte(out, to, bytes[i]);
+        at = byte(out, at, bytes[i]);
         i += 1;
     }
-    to
+    at
 }
 
 pub fn decimal(out: &mut [u8], at: usize, n: u32) -> usize

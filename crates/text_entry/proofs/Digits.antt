@@ -11,7 +11,7 @@ use lib.ListN.{length, drop, getD, drop-of-length-le}
 use lib.Seq.{drop-cons}
 use native.Mathlib.Decide.{decLt}
 use Rattle.text_ascii.specs.Decimal.{beginsDigit, byteNumbers, grown, isDigit}
-use Rattle.text_ascii.specs.Hex.{isHexDigit, hexGrown}
+use Rattle.text_ascii.specs.Hex.{beginsHexDigit, isHexDigit, hexGrown}
 use Rattle.text_ascii.proofs.Decimals.{is-digit-low, is-digit-high}
 use Rattle.text_entry.specs.Fields.{inDecimal}
 use Rattle.text_entry.specs.Read.{part, unreadable, leadingZero, readDigits, readDecimal, readHex, readValue}
@@ -75,21 +75,34 @@ module _ (s : List ℕ) where
   unfolding readValue readDecimal
   decimal-digits h k = rw (h, k)
 
+module _ (s : List ℕ) (at : ℕ) where
+  pub hex-far : length s ≤ at → beginsHexDigit (drop at s) ≡ false
+  hex-far h = rw (drop-of-length-le s {i = at} h)
+
+  pub hex-at : at < length s → beginsHexDigit (drop at s) ≡ isHexDigit (getD s at 0)
+  hex-at h = rw (drop-cons s at 0 h)
+
+  pub hex-inside : beginsHexDigit (drop at s) ≡ true → at < length s
+  hex-inside e = elim (decLt at (length s)) [
+    | yes h ↦ h
+    | no h ↦ absurd (false≢true (sym (hex-far (omega arith)) ∙ e))
+  ]
+
 module _ (s : List ℕ) (at left n : ℕ) (k : 0 < left) where
   one-more : left ≡ suc (left - 1)
   one-more = omega arith
 
-  pub hex-far : length s ≤ at → readHex left n (drop at s) ≡ unreadable
+  pub hex-other : beginsHexDigit (drop at s) ≡ false → readHex left n (drop at s) ≡ unreadable
   unfolding readHex
-  hex-far h = rw (drop-of-length-le s {i = at} h, one-more)
+  hex-other e = ap (λ (j : ℕ). readHex j n (drop at s)) one-more ∙ go (drop at s) e
+    where
+      go : (t : List ℕ) → beginsHexDigit t ≡ false → readHex (suc (left - 1)) n t ≡ unreadable
+      go [] e = refl
+      go (c ∷ t) e = rw e
 
-  pub hex-other : at < length s → isHexDigit (getD s at 0) ≡ false → readHex left n (drop at s) ≡ unreadable
+  pub hex-more : beginsHexDigit (drop at s) ≡ true → readHex left n (drop at s) ≡ readHex (left - 1) (hexGrown n (getD s at 0)) (drop (at + 1) s)
   unfolding readHex
-  hex-other h e = rw (drop-cons s at 0 h, one-more, e)
-
-  pub hex-more : at < length s → isHexDigit (getD s at 0) ≡ true → readHex left n (drop at s) ≡ readHex (left - 1) (hexGrown n (getD s at 0)) (drop (at + 1) s)
-  unfolding readHex
-  hex-more h e = ap (λ (j : ℕ). readHex j n (drop at s)) one-more ∙ rw (drop-cons s at 0 h, e, add-one)
+  hex-more e = ap (λ (j : ℕ). readHex j n (drop at s)) one-more ∙ rw (drop-cons s at 0 (hex-inside s at e), sym (hex-at s at (hex-inside s at e)) ∙ e, add-one)
 
 pub hex-end : (s : List ℕ) (left n : ℕ) → left ≤ 0 → readHex left n s ≡ part n s
 unfolding readHex

@@ -26,19 +26,11 @@ pub struct Decimals {
 pub fn bytes(a: u32, b: u32, c: u32, d: u32, e: u32) -> bool
     ensures { λ r. ⌜ r ≡ not (anyBeyond (a ∷ b ∷ c ∷ d ∷ e ∷ [])) ⌝ }
 {
-    if BYTE_NUMBERS <= a {
-        return false;
-    }
-    if BYTE_NUMBERS <= b {
-        return false;
-    }
-    if BYTE_NUMBERS <= c {
-        return false;
-    }
-    if BYTE_NUMBERS <= d {
-        return false;
-    }
-    e < BYTE_NUMBERS
+    !((BYTE_NUMBERS <= a)
+        | (BYTE_NUMBERS <= b)
+        | (BYTE_NUMBERS <= c)
+        | (BYTE_NUMBERS <= d)
+        | (BYTE_NUMBERS <= e))
 }
 
 fn found(a: u32, b: u32, c: u32) -> Decimals

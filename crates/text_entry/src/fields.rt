@@ -42,8 +42,5 @@ pub fn decimal(line: &[u8], before: Value, key: &[u8]) -> Value
 pub fn ends(line: &[u8], last: Value) -> bool
     ensures { λ r. ⌜ r ≡ (last .readable && isEnd (drop (last .end) (now (line .entry)))) ⌝ }
 {
-    if !last.readable {
-        return false;
-    }
-    line.len() <= last.end
+    last.readable & (line.len() <= last.end)
 }

@@ -11,7 +11,7 @@ ghost use Rattle.text_entry.specs.Decimals.{answerBy};
 ghost use Rattle.text_entry.specs.declared.Reading.the-variants.{Read, Outside, Unreadable};
 ghost use Rattle.text_entry.specs.Kinds.{say, takeKind, voteKind};
 ghost use Rattle.text_entry.specs.Parts.{kindParts, voteParts};
-ghost use Rattle.text_entry.specs.Read.{readKind, valueAfter};
+ghost use Rattle.text_entry.specs.Read.{readField, readKind};
 ghost use Rattle.text_entry.specs.Seen.{seen};
 ghost use Rattle.text_entry.specs.Table.{made};
 ghost use Rattle.text_entry.specs.Entry.{readingOf, reading, takeOf, voteOf};
@@ -96,7 +96,7 @@ pub fn vote_parts(line: &[u8]) -> VoteParts
     let store = fields::decimal(line, by, b"store");
     let tx = fields::decimal(line, store, b"tx");
     let list = value::list_digits(line, fields::keyed(line, tx, b"list"));
-    let say = said(line, fields::keyed(line, list, b"say"));
+    let say = said(line, list);
     let update = value::update_digits(line, fields::keyed(line, say, b"upd"));
     VoteParts {
         process,
@@ -127,13 +127,14 @@ fn read_vote(line: &[u8]) -> Reading
     )
 }
 
-// After a value: abort, which is 0, or commit, which is 1.
+// After a value: the field `say`, which is 0 for abort and 1 for commit.
 fn said(line: &[u8], before: Value) -> Value
-    ensures { λ r. ⌜ seen (now (line .entry)) r ≡ valueAfter (say .form) (seen (now (line .entry)) before) ⌝ }
+    ensures { λ r. ⌜ seen (now (line .entry)) r ≡ readField say (seen (now (line .entry)) before) ⌝ }
 {
+    let key = fields::keyed(line, before, b"say");
     let other = value::unreadable(line);
-    let commit = value::word(line, before, b"commit", 1, other);
-    value::word(line, before, b"abort", 0, commit)
+    let commit = value::word(line, key, b"commit", 1, other);
+    value::word(line, key, b"abort", 0, commit)
 }
 
 // The entry whose text the line is.

@@ -5,7 +5,7 @@ ghost use mathlib.Core.Bool.{true};
 ghost use lib.ListN.{drop};
 ghost use Rattle.text_ascii.specs.Bytes.{begins};
 ghost use Rattle.text_ascii.specs.Decimal.{beginsDigit};
-ghost use Rattle.text_ascii.specs.Hex.{isHexDigit as Hex·isHexDigit, hexDigitOf, listDigits, updateDigits};
+ghost use Rattle.text_ascii.specs.Hex.{beginsHexDigit, isHexDigit, hexDigitOf, listDigits, updateDigits};
 ghost use Rattle.text_entry.specs.Fields.{inDecimal, inHex};
 ghost use Rattle.text_entry.specs.Read.{after as Read·after, leadingZero, readDigits, valueAfter};
 ghost use Rattle.text_entry.specs.Read.{unreadable as Read·unreadable};
@@ -33,19 +33,18 @@ pub fn unreadable(line: &[u8]) -> Value
 }
 
 // Whether the word stands in the line at a place.
-fn starts(line: &[u8], at: usize, word: &[u8]) -> bool
+fn starts(line: &[u8], mut at: usize, word: &[u8]) -> bool
     ensures { λ r. ⌜ r ≡ begins (drop at (now (line .entry))) (now (word .entry)) ⌝ }
 {
     let mut i: usize = 0;
-    let mut to = at;
     while i < word.len() {
-        if line.len() <= to {
+        if line.len() <= at {
             return false;
         }
-        if line[to] != word[i] {
+        if line[at] != word[i] {
             return false;
         }
-        to += 1;
+        at += 1;
         i += 1;
     }
     true
@@ -76,10 +75,7 @@ fn is_digit(line: &[u8], at: usize) -> bool
     if line.len() <= at {
         return false;
     }
-    if line[at] < 48 {
-        return false;
-    }
-    line[at] <= 57
+    (48 <= line[at]) & (line[at] <= 57)
 }
 
 // Whether a 0 with a digit after it stands there.
@@ -89,10 +85,7 @@ fn leading_zero(line: &[u8], at: usize) -> bool
     if line.len() <= at {
         return false;
     }
-    if line[at] != 48 {
-        return false;
-    }
-    is_digit(line, at + 1)
+    (line[at] == 48) & is_digit(line, at + 1)
 }
 
 fn least(a: u32, b: u32) -> u32
@@ -102,19 +95,18 @@ fn least(a: u32, b: u32) -> u32
 }
 
 // All digits from a place on.
-fn digits(line: &[u8], at: usize) -> Value
+fn digits(line: &[u8], mut at: usize) -> Value
     ensures { λ r. ⌜ seen (now (line .entry)) r ≡ capped (readDigits 0 (drop at (now (line .entry)))) ⌝ }
 {
     let mut number: u32 = 0;
-    let mut i = at;
-    while is_digit(line, i) {
-        number = least(number * 10 + (line[i] - 48) as u32, BYTE_NUMBERS);
-        i += 1;
+    while is_digit(line, at) {
+        number = least(number * 10 + (line[at] - 48) as u32, BYTE_NUMBERS);
+        at += 1;
     }
     Value {
         readable: true,
         number,
-        end: i,
+        end: at,
     }
 }
 
@@ -135,24 +127,19 @@ pub fn decimal(line: &[u8], before: Value) -> Value
     digits(line, at)
 }
 
-// Whether the byte is a lower-case hexadecimal digit's.
-fn is_hex_digit(c: u8) -> bool
-    ensures { λ r. ⌜ r ≡ Hex·isHexDigit c ⌝ }
+// Whether a lower-case hexadecimal digit stands in the line at a place.
+fn is_hex_digit(line: &[u8], at: usize) -> bool
+    ensures { λ r. ⌜ r ≡ beginsHexDigit (drop at (now (line .entry))) ⌝ }
 {
-    if c < 48 {
+    if line.len() <= at {
         return false;
     }
-    if c <= 57 {
-        return true;
-    }
-    if c < 97 {
-        return false;
-    }
-    c <= 102
+    let c = line[at];
+    ((48 <= c) & (c <= 57)) | ((97 <= c) & (c <= 102))
 }
 
 fn hex_number(c: u8) -> u32
-    requires { ⌜ Hex·isHexDigit c ≡ true ⌝ }
+    requires { ⌜ isHexDigit c ≡ true ⌝ }
     ensures { λ r. ⌜ r ≡ hexDigitOf c ⌝ }
 {
     if c <= 57 {
@@ -162,7 +149,7 @@ fn hex_number(c: u8) -> u32
 }
 
 // After a value: a given count of hexadecimal digits.
-fn hex(line: &[u8], before: Value, count: usize) -> Value
+fn hex(line: &[u8], before: Value, mut count: usize) -> Value
     requires { ⌜ count ≤ updateDigits ⌝ }
     ensures { λ r. ⌜ seen (now (line .entry)) r ≡ valueAfter (inHex count) (seen (now (line .entry)) before) ⌝ }
 {
@@ -170,18 +157,13 @@ fn hex(line: &[u8], before: Value, count: usize) -> Value
         return unreadable(line);
     }
     let mut number: u32 = 0;
-    let mut left = count;
     let mut i = before.end;
-    while 0 < left {
-        if line.len() <= i {
+    while 0 < count {
+        if !is_hex_digit(line, i) {
             return unreadable(line);
         }
-        let c = line[i];
-        if !is_hex_digit(c) {
-            return unreadable(line);
-        }
-        number = number * 16 + hex_number(c);
-        left -= 1;
+        number = number * 16 + hex_number(line[i]);
+        count -= 1;
         i += 1;
     }
     Value {

@@ -1,14 +1,17 @@
 -- An input that is read piece by piece.
 use Prim.Native.Nat.{ℕ}
 use native.Mathlib.Omega.{arith}
-use mathlib.Core.Bool.{Bool}
+use mathlib.Core.Bool.{Bool, true, false, _||_}
 use mathlib.Core.List.{List, [], _∷_, _++_}
+use mathlib.Core.Logic.{_⊎_, inl, inr}
 use mathlib.Core.Path.{_≡_, refl, sym, _∙_, ap}
+use lib.Dec.{eqb}
 use lib.ListN.{length, length-append}
+use borrow.Author.Tests.{eqb-true}
 use Rattle.text_lines.specs.declared.Line.{Line}
 use Rattle.text_lines.specs.Feed.{Fed, fed, fedAll, fresh}
 use Rattle.text_lines.proofs.Feeding.{all-is-joined}
-use Rattle.text_io.specs.Reading.{Given, OneMore, ReadAll, bytesRead, lastPiece}
+use Rattle.text_io.specs.Reading.{Given, OneMore, ReadAll, bytesRead, lastPiece, maxPieces}
 
 last-is : (ps : List (List ℕ)) (p : List ℕ) → lastPiece (ps ++ p ∷ []) ≡ p
 unfolding lastPiece
@@ -36,6 +39,14 @@ module _ {S : Type 0} (over : S → Bool) (step : S → Line → S) where
           count = omega (arith, m .count, r .count, length-append (r .given) (p ∷ []));
           bytes = m .bytes ∙ sym (ap length (last-is (r .given) p));
         }
+
+    -- why the reading ended, by the test that ends it
+    pub ended-by : (f : Fed S) (pieces last : ℕ) (o : Bool) → o ≡ over (f .state) → (eqb last 0 || o) ≡ true → (last ≡ 0) ⊎ (over (f .state) ≡ true) ⊎ (pieces ≡ maxPieces)
+    ended-by f pieces last o e h = go (eqb last 0) refl h
+      where
+        go : (z : Bool) → eqb last 0 ≡ z → (z || o) ≡ true → (last ≡ 0) ⊎ (over (f .state) ≡ true) ⊎ (pieces ≡ maxPieces)
+        go true k h = inl (eqb-true last 0 k)
+        go false k h = inr (inl (sym e ∙ h))
 
     -- what was read piece by piece was fed as a whole
     pub read-is-fed : (f : Fed S) (pieces last : ℕ) (r : ReadAll over step first f pieces last) → f ≡ fed over step (fresh first) (bytesRead r)

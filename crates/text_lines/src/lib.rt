@@ -40,18 +40,17 @@ impl Line {
     }
 
     // Adds the bytes of a piece from a place on, up to an LF or the piece's end.
-    pub fn gather(mut self, piece: &[u8], at: usize) -> Gathered
+    pub fn gather(mut self, piece: &[u8], mut at: usize) -> Gathered
         ensures { λ r. ⌜ seen (now (piece .entry)) r ≡ gathered self (drop at (now (piece .entry))) ⌝ }
     {
-        let mut i = at;
-        while i < piece.len() {
-            let c = piece[i];
-            i += 1;
+        while at < piece.len() {
+            let c = piece[at];
+            at += 1;
             if c == LF {
                 return Gathered {
                     line: self,
                     ended: true,
-                    next: i,
+                    next: at,
                 };
             }
             let n = self.length;
@@ -65,7 +64,7 @@ impl Line {
         Gathered {
             line: self,
             ended: false,
-            next: i,
+            next: at,
         }
     }
 }

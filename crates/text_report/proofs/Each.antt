@@ -1,12 +1,17 @@
 -- Texts written by a loop, one of them a turn.
-use Prim.Native.Nat.{ℕ, _≤_, _<_, _+_, _*_}
+use Prim.Native.Nat.{ℕ, _≤_, _<_, _+_, _*_, min}
+use mathlib.Core.Bool.{true, false, _&&_}
 use mathlib.Core.List.{List, _++_}
 use mathlib.Core.Path.{_≡_, ap, sym, _∙_}
 use native.Mathlib.Nat.{suc-mul}
 use native.Mathlib.Numerals.{add-one}
 use native.Mathlib.Omega.{arith}
+use native.Mathlib.Decide.{decLt}
+use lib.Dec.{ltb}
 use lib.ListN.{getD, length, take}
 use lib.Seq.{getD-take}
+use borrow.Author.Tests.{lt-ltb, ltb-false, ltb-true}
+use Rattle.log_entry.proofs.Tests.{and-left, and-right}
 use Rattle.text_ascii.proofs.Writing.{wrote-length}
 use Rattle.text_report.specs.Report.{each}
 use Rattle.text_report.specs.Within.{Within}
@@ -38,6 +43,19 @@ module _ {n room : ℕ} {text : ℕ → List ℕ} {l : List ℕ} {at : ℕ} wher
 
     pub put-length : length m ≡ length l
     put-length = wrote-length (p .within .wrote)
+
+-- both tests of a loop hold, or it has come to the lesser bound
+pub first-bound : (i a b : ℕ) → (ltb i a && ltb i b) ≡ true → i < a
+first-bound i a b e = ltb-true i a (and-left (ltb i a) (ltb i b) e)
+
+pub second-bound : (i a b : ℕ) → (ltb i a && ltb i b) ≡ true → i < b
+second-bound i a b e = ltb-true i b (and-right (ltb i a) (ltb i b) e)
+
+pub came-to-bound : (i a b : ℕ) → (ltb i a && ltb i b) ≡ false → min a b ≤ i
+came-to-bound i a b e = elim (decLt i a) [
+  | yes h ↦ let k : b ≤ i = ltb-false i b (rw (lt-ltb i a h) at e) in omega arith
+  | no h ↦ omega arith
+]
 
 -- an element that counts
 pub counted : {A : Type 0} (text : A → List ℕ) (d : A) (xs : List A) (count i : ℕ) → i < count → text (getD xs i d) ≡ text (getD (take count xs) i d)

@@ -1,6 +1,7 @@
 // What is printed of a log and of answers, line by line into a buffer. Each function answers the
 // next place in the buffer.
 ghost use Prim.Native.Nat.{_*_, _+_, _<_};
+ghost use mathlib.Core.List.{_++_};
 ghost use lib.ListN.{length};
 ghost use Rattle.log_entry.specs.Limits.{stores, transactions};
 ghost use Rattle.text_ascii.specs.Hex.{updateDigits};
@@ -17,8 +18,8 @@ use log_entry::limits::TRANSACTION_PLACES;
 use log_entry::limits::TRANSACTIONS;
 use log_votes::Outcome;
 use text_ascii::UPDATE_DIGITS;
+use text_lines::ANSWERED_LINES;
 use text_lines::Answers;
-use text_lines::MAX_LINES;
 
 // No printed line is longer than a replay's: three fields of a byte, an update and the LF.
 pub const LINE_BYTES: usize = 32 + UPDATE_DIGITS as usize;
@@ -39,6 +40,14 @@ pub fn byte_field(out: &mut [u8], at: usize, key: &[u8], n: u8) -> usize
     ensures { λ r. ⌜ Within (longestField (now (key .entry))) (now (out .entry)) at (field (now (key .entry)) n) (now (out .exit)) r ⌝ }
 {
     field(out, at, key, n as u32)
+}
+
+// Two keys, each with the decimal of a byte.
+pub fn byte_fields(out: &mut [u8], at: usize, key: &[u8], n: u8, next: &[u8], m: u8) -> usize
+    ensures { λ r. ⌜ Within (longestField (now (key .entry)) + longestField (now (next .entry))) (now (out .entry)) at (field (now (key .entry)) n ++ field (now (next .entry)) m) (now (out .exit)) r ⌝ }
+{
+    let at = byte_field(out, at, key, n);
+    byte_field(out, at, next, m)
 }
 
 pub fn outcome_word(out: &mut [u8], at: usize, outcome: Outcome) -> usize
@@ -94,16 +103,14 @@ pub fn tx_line(out: &mut [u8], at: usize, tx: u8, outcome: Outcome, group: u8) -
 pub fn holder_line(out: &mut [u8], at: usize, store: u8, holder: u8) -> usize
     ensures { λ r. ⌜ Within longestLine (now (out .entry)) at (holderLine store holder) (now (out .exit)) r ⌝ }
 {
-    let at = byte_field(out, at, b"store=", store);
-    let at = byte_field(out, at, b" holder=", holder);
+    let at = byte_fields(out, at, b"store=", store, b" holder=", holder);
     end(out, at)
 }
 
 pub fn replay_line(out: &mut [u8], at: usize, store: u8, group: u8, tx: u8, update: u32) -> usize
     ensures { λ r. ⌜ Within longestLine (now (out .entry)) at (replayLine store (record { group = group; tx = tx; update = update })) (now (out .exit)) r ⌝ }
 {
-    let at = byte_field(out, at, b"store=", store);
-    let at = byte_field(out, at, b" group=", group);
+    let at = byte_fields(out, at, b"store=", store, b" group=", group);
     let at = byte_field(out, at, b" tx=", tx);
     let at = update_field(out, at, b" upd=", update);
     end(out, at)
@@ -133,21 +140,16 @@ fn holder(out: &mut [u8], at: usize, log: Log, store: u8) -> usize
 }
 
 // A replay of the store.
-pub fn put_replay(out: &mut [u8], at: usize, store: u8, replay: Replay) -> usize
+pub fn put_replay(out: &mut [u8], mut at: usize, store: u8, replay: Replay) -> usize
     ensures { λ r. ⌜ Within longestReplay (now (out .entry)) at (replayText store (rowsOf replay)) (now (out .exit)) r ⌝ }
 {
-    let count = replay.count;
-    let mut to = at;
     let mut i: u8 = 0;
-    while i < count {
-        if TRANSACTIONS <= i {
-            return to;
-        }
+    while (i < replay.count) & (i < TRANSACTIONS) {
         let row = replay.rows[i as usize];
-        to = replay_line(out, to, store, row.group, row.tx, row.update);
+        at = replay_line(out, at, store, row.group, row.tx, row.update);
         i += 1;
     }
-    to
+    at
 }
 
 // The store's replay in the log.
@@ -158,40 +160,37 @@ pub fn replay(out: &mut [u8], at: usize, log: Log, store: u8) -> usize
     put_replay(out, at, store, replay)
 }
 
-fn outcomes(out: &mut [u8], at: usize, log: Log) -> usize
+fn outcomes(out: &mut [u8], mut at: usize, log: Log) -> usize
     ensures { λ r. ⌜ Within (transactions * longestLine) (now (out .entry)) at (each (txText log) transactions) (now (out .exit)) r ⌝ }
 {
-    let mut to = at;
     let mut i: u8 = 0;
     while i < TRANSACTIONS {
-        to = tx(out, to, log, i);
+        at = tx(out, at, log, i);
         i += 1;
     }
-    to
+    at
 }
 
-fn holders(out: &mut [u8], at: usize, log: Log) -> usize
+fn holders(out: &mut [u8], mut at: usize, log: Log) -> usize
     ensures { λ r. ⌜ Within (stores * longestLine) (now (out .entry)) at (each (holderText log) stores) (now (out .exit)) r ⌝ }
 {
-    let mut to = at;
     let mut i: u8 = 0;
     while i < STORES {
-        to = holder(out, to, log, i);
+        at = holder(out, at, log, i);
         i += 1;
     }
-    to
+    at
 }
 
-fn replays(out: &mut [u8], at: usize, log: Log) -> usize
+fn replays(out: &mut [u8], mut at: usize, log: Log) -> usize
     ensures { λ r. ⌜ Within (stores * longestReplay) (now (out .entry)) at (each (λ s. replayText s (replayRows log s)) stores) (now (out .exit)) r ⌝ }
 {
-    let mut to = at;
     let mut i: u8 = 0;
     while i < STORES {
-        to = replay(out, to, log, i);
+        at = replay(out, at, log, i);
         i += 1;
     }
-    to
+    at
 }
 
 // A log as it is printed.
@@ -204,19 +203,14 @@ pub fn put_log(out: &mut [u8], at: usize, log: Log) -> usize
 }
 
 // The answers, each with its line's number.
-pub fn put_answers(out: &mut [u8], at: usize, answers: Answers) -> usize
+pub fn put_answers(out: &mut [u8], mut at: usize, answers: Answers) -> usize
     ensures { λ r. ⌜ Within longestAnswers (now (out .entry)) at (answersText (answersOf answers)) (now (out .exit)) r ⌝ }
 {
-    let count = answers.count;
-    let mut to = at;
     let mut i: u16 = 0;
-    while i < count {
-        if MAX_LINES < i {
-            return to;
-        }
+    while (i < answers.count) & (i < ANSWERED_LINES) {
         let answer = answers.answers[i as usize];
         i += 1;
-        to = step_line(out, to, i, answer);
+        at = step_line(out, at, i, answer);
     }
-    to
+    at
 }

@@ -203,8 +203,7 @@ fn read_crash(line: &[u8]) -> Reading
     if !fields::ends(line, id) {
         return Reading::Unreadable;
     }
-    let party = role_of(role.number);
-    made_crash(party, id.number)
+    made_crash(role_of(role.number), id.number)
 }
 
 // Whether the answer is a step or `Outside`.

@@ -11,10 +11,10 @@ use Rattle.text_ascii.proofs.word.Statement.{statement}
 use Rattle.text_ascii.proofs.word.Tie as tie
 
 abbrev Inv-loop : tie.InvT-loop
-Inv-loop out₀ at bytes to₀ i₀ out to i = (i ≤ length bytes) × Wrote out₀ at (take i bytes) out to
+Inv-loop out₀ at₀ bytes i₀ out at i = (i ≤ length bytes) × Wrote out₀ at₀ (take i bytes) out at
 
 abbrev μ-loop : tie.MeasureT-loop
-μ-loop out₀ at bytes to₀ i₀ out to i = length bytes - i
+μ-loop out₀ at₀ bytes i₀ out at i = length bytes - i
 
 loop-holds : tie.Need-loop-holds Inv-loop μ-loop
 loop-holds c = (omega arith, wrote-nothing _ _)

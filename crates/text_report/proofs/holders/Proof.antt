@@ -10,10 +10,10 @@ use Rattle.text_report.proofs.holders.Statement.{statement}
 use Rattle.text_report.proofs.holders.Tie as tie
 
 abbrev Inv-loop : tie.InvT-loop
-Inv-loop out₀ at log to₀ i₀ out to i = Put stores longestLine (holderText log) out₀ at out to i
+Inv-loop out₀ at₀ log i₀ out at i = Put stores longestLine (holderText log) out₀ at₀ out at i
 
 abbrev μ-loop : tie.MeasureT-loop
-μ-loop out₀ at log to₀ i₀ out to i = stores - i
+μ-loop out₀ at₀ log i₀ out at i = stores - i
 
 pub holders-spec : {M : Type 1} → statement M
 holders-spec =

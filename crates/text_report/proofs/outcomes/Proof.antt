@@ -10,10 +10,10 @@ use Rattle.text_report.proofs.outcomes.Statement.{statement}
 use Rattle.text_report.proofs.outcomes.Tie as tie
 
 abbrev Inv-loop : tie.InvT-loop
-Inv-loop out₀ at log to₀ i₀ out to i = Put transactions longestLine (txText log) out₀ at out to i
+Inv-loop out₀ at₀ log i₀ out at i = Put transactions longestLine (txText log) out₀ at₀ out at i
 
 abbrev μ-loop : tie.MeasureT-loop
-μ-loop out₀ at log to₀ i₀ out to i = transactions - i
+μ-loop out₀ at₀ log i₀ out at i = transactions - i
 
 pub outcomes-spec : {M : Type 1} → statement M
 outcomes-spec =

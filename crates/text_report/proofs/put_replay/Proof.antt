@@ -1,4 +1,4 @@
-use Prim.Native.Nat.{_-_, min}
+use Prim.Native.Nat.{_-_, _<_, min}
 use mathlib.Core.Path.{_≡_, ap, _∙_}
 use native.Mathlib.Omega.{arith}
 use borrow.Author.Needs.{needs}
@@ -8,28 +8,37 @@ use Rattle.log_core.specs.Replay.{noReplayed}
 use Rattle.log_entry.specs.Limits.{transactions}
 use Rattle.text_report.specs.Report.{replayLine, rowsOf}
 use Rattle.text_report.specs.Within.{longestLine}
-use Rattle.text_report.proofs.Each.{Put, counted, none-put, put-all, put-length, put-more}
+use Rattle.text_report.proofs.Each.{Put, came-to-bound, counted, first-bound, none-put, put-all, put-length, put-more, second-bound}
 use Rattle.text_report.proofs.put_replay.Statement.{statement}
 use Rattle.text_report.proofs.put_replay.Tie as tie
 
 abbrev Inv-loop : tie.InvT-loop
-Inv-loop out₀ at store replay count to₀ i₀ out to i =
-    Put (length (rowsOf replay)) longestLine (λ j. replayLine store (getD (rowsOf replay) j noReplayed)) out₀ at out to i
+Inv-loop out₀ at₀ store replay i₀ out at i =
+    Put (length (rowsOf replay)) longestLine (λ j. replayLine store (getD (rowsOf replay) j noReplayed)) out₀ at₀ out at i
 
 abbrev μ-loop : tie.MeasureT-loop
-μ-loop out₀ at store replay count to₀ i₀ out to i = count - i
+μ-loop out₀ at₀ store replay i₀ out at i = replay .count - i
 
 -- as many rows as count, and as there are places for
 rows : (s : tie.Start Inv-loop μ-loop) → length (rowsOf (s .args .t4)) ≡ min (s .args .t4 .count) transactions
 rows s = length-take (s .args .t4 .count) (s .args .t4 .rows) ∙ ap (min (s .args .t4 .count)) (replay-places (s .args .t4) _ (s .good .1 .1 .1 .0))
 
+below : (c : tie.In-loop Inv-loop μ-loop) → (c .before .loop .i < c .before .before .before .args .t4 .count) × (c .before .loop .i < transactions)
+below c = (first-bound _ _ transactions (c .loop-test .taken), second-bound (c .before .loop .i) (c .before .before .before .args .t4 .count) _ (c .loop-test .taken))
+
 loop-again : tie.Need-loop-again Inv-loop μ-loop
 loop-again c =
-    let s = c .before .before .before .before .before .before .before .before .before in
-    let a = s .args in
-    let l = c .before .before .before .before .before .before .before .loop in
+    let t = c .before .before .before .before .before in
+    let h = below t in
+    let s = t .before .before .before in
+    let l = t .before .loop in
     put-more (l .inv) (omega (arith, rows s)) (c .before .before .replay-line .ensures)
-    (counted (replayLine (a .store)) noReplayed (a .t4 .rows) (a .t4 .count) (l .i) (omega arith))
+    (counted (replayLine (s .args .store)) noReplayed (s .args .t4 .rows) (s .args .t4 .count) (l .i) (h .0))
+
+returns : tie.Need-returns Inv-loop μ-loop
+returns c =
+    let s = c .before .before .before in
+    put-all (c .before .loop .inv) (omega (arith, rows s, came-to-bound (c .before .loop .i) (s .args .t4 .count) transactions (c .loop-test .left))) (omega (arith, rows s))
 
 pub put-replay-spec : {M : Type 1} → statement M
 put-replay-spec =
@@ -38,10 +47,12 @@ put-replay-spec =
     Inv-loop
     μ-loop
     (λ c. none-put)
-    (λ c. put-length (c .before .before .loop .inv))
-    (λ c. let h = rows (c .before .before .before .before) in put-all (c .before .before .loop .inv) (omega arith) (omega arith))
-    (λ c. omega arith) (λ c. omega arith) (λ c. omega arith) (λ c κs. search needs)
-    (λ c. omega arith) (λ c. omega arith)
+    (λ c. let h = below c in omega arith)
+    (λ c. let h = below c in omega arith)
+    (λ c. let h = below c in omega arith)
+    (λ c κs. search needs)
+    (λ c. let h = below (c .before .before .before .before .before) in omega arith)
+    (λ c. let h = below (c .before .before .before .before .before) in omega arith)
     loop-again
     (λ c. put-length (c .before .loop .inv))
-    (λ c. let h = rows (c .before .before .before) in put-all (c .before .loop .inv) (omega arith) (omega arith)))
+    returns)

@@ -7,9 +7,8 @@ use Rattle.text_report.proofs.replay_line.Tie as tie
 returns : tie.Need-returns
 returns c =
     within-room
-    (within-more (within-more (within-more (within-more (c .before .before .before .before .before .before .before .before .before .before .before .before .before .before .before .before .before .before .before .before .before .byte-field .ensures)
-    (c .before .before .before .before .before .before .before .before .before .before .before .before .before .before .before .before .byte-field2 .ensures))
-    (c .before .before .before .before .before .before .before .before .before .before .before .byte-field3 .ensures))
+    (within-more (within-more (within-more (c .before .before .before .before .before .before .before .before .before .before .before .before .before .before .before .before .byte-fields .ensures)
+    (c .before .before .before .before .before .before .before .before .before .before .before .byte-field .ensures))
     (c .before .before .before .before .before .before .update-field .ensures))
     (c .before .before .end .ensures))
     (omega arith)
@@ -18,7 +17,7 @@ pub replay-line-spec : {M : Type 1} → statement M
 replay-line-spec =
     tie.close
     (tie.spec
-    (λ c. search needs) (λ c κs. search needs) (λ c. search needs) (λ c κs. search needs)
-    (λ c. search needs) (λ c κs. search needs) (λ c. search needs) (λ c κs. search needs)
-    (λ c κs. search needs) (λ c. search needs)
+    (λ c. search needs) (λ c. search needs) (λ c κs. search needs) (λ c. search needs)
+    (λ c κs. search needs) (λ c. search needs) (λ c κs. search needs) (λ c κs. search needs)
+    (λ c. search needs)
     returns)

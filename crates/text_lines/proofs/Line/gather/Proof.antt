@@ -9,10 +9,10 @@ use Rattle.text_lines.proofs.Line.gather.Statement.{statement}
 use Rattle.text_lines.proofs.Line.gather.Tie as tie
 
 abbrev Inv-loop : tie.InvT-loop
-Inv-loop piece at self₀ i₀ self i = gathered self₀ (drop at piece) ≡ gathered self (drop i piece)
+Inv-loop piece at₀ self₀ at self = gathered self₀ (drop at₀ piece) ≡ gathered self (drop at piece)
 
 abbrev μ-loop : tie.MeasureT-loop
-μ-loop piece at self₀ i₀ self i = length piece - i
+μ-loop piece at₀ self₀ at self = length piece - at
 
 loop-holds : tie.Need-loop-holds Inv-loop μ-loop
 loop-holds c = refl
@@ -20,28 +20,28 @@ loop-holds c = refl
 returns : tie.Need-returns Inv-loop μ-loop
 returns c =
     let l = c .before .before .before .loop in
-    sym (l .inv ∙ gathered-lf (l .self) (c .before .before .before .before .args .piece .now) (l .i) (c .before .before .loop-test .taken) (c .if1 .taken))
+    sym (l .inv ∙ gathered-lf (l .self) (c .before .before .before .before .args .piece .now) (l .at) (c .before .before .loop-test .taken) (c .if1 .taken))
 
 loop-again : tie.Need-loop-again Inv-loop μ-loop
 loop-again c =
     let l = c .before .before .before .before .loop in
     let s = c .before .before .before .before .before .args .piece .now in
     l .inv
-    ∙ gathered-byte (l .self) s (l .i) (c .before .before .before .loop-test .taken) (c .before .if1 .left)
-    ∙ ap (λ (k : Line). gathered k (drop (l .i + 1) s)) (with-room (l .self) (getD s (l .i) 0) (c .if2 .taken))
+    ∙ gathered-byte (l .self) s (l .at) (c .before .before .before .loop-test .taken) (c .before .if1 .left)
+    ∙ ap (λ (k : Line). gathered k (drop (l .at + 1) s)) (with-room (l .self) (getD s (l .at) 0) (c .if2 .taken))
 
 loop-again-2 : tie.Need-loop-again-2 Inv-loop μ-loop
 loop-again-2 c =
     let l = c .before .before .before .before .loop in
     let s = c .before .before .before .before .before .args .piece .now in
     l .inv
-    ∙ gathered-byte (l .self) s (l .i) (c .before .before .before .loop-test .taken) (c .before .if1 .left)
-    ∙ ap (λ (k : Line). gathered k (drop (l .i + 1) s)) (without-room (l .self) (getD s (l .i) 0) (c .if2 .left))
+    ∙ gathered-byte (l .self) s (l .at) (c .before .before .before .loop-test .taken) (c .before .if1 .left)
+    ∙ ap (λ (k : Line). gathered k (drop (l .at + 1) s)) (without-room (l .self) (getD s (l .at) 0) (c .if2 .left))
 
 returns-2 : tie.Need-returns-2 Inv-loop μ-loop
 returns-2 c =
     let l = c .before .loop in
-    sym (l .inv ∙ gathered-end (l .self) (c .before .before .args .piece .now) (l .i) (c .loop-test .left))
+    sym (l .inv ∙ gathered-end (l .self) (c .before .before .args .piece .now) (l .at) (c .loop-test .left))
 
 pub gather-spec : {M : Type 1} → statement M
 gather-spec =
