@@ -58,41 +58,23 @@ impl Numbers {
         if self.kind == VOTE as u32 {
             return (COMMIT as u32) < self.say;
         }
-        if self.kind != TAKE as u32 {
-            return true;
-        }
-        if self.by != 0 {
-            return true;
-        }
-        if self.tx != 0 {
-            return true;
-        }
-        if self.list != 0 {
-            return true;
-        }
-        if self.say != 0 {
-            return true;
-        }
-        self.update != 0
+        let used = (self.by != 0)
+            | (self.tx != 0)
+            | (self.list != 0)
+            | (self.say != 0)
+            | (self.update != 0);
+        (self.kind != TAKE as u32) | used
     }
 
     // Whether a number other than the update is more than a byte holds.
     fn beyond_byte(self) -> bool
         ensures { λ r. ⌜ r ≡ beyondByte self ⌝ }
     {
-        if BYTE_VALUES <= self.process {
-            return true;
-        }
-        if BYTE_VALUES <= self.by {
-            return true;
-        }
-        if BYTE_VALUES <= self.store {
-            return true;
-        }
-        if BYTE_VALUES <= self.tx {
-            return true;
-        }
-        BYTE_VALUES <= self.list
+        (BYTE_VALUES <= self.process)
+            | (BYTE_VALUES <= self.by)
+            | (BYTE_VALUES <= self.store)
+            | (BYTE_VALUES <= self.tx)
+            | (BYTE_VALUES <= self.list)
     }
 
     pub fn read(self) -> Reading

@@ -1,16 +1,22 @@
 use borrow.Author.Needs.{needs}
+use mathlib.Core.Bool.{false}
+use mathlib.Core.Path.{_≡_, sym, _∙_}
 use Rattle.host_records.proofs.ReadLaws.{Bytes, bytes-of, read-beyond, read-entry, read-outside, read-unreadable}
+use Rattle.host_records.specs.Numbers.{unreadable}
 use Rattle.host_records.proofs.Numbers.read.Statement.{statement}
 use Rattle.host_records.proofs.Numbers.read.Tie as tie
 
 bytes : (c : tie.Else2) → Bytes (c .before .before .before .before .args .self)
-bytes c = bytes-of (c .before .before .before .before .args .self) (cc)
+bytes c = bytes-of (c .before .before .before .before .args .self) (sym (c .before .beyond-byte .ensures) ∙ c .if2 .left)
+
+readable : (c : tie.Else1) → unreadable (c .before .before .args .self) ≡ false
+readable c = sym (c .before .unreadable .ensures) ∙ c .if1 .left
 
 returns : tie.Need-returns
-returns c = read-unreadable (c .before .before .args .self) (cc)
+returns c = read-unreadable (c .before .before .args .self) (sym (c .before .unreadable .ensures) ∙ c .if1 .taken)
 
 returns-2 : tie.Need-returns-2
-returns-2 c = read-beyond (c .before .before .before .before .args .self) (cc) (cc)
+returns-2 c = read-beyond (c .before .before .before .before .args .self) (readable (c .before .before)) (sym (c .before .beyond-byte .ensures) ∙ c .if2 .taken)
 
 cast-t7 : tie.Need-cast-t7
 cast-t7 c = record { fits = bytes (c .before .before) .process }
@@ -28,10 +34,10 @@ cast-t11 : tie.Need-cast-t11
 cast-t11 c = record { fits = bytes (c .before .before .before .before .before .before) .list }
 
 returns-3 : tie.Need-returns-3
-returns-3 c = read-outside (c .before .before .before .before .before .before .before .before .before .before .before .before .before .args .self) (cc) (cc)
+returns-3 c = read-outside (c .before .before .before .before .before .before .before .before .before .before .before .before .before .args .self) (readable (c .before .before .before .before .before .before .before .before .before .before .before)) (sym (c .before .outside .ensures) ∙ c .if3 .taken)
 
 returns-4 : tie.Need-returns-4
-returns-4 c = read-entry (c .before .before .before .before .before .before .before .before .before .before .before .before .before .args .self) (cc) (cc)
+returns-4 c = read-entry (c .before .before .before .before .before .before .before .before .before .before .before .before .before .args .self) (readable (c .before .before .before .before .before .before .before .before .before .before .before)) (sym (c .before .outside .ensures) ∙ c .if3 .left)
 
 pub read-spec : {M : Type 1} → statement M
 read-spec =
