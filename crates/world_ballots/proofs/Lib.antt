@@ -1,3 +1,1 @@
-pub mod BallotLaws
-pub mod ProposalLaws
 pub mod RoundLaws

@@ -17,10 +17,7 @@ use model_protocol::Round;
 pub fn is_current(c: Coordinator, i: u8, b: u8) -> bool
     ensures { λ r. ⌜ r ≡ isCurrent c i b ⌝ }
 {
-    if i != c.applied {
-        return false;
-    }
-    b == c.round.ballot
+    (i == c.applied) & (b == c.round.ballot)
 }
 
 // More than half of the n acceptors are in the set.

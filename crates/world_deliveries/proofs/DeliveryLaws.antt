@@ -1,9 +1,9 @@
 -- What the delivered message does to its receiver, by the tests that the receiver makes.
 use Prim.Native.Nat.{ℕ, _<_, _≤_}
-use mathlib.Core.Bool.{cond, false, true}
+use mathlib.Core.Bool.{Bool, cond, false, true, true≢false, _&&_}
 use mathlib.Core.Path.{_≡_, ap, sym, _∙_}
 use native.Mathlib.Omega.{arith}
-use borrow.Author.Tests.{le-ltb, lt-ltb}
+use borrow.Author.Tests.{le-ltb, lt-ltb, ltb-true}
 use lib.Dec.{ltb}
 use Rattle.model_steps.specs.Limits.{mostAcceptors}
 use Rattle.model_protocol.specs.declared.AcceptorSlot.{AcceptorSlot}
@@ -26,17 +26,11 @@ use Rattle.model_protocol.specs.Change.{slotNow, coordinatorNow, processNow, se
 use Rattle.model_protocol.specs.Change.{done, learns, takesReplay}
 use Rattle.model_protocol.specs.Deliver.{deliveryChange}
 
--- ---- a promise or an acceptance, by whether it is heard
+-- ---- a promise or an acceptance that is heard
 
-module _ (c : Coordinator) (i b a : ℕ) where
-  not-current : isCurrent c i b ≡ false → isHeard c i b a ≡ false
-  not-current h = rw h
-
-  past-acceptors : isCurrent c i b ≡ true → mostAcceptors ≤ a → isHeard c i b a ≡ false
-  past-acceptors h past = rw (h, le-ltb a mostAcceptors past)
-
-  is-heard : isCurrent c i b ≡ true → a < mostAcceptors → isHeard c i b a ≡ true
-  is-heard h inside = rw (h, lt-ltb a mostAcceptors inside)
+acceptor-there : (t : Bool) (a : ℕ) → (t && ltb a mostAcceptors) ≡ true → a < mostAcceptors
+acceptor-there true a h = ltb-true a mostAcceptors h
+acceptor-there false a h = absurd (true≢false (sym h))
 
 -- an acceptor's number has a place in the set
 in-set : {A : Type 0} (a : ℕ) (x changed same : A) → a < mostAcceptors → x ≡ cond (ltb a setPlaces) changed same → x ≡ changed
@@ -89,49 +83,42 @@ module _ (p : Parts) where
   unfolding deliveryChange
   restore-taken h is above = rw (lt-ltb (p .process .position) (p .message .position) above, is)
 
-  -- ---- the message is for another instance or ballot
+  -- ---- a promise or an acceptance, by whether it is heard
 
-  module _ (other : isCurrent (p .coordinator) (p .message .inst) (p .message .ballot) ≡ false) where
-    pub promise-other : done p ≡ deliveryChange p Promise
+  abbrev Heard : Bool
+  Heard = isHeard (p .coordinator) (p .message .inst) (p .message .ballot) (p .message .acceptor)
+
+  pub promise-passed : Heard ≡ false → done p ≡ deliveryChange p Promise
+  unfolding deliveryChange
+  promise-passed h = rw h
+
+  pub accepted-passed : Heard ≡ false → done p ≡ deliveryChange p Accepted
+  unfolding deliveryChange
+  accepted-passed h = rw h
+
+  module _ (heard : Heard ≡ true) where
+    inside : p .message .acceptor < mostAcceptors
+    inside = acceptor-there (isCurrent (p .coordinator) (p .message .inst) (p .message .ballot)) (p .message .acceptor) heard
+
+    pub promise-counted : (r : Round)
+        → r
+        ≡ cond
+        (ltb (p .message .acceptor) setPlaces)
+        (promiseHeard (p .coordinator .round) (p .message .acceptor) (p .message .accepted) (p .message .batch))
+        (p .coordinator .round)
+        → done (coordinatorNow p (withRound (p .coordinator) r)) ≡ deliveryChange p Promise
     unfolding deliveryChange
-    promise-other = rw (not-current (p .coordinator) (p .message .inst) (p .message .ballot) (p .message .acceptor) other)
+    promise-counted r is = rw (heard, in-set (p .message .acceptor) r _ _ inside is)
 
-    pub accepted-other : done p ≡ deliveryChange p Accepted
-    unfolding deliveryChange
-    accepted-other = rw (not-current (p .coordinator) (p .message .inst) (p .message .ballot) (p .message .acceptor) other)
+    module _ (r : Round) (is : r ≡ cond (ltb (p .message .acceptor) setPlaces) (counting (p .coordinator .round) (p .message .acceptor)) (p .coordinator .round)) where
+      counted : r ≡ counting (p .coordinator .round) (p .message .acceptor)
+      counted = in-set (p .message .acceptor) r _ _ inside is
 
-  module _ (current : isCurrent (p .coordinator) (p .message .inst) (p .message .ballot) ≡ true) where
-    pub promise-past : mostAcceptors ≤ p .message .acceptor → done p ≡ deliveryChange p Promise
-    unfolding deliveryChange
-    promise-past past = rw (past-acceptors (p .coordinator) (p .message .inst) (p .message .ballot) (p .message .acceptor) current past)
-
-    pub accepted-past : mostAcceptors ≤ p .message .acceptor → done p ≡ deliveryChange p Accepted
-    unfolding deliveryChange
-    accepted-past past = rw (past-acceptors (p .coordinator) (p .message .inst) (p .message .ballot) (p .message .acceptor) current past)
-
-    module _ (inside : p .message .acceptor < mostAcceptors) where
-      heard : isHeard (p .coordinator) (p .message .inst) (p .message .ballot) (p .message .acceptor) ≡ true
-      heard = is-heard (p .coordinator) (p .message .inst) (p .message .ballot) (p .message .acceptor) current inside
-
-      pub promise-counted : (r : Round)
-          → r
-          ≡ cond
-          (ltb (p .message .acceptor) setPlaces)
-          (promiseHeard (p .coordinator .round) (p .message .acceptor) (p .message .accepted) (p .message .batch))
-          (p .coordinator .round)
-          → done (coordinatorNow p (withRound (p .coordinator) r)) ≡ deliveryChange p Promise
+      pub acceptance-counted : majority (p .acceptors) (r .acceptances) ≡ false → done (coordinatorNow p (withRound (p .coordinator) r)) ≡ deliveryChange p Accepted
       unfolding deliveryChange
-      promise-counted r is = rw (heard, in-set (p .message .acceptor) r _ _ inside is)
+      acceptance-counted few = let k = rw counted at few in rw (heard, k, counted)
 
-      module _ (r : Round) (is : r ≡ cond (ltb (p .message .acceptor) setPlaces) (counting (p .coordinator .round) (p .message .acceptor)) (p .coordinator .round)) where
-        counted : r ≡ counting (p .coordinator .round) (p .message .acceptor)
-        counted = in-set (p .message .acceptor) r _ _ inside is
-
-        pub acceptance-counted : majority (p .acceptors) (r .acceptances) ≡ false → done (coordinatorNow p (withRound (p .coordinator) r)) ≡ deliveryChange p Accepted
-        unfolding deliveryChange
-        acceptance-counted few = let k = rw counted at few in rw (heard, k, counted)
-
-        pub batch-learned : majority (p .acceptors) (r .acceptances) ≡ true → (c : Coordinator) → c ≡ learning (p .coordinator)
-            → learns (coordinatorNow p c) (p .coordinator .round .proposal) ≡ deliveryChange p Accepted
-        unfolding deliveryChange
-        batch-learned most c after = let k = rw counted at most in rw (heard, k, after)
+      pub batch-learned : majority (p .acceptors) (r .acceptances) ≡ true → (c : Coordinator) → c ≡ learning (p .coordinator)
+          → learns (coordinatorNow p c) (p .coordinator .round .proposal) ≡ deliveryChange p Accepted
+      unfolding deliveryChange
+      batch-learned most c after = let k = rw counted at most in rw (heard, k, after)

@@ -1,3 +1,4 @@
 pub mod BothLaws
 pub mod DeliverLaws
 pub mod DeliveryLaws
+pub mod PlaceLaws

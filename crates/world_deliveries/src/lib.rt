@@ -3,13 +3,16 @@ ghost use mathlib.Core.Bool.{_&&_, not};
 ghost use mathlib.Core.Path.{_≡_};
 ghost use Rattle.model_steps.specs.declared.Step.the-variants.{Deliver};
 ghost use Rattle.model_protocol.specs.declared.Kind.the-variants as kind;
+ghost use Rattle.model_protocol.specs.Coordinator.{isHeard};
 ghost use Rattle.model_protocol.specs.Queue.{isFull, isIn, queued};
 ghost use Rattle.model_protocol.specs.Deliver.{deliveryChange, noPlaceFor};
 ghost use Rattle.world_parts.specs.Plan.{planOf};
 ghost use Rattle.model_protocol.specs.Send.{lacksNumbers};
 use log_entry::Entry;
 use model_protocol::Change;
+use model_protocol::Coordinator;
 use model_protocol::Kind;
+use model_protocol::Message;
 use model_protocol::Parts;
 use model_protocol::Queue;
 use model_steps::limits::MOST_ACCEPTORS;
@@ -37,10 +40,7 @@ fn is_full_for(q: Queue, e: Entry) -> bool
 fn lacks_answer(answers: bool, sent: u8) -> bool
     ensures { λ r. ⌜ r ≡ (answers && lacksNumbers sent 1) ⌝ }
 {
-    if !answers {
-        return false;
-    }
-    send::lacks_numbers(sent, 1)
+    answers & send::lacks_numbers(sent, 1)
 }
 
 fn no_room(p: Parts) -> bool
@@ -52,10 +52,7 @@ fn no_room(p: Parts) -> bool
         Kind::Request => is_full_for(p.coordinator.queue, m.entry),
         Kind::Prepare => lacks_answer(world_acceptor::promises(p.slot, m.ballot), p.sent),
         Kind::Accept => lacks_answer(world_acceptor::accepts(p.slot, m.ballot), p.sent),
-        Kind::Promise => false,
-        Kind::Accepted => false,
-        Kind::Tell => false,
-        Kind::Restore => false,
+        _ => false,
     }
 }
 
@@ -95,15 +92,19 @@ fn accept(mut p: Parts) -> Change
     changes::sending(p, 1, message::accepted_from(m.inst, m.ballot, m.acceptor))
 }
 
+// Whether a promise or an acceptance is one that the coordinator counts.
+fn is_heard(c: Coordinator, m: Message) -> bool
+    ensures { λ r. ⌜ r ≡ isHeard c (m .inst) (m .ballot) (m .acceptor) ⌝ }
+{
+    round::is_current(c, m.inst, m.ballot) & (m.acceptor < MOST_ACCEPTORS)
+}
+
 fn promise(mut p: Parts) -> Change
     ensures { λ r. ⌜ r ≡ deliveryChange p kind.Promise ⌝ }
 {
     let m = p.message;
     let mut c = p.coordinator;
-    if !round::is_current(c, m.inst, m.ballot) {
-        return changes::without_messages(p, 0);
-    }
-    if MOST_ACCEPTORS <= m.acceptor {
+    if !is_heard(c, m) {
         return changes::without_messages(p, 0);
     }
     c.round = round::promise_heard(c.round, m.acceptor, m.accepted, m.batch);
@@ -116,10 +117,7 @@ fn accepted(mut p: Parts) -> Change
 {
     let m = p.message;
     let mut c = p.coordinator;
-    if !round::is_current(c, m.inst, m.ballot) {
-        return changes::without_messages(p, 0);
-    }
-    if MOST_ACCEPTORS <= m.acceptor {
+    if !is_heard(c, m) {
         return changes::without_messages(p, 0);
     }
     let r = round::counting(c.round, m.acceptor);

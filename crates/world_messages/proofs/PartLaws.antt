@@ -1,10 +1,14 @@
 -- Who is down, by role; the lengths that owning who is down tells.
-use Prim.Native.Nat.{ℕ, _≤_}
-use mathlib.Core.Bool.{Bool, false, true}
+use Prim.Native.Nat.{ℕ, _≤_, _%_}
+use native.Mathlib.Nat.{mod-eq-of-lt}
+use native.Mathlib.Omega.{arith}
+use mathlib.Core.Bool.{Bool, false, true, _&&_}
 use mathlib.Core.List.{List}
-use mathlib.Core.Path.{_≡_, sym}
+use mathlib.Core.Path.{_≡_, ap, refl, sym}
+use borrow.Author.Tests.{ltb-false, ltb-true}
 use denote.Laws.{Is}
 use denote.Struct.Declared.{row}
+use lib.Dec.{ltb}
 use lib.ListN.{List·getD-eq-default, getD, length, length-map, set}
 use lib.Seq.{set-out}
 use mir.Val.{Val}
@@ -24,8 +28,13 @@ module _ (d : Down) (vs : List Val) (g : Is (row down-type) d vs) where
   processes-length = simp length-map at (g .1 .1 .1 .1 .0 .1 .0 .1)
 
 -- none beyond the list
-pub no-party-there : (ds : List Bool) (id : ℕ) → length ds ≤ id → false ≡ getD ds id false
-no-party-there ds id h = sym (List·getD-eq-default ds false h)
+module _ (ds : List Bool) (n i : ℕ) (many : length ds ≡ n) where
+  wrapped : (b : Bool) → ltb i n ≡ b → (b && getD ds (i % n) false) ≡ getD ds i false
+  wrapped true h = ap (λ (k : ℕ). getD ds k false) (mod-eq-of-lt (ltb-true i n h))
+  wrapped false h = let past : length ds ≤ i = omega (arith, ltb-false i n h) in sym (List·getD-eq-default ds false past)
+
+  pub party-there : (ltb i n && getD ds (i % n) false) ≡ getD ds i false
+  party-there = wrapped (ltb i n) refl
 
 -- nobody crashes beyond the list
 module _ (d : Down) (id : ℕ) where

@@ -8,6 +8,9 @@ use log_entry::limits::PROCESSES;
 use model_protocol::Down;
 use model_protocol::Kind;
 use model_protocol::Message;
+use model_protocol::limits::ACCEPTOR_PLACES;
+use model_protocol::limits::COORDINATOR_PLACES;
+use model_protocol::limits::PROCESS_PLACES;
 use model_steps::Role;
 use model_steps::limits::COORDINATORS;
 use model_steps::limits::MOST_ACCEPTORS;
@@ -22,25 +25,11 @@ pub fn owner(ballot: u8) -> u8
 pub fn is_down(d: Down, role: Role, id: u8) -> bool
     ensures { λ r. ⌜ r ≡ isDown d role id ⌝ }
 {
+    let i = id as usize;
     match role {
-        Role::Acceptor => {
-            if MOST_ACCEPTORS <= id {
-                return false;
-            }
-            d.acceptors[id as usize]
-        }
-        Role::Coord => {
-            if COORDINATORS <= id {
-                return false;
-            }
-            d.coordinators[id as usize]
-        }
-        Role::Proc => {
-            if PROCESSES < id {
-                return false;
-            }
-            d.processes[id as usize]
-        }
+        Role::Acceptor => (i < ACCEPTOR_PLACES) & d.acceptors[i % ACCEPTOR_PLACES],
+        Role::Coord => (i < COORDINATOR_PLACES) & d.coordinators[i % COORDINATOR_PLACES],
+        Role::Proc => (i < PROCESS_PLACES) & d.processes[i % PROCESS_PLACES],
     }
 }
 
@@ -50,12 +39,9 @@ pub fn receiver_down(d: Down, m: Message) -> bool
     let k = m.kind;
     match k {
         Kind::Request => is_down(d, Role::Coord, m.to),
-        Kind::Prepare => is_down(d, Role::Acceptor, m.acceptor),
-        Kind::Accept => is_down(d, Role::Acceptor, m.acceptor),
-        Kind::Promise => is_down(d, Role::Coord, owner(m.ballot)),
-        Kind::Accepted => is_down(d, Role::Coord, owner(m.ballot)),
-        Kind::Tell => is_down(d, Role::Proc, m.to),
-        Kind::Restore => is_down(d, Role::Proc, m.to),
+        Kind::Prepare | Kind::Accept => is_down(d, Role::Acceptor, m.acceptor),
+        Kind::Promise | Kind::Accepted => is_down(d, Role::Coord, owner(m.ballot)),
+        Kind::Tell | Kind::Restore => is_down(d, Role::Proc, m.to),
     }
 }
 

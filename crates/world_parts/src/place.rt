@@ -18,29 +18,8 @@ pub fn message_at(s: Step) -> u8
     ensures { λ r. ⌜ r ≡ messageAt s ⌝ }
 {
     match s {
-        Step::Setup { acceptors: _ } => 0,
-        Step::Request { entry: _, to: _ } => 0,
-        Step::Open {
-            coord: _,
-            inst: _,
-            ballot: _,
-        } => 0,
-        Step::Propose {
-            coord: _,
-            inst: _,
-            ballot: _,
-        } => 0,
         Step::Deliver { msg } => msg % MESSAGES,
-        Step::Tell {
-            coord: _,
-            process: _,
-            tx: _,
-        } => 0,
-        Step::Restore {
-            coord: _,
-            process: _,
-        } => 0,
-        Step::Crash { role: _, id: _ } => 0,
+        _ => 0,
     }
 }
 
@@ -49,29 +28,9 @@ pub fn asks_log(s: Step) -> bool
     ensures { λ r. ⌜ r ≡ asksLog s ⌝ }
 {
     match s {
-        Step::Setup { acceptors: _ } => false,
-        Step::Request { entry: _, to: _ } => false,
-        Step::Open {
-            coord: _,
-            inst: _,
-            ballot: _,
-        } => false,
-        Step::Propose {
-            coord: _,
-            inst: _,
-            ballot: _,
-        } => false,
-        Step::Deliver { msg: _ } => false,
-        Step::Tell {
-            coord: _,
-            process: _,
-            tx: _,
-        } => true,
-        Step::Restore {
-            coord: _,
-            process: _,
-        } => true,
-        Step::Crash { role: _, id: _ } => false,
+        Step::Tell { .. } => true,
+        Step::Restore { .. } => true,
+        _ => false,
     }
 }
 
@@ -112,12 +71,9 @@ fn delivery_places(m: Message) -> Places
     let k = m.kind;
     match k {
         Kind::Request => only_coordinator(m.to),
-        Kind::Prepare => only_slot(m.acceptor, m.inst),
-        Kind::Accept => only_slot(m.acceptor, m.inst),
-        Kind::Promise => only_coordinator(parties::owner(m.ballot)),
-        Kind::Accepted => only_coordinator(parties::owner(m.ballot)),
-        Kind::Tell => only_process(m.to),
-        Kind::Restore => only_process(m.to),
+        Kind::Prepare | Kind::Accept => only_slot(m.acceptor, m.inst),
+        Kind::Promise | Kind::Accepted => only_coordinator(parties::owner(m.ballot)),
+        Kind::Tell | Kind::Restore => only_process(m.to),
     }
 }
 
@@ -126,25 +82,13 @@ pub fn places(s: Step, m: Message) -> Places
     ensures { λ r. ⌜ r ≡ placesOf s m ⌝ }
 {
     match s {
-        Step::Setup { acceptors: _ } => only_coordinator(0),
-        Step::Request { entry, to: _ } => only_process(entry.process),
-        Step::Open {
-            coord,
-            inst: _,
-            ballot: _,
-        } => only_coordinator(coord),
-        Step::Propose {
-            coord,
-            inst: _,
-            ballot: _,
-        } => only_coordinator(coord),
-        Step::Deliver { msg: _ } => delivery_places(m),
-        Step::Tell {
-            coord,
-            process: _,
-            tx: _,
-        } => only_coordinator(coord),
-        Step::Restore { coord, process: _ } => only_coordinator(coord),
-        Step::Crash { role: _, id: _ } => only_coordinator(0),
+        Step::Setup { .. } => only_coordinator(0),
+        Step::Request { entry, .. } => only_process(entry.process),
+        Step::Open { coord, .. } => only_coordinator(coord),
+        Step::Propose { coord, .. } => only_coordinator(coord),
+        Step::Deliver { .. } => delivery_places(m),
+        Step::Tell { coord, .. } => only_coordinator(coord),
+        Step::Restore { coord, .. } => only_coordinator(coord),
+        Step::Crash { .. } => only_coordinator(0),
     }
 }

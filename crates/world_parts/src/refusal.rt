@@ -1,6 +1,5 @@
 // Refusals 3 to 7 in the order in which they are tried.
 ghost use mathlib.Core.Path.{_≡_};
-ghost use mathlib.Core.Bool.{_||_};
 ghost use Rattle.world_parts.specs.Refusal.{firstOf};
 use log_entry::refusal::ILL_FORMED_VOTE;
 use log_entry::refusal::NO_PLACE;
@@ -42,13 +41,4 @@ pub fn first_of(t: Tests) -> u8
         return ILL_FORMED_VOTE;
     }
     0
-}
-
-pub fn either(a: bool, b: bool) -> bool
-    ensures { λ r. ⌜ r ≡ (a || b) ⌝ }
-{
-    if a {
-        return true;
-    }
-    b
 }

@@ -10,10 +10,7 @@ use model_protocol::Process;
 pub fn believes(p: Process, store: u8) -> bool
     ensures { λ r. ⌜ r ≡ believes p store ⌝ }
 {
-    if 0 < p.position {
-        return p.store == store;
-    }
-    false
+    (0 < p.position) & (p.store == store)
 }
 
 // It heard the outcome of the transaction.

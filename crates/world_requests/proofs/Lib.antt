@@ -1,2 +1,2 @@
 pub mod HeldLaws
-pub mod TestLaws
+pub mod SaidLaws

@@ -1,18 +1,25 @@
 // The steps that need no ballot: setup, take and vote, tell, restore, crash.
 ghost use mathlib.Core.Path.{_≡_};
-ghost use mathlib.Core.Bool.{_&&_, _||_, not};
+ghost use mathlib.Core.Bool.{false, _&&_, _||_, not};
+ghost use lib.Dec.{eqb, leb};
 ghost use Rattle.log_entry.specs.Entry.{illFormed};
+ghost use Rattle.log_entry.specs.Limits.{stores};
+ghost use Rattle.log_votes.specs.Outcome.{isOpen};
 ghost use Rattle.model_steps.specs.declared.Role.the-variants.{Coord, Proc};
 ghost use Rattle.model_steps.specs.declared.Step.the-variants.{Crash, Request, Restore, Setup, Tell};
 ghost use Rattle.model_protocol.specs.Message.{restoreTo};
 ghost use Rattle.model_protocol.specs.Step.{heldFrom, heldStore, messageFor, voterNotHolder};
 ghost use Rattle.model_protocol.specs.World.{isDown};
+ghost use Rattle.model_protocol.specs.Send.{lacksNumbers};
+ghost use Rattle.world_parts.specs.Refusal.{firstOf, tests};
 ghost use Rattle.world_parts.specs.Plan.{planOf};
 use log_core::Log;
 use log_entry::Entry;
 use log_entry::limits::STORE_PLACES;
 use log_entry::limits::STORES;
+use log_entry::refusal::NOT_MET;
 use model_protocol::Change;
+use model_protocol::Down;
 use model_protocol::Message;
 use model_protocol::Parts;
 use model_protocol::Process;
@@ -28,106 +35,99 @@ use world_parts::refusal::Tests;
 pub fn setup(mut p: Parts, n: u8) -> Change
     ensures { λ r. ⌜ r ≡ planOf p (Setup n) ⌝ }
 {
-    let answer = refusal::first_of(Tests {
-        unsent: false,
-        down: false,
-        unmet: p.acceptors != 0,
-        full: false,
-        ill: false,
-    });
-    if answer != 0 {
-        return changes::without_messages(p, answer);
+    if p.acceptors != 0 {
+        return changes::without_messages(p, NOT_MET);
     }
     p.acceptors = n;
     changes::without_messages(p, 0)
 }
 
-// Whether the entry is a vote by a process that does not believe that it holds `by`.
-fn voter_not_holder(e: Entry, p: Process) -> bool
-    ensures { λ r. ⌜ r ≡ voterNotHolder e p ⌝ }
+// Whether there was no setup, or the entry is a vote by a process that does not believe that it
+// holds `by`.
+fn request_barred(n: u8, e: Entry, p: Process) -> bool
+    ensures { λ r. ⌜ r ≡ (eqb n 0 || voterNotHolder e p) ⌝ }
 {
-    if e.take {
-        return false;
-    }
-    !world_process::believes(p, e.by)
+    (n == 0) | (!e.take & !world_process::believes(p, e.by))
 }
 
 fn ill_formed(e: Entry) -> bool
     ensures { λ r. ⌜ r ≡ (not (e .take) && illFormed e) ⌝ }
 {
-    if e.take {
-        return false;
-    }
-    e.ill_formed()
+    !e.take & e.ill_formed()
+}
+
+// Whether the coordinator or the process is down.
+fn either_down(d: Down, coord: u8, process: u8) -> bool
+    ensures { λ r. ⌜ r ≡ (isDown d Coord coord || isDown d Proc process) ⌝ }
+{
+    parties::is_down(d, Role::Coord, coord) | parties::is_down(d, Role::Proc, process)
+}
+
+fn request_refusal(n: u8, sent: u8, d: Down, p: Process, e: Entry, to: u8) -> u8
+    ensures { λ r. ⌜ r ≡ firstOf (tests false (isDown d Proc (e .process) || isDown d Coord to) (eqb n 0 || voterNotHolder e p) (lacksNumbers sent 1) (not (e .take) && illFormed e)) ⌝ }
+{
+    refusal::first_of(Tests {
+        unsent: false,
+        down: either_down(d, to, e.process),
+        unmet: request_barred(n, e, p),
+        full: send::lacks_numbers(sent, 1),
+        ill: ill_formed(e),
+    })
 }
 
 pub fn request(p: Parts, e: Entry, to: u8) -> Change
     ensures { λ r. ⌜ r ≡ planOf p (Request e to) ⌝ }
 {
-    let down = refusal::either(
-        parties::is_down(p.down, Role::Proc, e.process),
-        parties::is_down(p.down, Role::Coord, to),
-    );
-    let unmet = refusal::either(p.acceptors == 0, voter_not_holder(e, p.process));
-    let answer = refusal::first_of(Tests {
-        unsent: false,
-        down: down,
-        unmet: unmet,
-        full: send::lacks_numbers(p.sent, 1),
-        ill: ill_formed(e),
-    });
+    let answer = request_refusal(p.acceptors, p.sent, p.down, p.process, e, to);
     if answer != 0 {
         return changes::without_messages(p, answer);
     }
     changes::sending(p, 1, message::request_to(to, e))
 }
 
-// Whether nothing can be said to a process: it or the coordinator is down.
-fn either_down(p: Parts, coord: u8, process: u8) -> bool
-    ensures { λ r. ⌜ r ≡ (isDown (p .down) Coord coord || isDown (p .down) Proc process) ⌝ }
+fn tell_refusal(n: u8, sent: u8, d: Down, m: Message, coord: u8, process: u8) -> u8
+    ensures { λ r. ⌜ r ≡ firstOf (tests false (isDown d Coord coord || isDown d Proc process) (eqb n 0 || isOpen (m .outcome)) (lacksNumbers sent 1) false) ⌝ }
 {
-    refusal::either(
-        parties::is_down(p.down, Role::Coord, coord),
-        parties::is_down(p.down, Role::Proc, process),
-    )
+    let o = m.outcome;
+    refusal::first_of(Tests {
+        unsent: false,
+        down: either_down(d, coord, process),
+        unmet: (n == 0) | o.is_open(),
+        full: send::lacks_numbers(sent, 1),
+        ill: false,
+    })
 }
 
 pub fn tell(p: Parts, coord: u8, process: u8, tx: u8) -> Change
     ensures { λ r. ⌜ r ≡ planOf p (Tell coord process tx) ⌝ }
 {
-    let m = p.message;
-    let o = m.outcome;
-    let open = o.is_open();
-    let unmet = refusal::either(p.acceptors == 0, open);
-    let answer = refusal::first_of(Tests {
-        unsent: false,
-        down: either_down(p, coord, process),
-        unmet: unmet,
-        full: send::lacks_numbers(p.sent, 1),
-        ill: false,
-    });
+    let answer = tell_refusal(p.acceptors, p.sent, p.down, p.message, coord, process);
     if answer != 0 {
         return changes::without_messages(p, answer);
     }
-    changes::sending(p, 1, m)
+    changes::sending(p, 1, p.message)
+}
+
+fn restore_refusal(n: u8, sent: u8, d: Down, store: u8, coord: u8, process: u8) -> u8
+    ensures { λ r. ⌜ r ≡ firstOf (tests false (isDown d Coord coord || isDown d Proc process) (eqb n 0 || leb stores store) (lacksNumbers sent 1) false) ⌝ }
+{
+    refusal::first_of(Tests {
+        unsent: false,
+        down: either_down(d, coord, process),
+        unmet: (n == 0) | (STORES <= store),
+        full: send::lacks_numbers(sent, 1),
+        ill: false,
+    })
 }
 
 pub fn restore(p: Parts, coord: u8, process: u8) -> Change
     ensures { λ r. ⌜ r ≡ planOf p (Restore coord process) ⌝ }
 {
-    let m = p.message;
-    let unmet = refusal::either(p.acceptors == 0, STORES <= m.store);
-    let answer = refusal::first_of(Tests {
-        unsent: false,
-        down: either_down(p, coord, process),
-        unmet: unmet,
-        full: send::lacks_numbers(p.sent, 1),
-        ill: false,
-    });
+    let answer = restore_refusal(p.acceptors, p.sent, p.down, p.message.store, coord, process);
     if answer != 0 {
         return changes::without_messages(p, answer);
     }
-    changes::gives_replay(p, m)
+    changes::gives_replay(p, p.message)
 }
 
 // The store that the process holds; one past the last store if it holds none.
@@ -158,39 +158,28 @@ pub fn said(s: Step, delivered: Message, log: Log, applied: u8) -> Message
     ensures { λ r. ⌜ r ≡ messageFor s delivered log applied ⌝ }
 {
     match s {
-        Step::Setup { acceptors: _ } => delivered,
-        Step::Request { entry: _, to: _ } => delivered,
-        Step::Open {
-            coord: _,
-            inst: _,
-            ballot: _,
-        } => delivered,
-        Step::Propose {
-            coord: _,
-            inst: _,
-            ballot: _,
-        } => delivered,
-        Step::Deliver { msg: _ } => delivered,
-        Step::Tell {
-            coord: _,
-            process,
-            tx,
-        } => message::tell_to(process, tx, log.outcome(tx)),
-        Step::Restore { coord: _, process } => restored(log, applied, process),
-        Step::Crash { role: _, id: _ } => delivered,
+        Step::Tell { process, tx, .. } => message::tell_to(process, tx, log.outcome(tx)),
+        Step::Restore { process, .. } => restored(log, applied, process),
+        _ => delivered,
     }
+}
+
+fn crash_refusal(n: u8, d: Down, role: Role, id: u8) -> u8
+    ensures { λ r. ⌜ r ≡ firstOf (tests false (isDown d role id) (eqb n 0) false false) ⌝ }
+{
+    refusal::first_of(Tests {
+        unsent: false,
+        down: parties::is_down(d, role, id),
+        unmet: n == 0,
+        full: false,
+        ill: false,
+    })
 }
 
 pub fn crash(mut p: Parts, role: Role, id: u8) -> Change
     ensures { λ r. ⌜ r ≡ planOf p (Crash role id) ⌝ }
 {
-    let answer = refusal::first_of(Tests {
-        unsent: false,
-        down: parties::is_down(p.down, role, id),
-        unmet: p.acceptors == 0,
-        full: false,
-        ill: false,
-    });
+    let answer = crash_refusal(p.acceptors, p.down, role, id);
     if answer != 0 {
         return changes::without_messages(p, answer);
     }

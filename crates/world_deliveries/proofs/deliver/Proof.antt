@@ -31,6 +31,4 @@ deliver-spec =
     tie.close
     (tie.spec
     (λ c κs. search needs) (λ c κs. search needs) (λ c κs. search needs) (λ c κs. search needs)
-    returns
-    (λ c κs. search needs)
-    returns-2)
+    returns (λ c κs. search needs) returns-2)

@@ -5,48 +5,6 @@ use Rattle.model_protocol.specs.Deliver.{deliveryChange}
 use Rattle.world_deliveries.proofs.hand.Statement.{statement}
 use Rattle.world_deliveries.proofs.hand.Tie as tie
 
-enum-told : tie.Need-enum-told
-enum-told c = search needs
-
-request-requires : tie.Need-request-requires
-request-requires c κs = search needs
-
-enum-told-2 : tie.Need-enum-told-2
-enum-told-2 c = search needs
-
-prepare-requires : tie.Need-prepare-requires
-prepare-requires c κs = search needs
-
-enum-told-3 : tie.Need-enum-told-3
-enum-told-3 c = search needs
-
-accept-requires : tie.Need-accept-requires
-accept-requires c κs = search needs
-
-enum-told-4 : tie.Need-enum-told-4
-enum-told-4 c = search needs
-
-promise-requires : tie.Need-promise-requires
-promise-requires c κs = search needs
-
-enum-told-5 : tie.Need-enum-told-5
-enum-told-5 c = search needs
-
-accepted-requires : tie.Need-accepted-requires
-accepted-requires c κs = search needs
-
-enum-told-6 : tie.Need-enum-told-6
-enum-told-6 c = search needs
-
-tell-requires : tie.Need-tell-requires
-tell-requires c κs = search needs
-
-enum-told-7 : tie.Need-enum-told-7
-enum-told-7 c = search needs
-
-restore-requires : tie.Need-restore-requires
-restore-requires c κs = search needs
-
 returns : tie.Need-returns
 returns c = c .request .ensures ∙ ap (λ (k : Kind). deliveryChange (c .before .before .before .before .args .p) k) (sym (c .before .enum-told .given .1))
 
@@ -72,24 +30,8 @@ pub hand-spec : {M : Type 1} → statement M
 hand-spec =
     tie.close
     (tie.spec
-    enum-told
-    request-requires
-    enum-told-2
-    prepare-requires
-    enum-told-3
-    accept-requires
-    enum-told-4
-    promise-requires
-    enum-told-5
-    accepted-requires
-    enum-told-6
-    tell-requires
-    enum-told-7
-    restore-requires
-    returns
-    returns-2
-    returns-3
-    returns-4
-    returns-5
-    returns-6
-    returns-7)
+    (λ c. search needs) (λ c κs. search needs) (λ c. search needs) (λ c κs. search needs)
+    (λ c. search needs) (λ c κs. search needs) (λ c. search needs) (λ c κs. search needs)
+    (λ c. search needs) (λ c κs. search needs) (λ c. search needs) (λ c κs. search needs)
+    (λ c. search needs) (λ c κs. search needs) returns returns-2 returns-3 returns-4 returns-5
+    returns-6 returns-7)

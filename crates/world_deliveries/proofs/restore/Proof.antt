@@ -11,9 +11,4 @@ returns-2 : tie.Need-returns-2
 returns-2 c = c .takes-replay .ensures ∙ restore-taken (c .before .before .before .before .before .before .before .args .p) (c .before .taking .result) (c .before .taking .ensures) (c .before .before .if1 .left)
 
 pub restore-spec : {M : Type 1} → statement M
-restore-spec =
-    tie.close (tie.spec
-    (λ c κs. search needs)
-    returns
-    (λ c κs. search needs) (λ c κs. search needs)
-    returns-2)
+restore-spec = tie.close (tie.spec (λ c κs. search needs) returns (λ c κs. search needs) (λ c κs. search needs) returns-2)

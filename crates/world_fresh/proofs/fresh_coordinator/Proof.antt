@@ -8,5 +8,4 @@ unfolding freshCoordinator
 returns c = cc
 
 pub fresh-coordinator-spec : {M : Type 1} → statement M
-fresh-coordinator-spec =
-    tie.close (tie.spec (λ c κs. search needs) (λ c κs. search needs) returns)
+fresh-coordinator-spec = tie.close (tie.spec (λ c κs. search needs) (λ c κs. search needs) returns)

@@ -41,11 +41,5 @@ pub held-store-spec : {M : Type 1} → statement M
 held-store-spec =
     tie.close
     (tie.spec
-    Inv-loop
-    μ-loop
-    loop-holds
-    (λ c. omega arith) (λ c. omega arith)
-    returns
-    (λ c. omega arith) (λ c. omega arith)
-    loop-again
-    returns-2)
+    Inv-loop μ-loop loop-holds (λ c. omega arith) (λ c. omega arith) returns (λ c. omega arith)
+    (λ c. omega arith) loop-again returns-2)

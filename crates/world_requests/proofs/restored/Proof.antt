@@ -11,5 +11,4 @@ returns c =
     c .restore-to .ensures ∙ ap (λ (s : ℕ). restoreTo (a .process) s (a .applied)) (c .before .held-store .ensures)
 
 pub restored-spec : {M : Type 1} → statement M
-restored-spec =
-    tie.close (tie.spec (λ c κs. search needs) (λ c κs. search needs) returns)
+restored-spec = tie.close (tie.spec (λ c κs. search needs) (λ c κs. search needs) returns)

@@ -5,8 +5,7 @@ use Rattle.world_coordinator.proofs.learn.learning.Tie as tie
 
 returns : tie.Need-returns
 unfolding learning
-returns c = cc
+returns c = λ i. record { applied = c .before .before .one-more .ensures i; queue = c .before .left-by .ensures i; round = c .new-round .ensures i }
 
 pub learning-spec : {M : Type 1} → statement M
-learning-spec =
-    tie.close (tie.spec (λ c κs. search needs) (λ c κs. search needs) (λ c κs. search needs) returns)
+learning-spec = tie.close (tie.spec (λ c κs. search needs) (λ c κs. search needs) (λ c κs. search needs) returns)

@@ -371,65 +371,13 @@ pub advance-spec : {M : Type 1} → statement M
 advance-spec =
     tie.close
     (tie.spec
-    Inv-loop2
-    μ-loop2
-    Inv-loop
-    μ-loop
-    at-most-requires
-    loop-holds
-    cast-o
-    mul-o
-    element-copy-out-o
-    message-at-requires
-    cast-from
-    mul-message
-    element-copy-out-message
-    places-requires
-    cast-c
-    cast-h
-    mul-coordinator
-    element-copy-out-coordinator
-    asks-log-requires
-    mul-log
-    element-copy-out-log
-    said-requires
-    mul-t34
-    element-copy-out-t55
-    mul-t35
-    element-copy-out-t58
-    change-requires
-    mul-coordinator-2
-    element-set-from-coordinator
-    mul-slot
-    element-set-from-slot
-    mul-process
-    element-set-from-process
-    mul-replay
-    element-copy-out-replay
-    mul-replay-2
-    element-set-from-replay
-    cast-next
-    mul-log-2
-    element-copy-out-log-2
-    replay-requires
-    mul-t72
-    element-set-from-w
-    mul-log-3
-    element-copy-out-log-3
-    fed-requires
-    mul-t79
-    element-set-from-w-2
-    loop2-holds
-    cast-m
-    mul-m
-    element-set-from-m
-    add-w
-    add-i
-    loop2-less
-    loop2-again
-    cast-answers
-    array-write-answers
-    add-k
-    loop-less
-    loop-again
-    returns)
+    Inv-loop2 μ-loop2 Inv-loop μ-loop at-most-requires loop-holds cast-o mul-o element-copy-out-o
+    message-at-requires cast-from mul-message element-copy-out-message places-requires cast-c cast-h
+    mul-coordinator element-copy-out-coordinator asks-log-requires mul-log element-copy-out-log
+    said-requires mul-t34 element-copy-out-t55 mul-t35 element-copy-out-t58 change-requires
+    mul-coordinator-2 element-set-from-coordinator mul-slot element-set-from-slot mul-process
+    element-set-from-process mul-replay element-copy-out-replay mul-replay-2 element-set-from-replay
+    cast-next mul-log-2 element-copy-out-log-2 replay-requires mul-t72 element-set-from-w mul-log-3
+    element-copy-out-log-3 fed-requires mul-t79 element-set-from-w-2 loop2-holds cast-m mul-m
+    element-set-from-m add-w add-i loop2-less loop2-again cast-answers array-write-answers add-k
+    loop-less loop-again returns)

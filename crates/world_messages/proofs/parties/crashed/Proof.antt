@@ -7,9 +7,6 @@ use Rattle.world_messages.proofs.PartLaws.{acceptors-length, coordinato
 use Rattle.world_messages.proofs.parties.crashed.Statement.{statement}
 use Rattle.world_messages.proofs.parties.crashed.Tie as tie
 
-enum-told : tie.Need-enum-told
-enum-told c = search needs
-
 returns : tie.Need-returns
 returns c = let a = c .before .before .before .args in ap (λ (r : Role). crashed (a .t1) r (a .id)) (sym (c .before .enum-told .given .1))
 
@@ -32,12 +29,6 @@ pub crashed-spec : {M : Type 1} → statement M
 crashed-spec =
     tie.close
     (tie.spec
-    enum-told
     (λ c. search needs) (λ c. search needs) (λ c. search needs) (λ c. search needs)
-    (λ c. search needs)
-    returns
-    returns-2
-    returns-3
-    returns-4
-    returns-5
+    (λ c. search needs) (λ c. search needs) returns returns-2 returns-3 returns-4 returns-5
     returns-6)

@@ -10,8 +10,5 @@ use Rattle.world_messages.proofs.send.lacks_numbers.Tie as tie
 returns : tie.Need-returns
 returns c = let a = c .before .args in let none : 0 ≡ messages - a .sent = omega arith in ap (λ (k : ℕ). ltb k (a .n)) none
 
-returns-2 : tie.Need-returns-2
-returns-2 c = search needs
-
 pub lacks-numbers-spec : {M : Type 1} → statement M
 lacks-numbers-spec = tie.close (tie.spec returns (λ c. search needs) (λ c. search needs))

@@ -5,54 +5,6 @@ use Rattle.model_protocol.specs.Places.{placesOf}
 use Rattle.world_parts.proofs.place.places.Statement.{statement}
 use Rattle.world_parts.proofs.place.places.Tie as tie
 
-enum-told : tie.Need-enum-told
-enum-told c = search needs
-
-only-coordinator-requires : tie.Need-only-coordinator-requires
-only-coordinator-requires c κs = search needs
-
-enum-known-s : tie.Need-enum-known-s
-enum-known-s c = search needs
-
-only-process-requires : tie.Need-only-process-requires
-only-process-requires c κs = search needs
-
-enum-known-s-2 : tie.Need-enum-known-s-2
-enum-known-s-2 c = search needs
-
-only-coordinator-requires-2 : tie.Need-only-coordinator-requires-2
-only-coordinator-requires-2 c κs = search needs
-
-enum-known-s-3 : tie.Need-enum-known-s-3
-enum-known-s-3 c = search needs
-
-only-coordinator-requires-3 : tie.Need-only-coordinator-requires-3
-only-coordinator-requires-3 c κs = search needs
-
-enum-told-2 : tie.Need-enum-told-2
-enum-told-2 c = search needs
-
-delivery-places-requires : tie.Need-delivery-places-requires
-delivery-places-requires c κs = search needs
-
-enum-known-s-4 : tie.Need-enum-known-s-4
-enum-known-s-4 c = search needs
-
-only-coordinator-requires-4 : tie.Need-only-coordinator-requires-4
-only-coordinator-requires-4 c κs = search needs
-
-enum-known-s-5 : tie.Need-enum-known-s-5
-enum-known-s-5 c = search needs
-
-only-coordinator-requires-5 : tie.Need-only-coordinator-requires-5
-only-coordinator-requires-5 c κs = search needs
-
-enum-told-3 : tie.Need-enum-told-3
-enum-told-3 c = search needs
-
-only-coordinator-requires-6 : tie.Need-only-coordinator-requires-6
-only-coordinator-requires-6 c κs = search needs
-
 returns : tie.Need-returns
 unfolding placesOf
 returns c = c .only-coordinator .ensures ∙ ap (λ (s : Step). placesOf s (c .before .before .before .args .m)) (sym (c .before .enum-told .given .1))
@@ -89,27 +41,8 @@ pub places-spec : {M : Type 1} → statement M
 places-spec =
     tie.close
     (tie.spec
-    enum-told
-    only-coordinator-requires
-    enum-known-s
-    only-process-requires
-    enum-known-s-2
-    only-coordinator-requires-2
-    enum-known-s-3
-    only-coordinator-requires-3
-    enum-told-2
-    delivery-places-requires
-    enum-known-s-4
-    only-coordinator-requires-4
-    enum-known-s-5
-    only-coordinator-requires-5
-    enum-told-3
-    only-coordinator-requires-6
-    returns
-    returns-2
-    returns-3
-    returns-4
-    returns-5
-    returns-6
-    returns-7
-    returns-8)
+    (λ c. search needs) (λ c κs. search needs) (λ c. search needs) (λ c κs. search needs)
+    (λ c. search needs) (λ c κs. search needs) (λ c. search needs) (λ c κs. search needs)
+    (λ c. search needs) (λ c κs. search needs) (λ c. search needs) (λ c κs. search needs)
+    (λ c. search needs) (λ c κs. search needs) (λ c. search needs) (λ c κs. search needs) returns
+    returns-2 returns-3 returns-4 returns-5 returns-6 returns-7 returns-8)
