@@ -4,6 +4,7 @@ use libc::STDOUT_FILENO;
 use log_core::Log;
 use log_entry::limits::STORES;
 use log_entry::limits::TRANSACTIONS;
+use plain_io::OUTPUT_BYTES;
 
 // The transaction, and for each store the number of its involvement.
 fn involvement(log: Log, tx: u8) {
@@ -42,7 +43,8 @@ fn one(i: usize) {
         os::fail(&path[..n]);
         return;
     }
-    let ran = plain_io::run(fd);
+    let mut out = [0; OUTPUT_BYTES];
+    let ran = plain_io::run(fd, &mut out);
     let reading = ran.reading;
     let input = reading.input;
     let session = input.finish();

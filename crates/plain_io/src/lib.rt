@@ -1,9 +1,10 @@
 // Runs `plain` on what a file descriptor gives, and prints to standard output.
 ghost use Prim.Native.Nat.{_<_};
+ghost use Rattle.io.specs.Counts.{Counts};
 ghost use Rattle.text_io.specs.Reading.{maxPieces};
 ghost use Rattle.plain_io.specs.Exchange.{Answered, More, WasRead};
 use plain_run::Input;
-use plain_run::Output;
+pub use plain_run::OUTPUT_BYTES;
 use text_io::MAX_PIECES;
 
 // An input as far as it is read: how many pieces it was fed, and how many bytes the last one had.
@@ -13,26 +14,24 @@ pub struct Reading {
     pub last: usize,
 }
 
-// What was read, and what was printed.
+// What was read, and how many bytes of the buffer were printed.
 pub struct Exchange {
     pub reading: Reading,
-    pub output: Output,
+    pub printed: usize,
 }
 
 // Fed one more piece.
-fn read_more(fd: i32, reading: Reading) -> Reading
+fn read_more(fd: i32, mut reading: Reading) -> Reading
     requires { ⌜ reading .pieces < maxPieces ⌝ }
     ensures { λ r. ⌜ More reading r ⌝ }
 {
     let mut buffer = io::large_buffer();
     let got = text_io::read_piece(fd, &mut buffer);
     let input = reading.input;
-    let fed = input.feed(&buffer[..got]);
-    Reading {
-        input: fed,
-        pieces: reading.pieces + 1,
-        last: got,
-    }
+    reading.input = input.feed(&buffer[..got]);
+    reading.pieces += 1;
+    reading.last = got;
+    reading
 }
 
 // Fed all pieces, up to the end of the input or to line 1,001.
@@ -47,21 +46,20 @@ fn read_all(fd: i32) -> Reading
     };
     while reading.pieces < MAX_PIECES {
         reading = read_more(fd, reading);
-        if reading.last == 0 {
-            return reading;
-        }
         let input = reading.input;
-        if input.is_over() {
+        if (reading.last == 0) | input.is_over() {
             return reading;
         }
     }
     reading
 }
 
-// Writes a text to standard output. Where that fails, it says so on standard error: a program of
-// this language has no exit status of its own.
-fn print(text: &[u8]) {
-    if !io::write_all(libc::STDOUT_FILENO, text) {
+// Writes the first bytes of a buffer to standard output. Where that fails, it says so on standard
+// error: a program of this language has no exit status of its own.
+fn print(out: &[u8], count: usize)
+    requires { ⌜ Counts count (now out) ⌝ }
+{
+    if !io::write_all(libc::STDOUT_FILENO, &out[..count]) {
         io::write_all(
             libc::STDERR_FILENO,
             b"plain: the output could not be written\n",
@@ -69,17 +67,13 @@ fn print(text: &[u8]) {
     }
 }
 
-pub fn run(fd: i32) -> Exchange
-    ensures { λ r. ⌜ Answered r ⌝ }
+// The output stands in the buffer, which is lent: nothing of its size is copied.
+pub fn run(fd: i32, out: &mut [u8; OUTPUT_BYTES]) -> Exchange
+    ensures { λ r. ⌜ Answered r (now (out .exit)) ⌝ }
 {
     let reading = read_all(fd);
     let read = reading.input;
-    let output = plain_run::output_of(read);
-    let bytes = output.bytes;
-    let count = output.count;
-    print(&bytes[..count]);
-    Exchange {
-        reading: reading,
-        output: output,
-    }
+    let printed = plain_run::output_of(read, out);
+    print(out, printed);
+    Exchange { reading, printed }
 }

@@ -1,7 +1,6 @@
 -- What a command does to a log, and a line to a session.
 use Prim.Native.Nat.{ℕ, _+_, _≤_}
 use mathlib.Core.Bool.{Bool, cond, false, true}
-use mathlib.Core.List.{[], _∷_}
 use mathlib.Core.Path.{_≡_, refl, sym, _∙_, ap}
 use lib.Dec.{eqb}
 use lib.ListN.{set}
@@ -14,11 +13,10 @@ use Rattle.log_core.specs.Decide.{effectOf, partsOf}
 use Rattle.text_lines.specs.declared.Answers.{Answers}
 use Rattle.text_lines.specs.declared.Line.{Line}
 use Rattle.text_lines.specs.Answers.{noted as Answers·noted}
-use Rattle.text_lines.specs.Feed.{Fed, fed, fresh}
-use Rattle.text_lines.specs.Lines.{lf, maxLines}
+use Rattle.text_lines.specs.Lines.{maxLines}
 use Rattle.plain_run.specs.declared.Command.{Command}
 use Rattle.plain_run.specs.declared.Session.{Session}
-use Rattle.plain_run.specs.Session.{answerLine, carriedOut, isOver, lineEntered, noted}
+use Rattle.plain_run.specs.Session.{answerLine, carriedOut, lineEntered, noted}
 
 module _ (l : Log) (c : Command) where
   pub refused-is : (n : ℕ) → c .refused ≡ n → eqb n accepted ≡ false → carriedOut l c ≡ answered l n
@@ -66,8 +64,3 @@ module _ (s : Session) (line : Line) (c : Command) (going : s .answers .count �
 
   pub line-refused : (n ≡ accepted → ⊥) → after (s .log) ≡ answerLine s line
   line-refused h = is-noted _ (sym (log-after (s .log) c ∙ rw (ne-eqb _ accepted (λ e. h (answer ∙ e)))))
-
--- a line that has begun is ended by an LF
-pub fed-end : (f : Fed Session) → isOver (f .state) ≡ false → fed isOver answerLine f (lf ∷ []) ≡ fresh (answerLine (f .state) (f .line))
-unfolding fed
-fed-end f going = rw going

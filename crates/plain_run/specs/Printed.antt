@@ -6,7 +6,6 @@ use Rattle.text_lines.specs.Feed.{fed, fresh}
 use Rattle.text_report.specs.Printed.{Printed}
 use Rattle.text_report.specs.Within.{longestAnswers, longestLog}
 use Rattle.plain_run.specs.declared.Input.{Input}
-use Rattle.plain_run.specs.declared.Output.{Output}
 use Rattle.plain_run.specs.Plain.{plain}
 use Rattle.plain_run.specs.Session.{answerLine, freshSession, isOver, stateOf}
 
@@ -14,10 +13,10 @@ use Rattle.plain_run.specs.Session.{answerLine, freshSession, isOver, st
 abbrev pub longestOutput : ℕ
 longestOutput = longestAnswers + longestLog
 
--- the output is this text, all of it
-abbrev pub Prints : List ℕ → Output → Type 0
-Prints text o = Printed longestOutput text (o .bytes) (o .count)
+-- the first `used` bytes of the buffer are what `plain` writes for these bytes, all of it
+abbrev pub Prints : List ℕ → List ℕ → ℕ → Type 0
+Prints input buffer used = Printed longestOutput (plain input) buffer used
 
--- the output is what `plain` writes for the bytes that the input was fed, whatever they are
-abbrev pub PrintsFed : Input → Output → Type 0
-PrintsFed i o = (bytes : List ℕ) → stateOf i ≡ fed isOver answerLine (fresh freshSession) bytes → Prints (plain bytes) o
+-- so for the bytes that the input was fed, whatever they are
+abbrev pub PrintsFed : Input → List ℕ → ℕ → Type 0
+PrintsFed i buffer used = (bytes : List ℕ) → stateOf i ≡ fed isOver answerLine (fresh freshSession) bytes → Prints bytes buffer used

@@ -58,16 +58,13 @@ fn command_at(count: u16, line: Line) -> Command
     }
     let n = line.length as usize;
     let bytes = line.bytes;
-    let reading = text_entry::read_entry(&bytes[..n]);
-    if let Reading::Outside = reading {
-        return refuse(OUTSIDE_LIMITS);
-    }
-    let Reading::Read(entry) = reading else {
-        return refuse(UNREADABLE);
-    };
-    Command {
-        refused: ACCEPTED,
-        entry: entry,
+    match text_entry::read_entry(&bytes[..n]) {
+        Reading::Read(entry) => Command {
+            refused: ACCEPTED,
+            entry,
+        },
+        Reading::Outside => refuse(OUTSIDE_LIMITS),
+        Reading::Unreadable => refuse(UNREADABLE),
     }
 }
 
@@ -122,19 +119,6 @@ impl Input {
         session.is_over()
     }
 
-    fn of(log: Log, answers: Answers, line: Line) -> Input
-        ensures { λ r. ⌜ r ≡ record { session = record { log = log; answers = answers }; line = line } ⌝ }
-    {
-        let session = Session {
-            log: log,
-            answers: answers,
-        };
-        Input {
-            session: session,
-            line: line,
-        }
-    }
-
     // The input after a piece of any length. It owns the log and the answers: an answer is stored in
     // place, and a log comes back only where an entry was accepted.
     pub fn feed(self, piece: &[u8]) -> Input
@@ -145,28 +129,31 @@ impl Input {
         let mut answers = session.answers;
         let mut line = self.line;
         let mut at: usize = 0;
-        while at < piece.len() {
-            let n = answers.count;
-            if MAX_LINES < n {
-                return Input::of(log, answers, line);
-            }
+        while (at < piece.len()) & (answers.count <= MAX_LINES) {
             let gathered = line.gather(piece, at);
             at = gathered.next;
             line = gathered.line;
-            if !gathered.ended {
-                return Input::of(log, answers, line);
+            if gathered.ended {
+                let n = answers.count;
+                let command = command_at(n, line);
+                let answer = answer_to(log, command);
+                answers.answers[n as usize] = answer;
+                answers.count = n + 1;
+                line = Line::none();
+                if answer == ACCEPTED {
+                    let entered = log.enter(command.entry);
+                    log = entered.log;
+                }
             }
-            let command = command_at(n, line);
-            let answer = answer_to(log, command);
-            if answer == ACCEPTED {
-                let entered = log.enter(command.entry);
-                log = entered.log;
-            }
-            answers.answers[n as usize] = answer;
-            answers.count = n + 1;
-            line = Line::none();
         }
-        Input::of(log, answers, line)
+        let session = Session {
+            log: log,
+            answers: answers,
+        };
+        Input {
+            session: session,
+            line: line,
+        }
     }
 
     // At the input's end, a line that has begun is a line.
@@ -175,10 +162,7 @@ impl Input {
     {
         let session = self.session;
         let line = self.line;
-        if session.is_over() {
-            return session;
-        }
-        if line.length == 0 {
+        if session.is_over() | (line.length == 0) {
             return session;
         }
         let ended = self.feed(b"\n");
@@ -190,24 +174,14 @@ impl Input {
 // store a line for each transaction.
 pub const OUTPUT_BYTES: usize = LINE_BYTES * (ANSWERED_LINES as usize + LOG_LINES);
 
-// What the program prints: the first `count` bytes.
-pub struct Output {
-    pub bytes: [u8; OUTPUT_BYTES],
-    pub count: usize,
-}
-
-// What is printed for the bytes that were fed.
-pub fn output_of(input: Input) -> Output
-    ensures { λ r. ⌜ PrintsFed input r ⌝ }
+// What is printed for the bytes that were fed: the first bytes of the buffer, as many as the answer
+// says.
+pub fn output_of(input: Input, out: &mut [u8; OUTPUT_BYTES]) -> usize
+    ensures { λ r. ⌜ PrintsFed input (now (out .exit)) r ⌝ }
 {
     let session = input.finish();
     let answers = session.answers;
     let log = session.log;
-    let mut bytes = [0; OUTPUT_BYTES];
-    let at = text_report::put_answers(&mut bytes, 0, answers);
-    let count = text_report::put_log(&mut bytes, at, log);
-    Output {
-        bytes: bytes,
-        count: count,
-    }
+    let at = text_report::put_answers(out, 0, answers);
+    text_report::put_log(out, at, log)
 }

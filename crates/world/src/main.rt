@@ -1,4 +1,7 @@
 // The program `world`: reads a step file from standard input, and prints the answers and the world.
+use world_io::OUTPUT_BYTES;
+
 fn main() {
-    world_io::run(libc::STDIN_FILENO);
+    let mut out = [0; OUTPUT_BYTES];
+    world_io::run(libc::STDIN_FILENO, &mut out);
 }

@@ -1,5 +1,6 @@
 // Runs `world` on each file that an argument names, and prints its name before what it prints.
 use libc::STDOUT_FILENO;
+use world_io::OUTPUT_BYTES;
 
 fn one(i: usize) {
     let mut path = io::buffer();
@@ -11,7 +12,8 @@ fn one(i: usize) {
         os::fail(&path[..n]);
         return;
     }
-    world_io::run(fd);
+    let mut out = [0; OUTPUT_BYTES];
+    world_io::run(fd, &mut out);
     libc::close(fd);
 }
 

@@ -42,16 +42,13 @@ fn command_of(line: Line) -> Command
     }
     let n = line.length as usize;
     let bytes = line.bytes;
-    let reading = text_step::read_step(&bytes[..n]);
-    if let Reading::Outside = reading {
-        return refuse(OUTSIDE_LIMITS);
-    }
-    let Reading::Read(step) = reading else {
-        return refuse(UNREADABLE);
-    };
-    Command {
-        refused: ACCEPTED,
-        step: step,
+    match text_step::read_step(&bytes[..n]) {
+        Reading::Read(step) => Command {
+            refused: ACCEPTED,
+            step,
+        },
+        Reading::Outside => refuse(OUTSIDE_LIMITS),
+        Reading::Unreadable => refuse(UNREADABLE),
     }
 }
 
@@ -96,26 +93,16 @@ impl Input {
         let mut commands = self.commands;
         let mut line = self.line;
         let mut at: usize = 0;
-        while at < piece.len() {
-            let n = commands.count;
-            if MAX_LINES < n {
-                return Input {
-                    commands: commands,
-                    line: line,
-                };
-            }
+        while (at < piece.len()) & (commands.count <= MAX_LINES) {
             let gathered = line.gather(piece, at);
             at = gathered.next;
             line = gathered.line;
-            if !gathered.ended {
-                return Input {
-                    commands: commands,
-                    line: line,
-                };
+            if gathered.ended {
+                let n = commands.count;
+                commands.commands[n as usize] = command_at(n, line);
+                commands.count = n + 1;
+                line = Line::none();
             }
-            commands.commands[n as usize] = command_at(n, line);
-            commands.count = n + 1;
-            line = Line::none();
         }
         Input {
             commands: commands,
@@ -127,17 +114,12 @@ impl Input {
     pub fn finish(self) -> Commands
         ensures { λ r. ⌜ commandsIn r ≡ finished over withLine (stateOf self) ⌝ }
     {
-        let mut commands = self.commands;
+        let commands = self.commands;
         let line = self.line;
-        let n = commands.count;
-        if MAX_LINES < n {
+        if (MAX_LINES < commands.count) | (line.length == 0) {
             return commands;
         }
-        if line.length == 0 {
-            return commands;
-        }
-        commands.commands[n as usize] = command_at(n, line);
-        commands.count = n + 1;
-        commands
+        let ended = self.feed(b"\n");
+        ended.commands
     }
 }

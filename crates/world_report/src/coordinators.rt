@@ -12,8 +12,7 @@ use model_steps::limits::COORDINATORS;
 pub fn coordinator_line(out: &mut [u8], at: usize, coord: u8, applied: u8) -> usize
     ensures { λ r. ⌜ Within longestLine (now (out .entry)) at (coordinatorLine coord applied) (now (out .exit)) r ⌝ }
 {
-    let at = text_report::byte_field(out, at, b"coord=", coord);
-    let at = text_report::byte_field(out, at, b" applied=", applied);
+    let at = text_report::byte_fields(out, at, b"coord=", coord, b" applied=", applied);
     text_report::end(out, at)
 }
 
@@ -27,19 +26,18 @@ pub fn put_coordinator(out: &mut [u8], at: usize, coord: u8, c: Coordinator, log
 
 pub fn put_coordinators(
     out: &mut [u8],
-    at: usize,
+    mut at: usize,
     cs: [Coordinator; COORDINATOR_PLACES],
     logs: [Log; COORDINATOR_PLACES],
 ) -> usize
     ensures { λ r. ⌜ Within (coordinators * longestCoordinator) (now (out .entry)) at (coordinatorsText cs logs) (now (out .exit)) r ⌝ }
 {
-    let mut to = at;
     let mut i: u8 = 0;
     while i < COORDINATORS {
         let c = cs[i as usize];
         let log = logs[i as usize];
-        to = put_coordinator(out, to, i, c, log);
+        at = put_coordinator(out, at, i, c, log);
         i += 1;
     }
-    to
+    at
 }

@@ -14,8 +14,7 @@ use model_protocol::limits::PROCESS_PLACES;
 pub fn heard_line(out: &mut [u8], at: usize, proc: u8, tx: u8, outcome: Outcome) -> usize
     ensures { λ r. ⌜ Within longestLine (now (out .entry)) at (heardLine proc tx outcome) (now (out .exit)) r ⌝ }
 {
-    let at = text_report::byte_field(out, at, b"proc=", proc);
-    let at = text_report::byte_field(out, at, b" tx=", tx);
+    let at = text_report::byte_fields(out, at, b"proc=", proc, b" tx=", tx);
     let at = text_report::outcome_field(out, at, b" heard=", outcome);
     text_report::end(out, at)
 }
@@ -31,39 +30,36 @@ pub fn put_outcome(out: &mut [u8], at: usize, proc: u8, tx: u8, outcome: Outcome
 }
 
 // What the process heard.
-pub fn put_heard(out: &mut [u8], at: usize, proc: u8, p: Process) -> usize
+pub fn put_heard(out: &mut [u8], mut at: usize, proc: u8, p: Process) -> usize
     ensures { λ r. ⌜ Within longestHeard (now (out .entry)) at (heardText proc p) (now (out .exit)) r ⌝ }
 {
-    let mut to = at;
     let mut i: u8 = 0;
     while i < TRANSACTIONS {
         let heard = p.heard[i as usize];
         let outcome = heard.outcome;
-        to = put_outcome(out, to, proc, i, outcome);
+        at = put_outcome(out, at, proc, i, outcome);
         i += 1;
     }
-    to
+    at
 }
 
 // What all processes heard.
-pub fn put_all_heard(out: &mut [u8], at: usize, ps: [Process; PROCESS_PLACES]) -> usize
+pub fn put_all_heard(out: &mut [u8], mut at: usize, ps: [Process; PROCESS_PLACES]) -> usize
     ensures { λ r. ⌜ Within (processes * longestHeard) (now (out .entry)) at (byProcess heardText ps) (now (out .exit)) r ⌝ }
 {
-    let mut to = at;
     let mut i: u8 = 0;
     while i < PROCESSES {
         i += 1;
         let p = ps[i as usize];
-        to = put_heard(out, to, i, p);
+        at = put_heard(out, at, i, p);
     }
-    to
+    at
 }
 
 pub fn restore_line(out: &mut [u8], at: usize, proc: u8, store: u8, position: u8) -> usize
     ensures { λ r. ⌜ Within longestLine (now (out .entry)) at (restoreLine proc store position) (now (out .exit)) r ⌝ }
 {
-    let at = text_report::byte_field(out, at, b"proc=", proc);
-    let at = text_report::byte_field(out, at, b" store=", store);
+    let at = text_report::byte_fields(out, at, b"proc=", proc, b" store=", store);
     let at = text_report::byte_field(out, at, b" position=", position);
     text_report::end(out, at)
 }
@@ -82,19 +78,18 @@ pub fn put_restore(out: &mut [u8], at: usize, proc: u8, p: Process, replay: Repl
 // The restores of all processes.
 pub fn put_restores(
     out: &mut [u8],
-    at: usize,
+    mut at: usize,
     ps: [Process; PROCESS_PLACES],
     replays: [Replay; PROCESS_PLACES],
 ) -> usize
     ensures { λ r. ⌜ Within (processes * longestRestore) (now (out .entry)) at (restoresText ps replays) (now (out .exit)) r ⌝ }
 {
-    let mut to = at;
     let mut i: u8 = 0;
     while i < PROCESSES {
         i += 1;
         let p = ps[i as usize];
         let replay = replays[i as usize];
-        to = put_restore(out, to, i, p, replay);
+        at = put_restore(out, at, i, p, replay);
     }
-    to
+    at
 }

@@ -14,7 +14,6 @@ use Rattle.text_report.specs.Within.{longestAnswers}
 use Rattle.world_report.specs.Longest.{longestWorld}
 use Rattle.world_input.specs.declared.Input.{Input}
 use Rattle.world_input.specs.State.{over, stateOf, withLine}
-use Rattle.world_run.specs.declared.Output.{Output}
 use Rattle.world_run.specs.declared.Session.{Session}
 use Rattle.world_run.specs.Program.{answersFor, printed, world, worldFor}
 use Rattle.world_run.specs.Steps.{stepsOf}
@@ -42,15 +41,12 @@ output s = printed (answersOf (s .answers)) (s .world)
 abbrev pub longestOutput : ℕ
 longestOutput = longestAnswers + longestWorld
 
--- the output is this text, all of it
-abbrev pub Prints : List ℕ → Output → Type 0
-Prints text o = Printed longestOutput text (o .bytes) (o .count)
-
--- The output is what `world` writes for these bytes. Demand 3 holds for the world that it shows.
-pub record PrintsAgreed (input : List ℕ) (o : Output) : Type 0 where
-  pub prints : Prints (world input) o
+-- The first `used` bytes of the buffer are what `world` writes for these bytes, all of it. Demand 3
+-- holds for the world that they show.
+pub record PrintsAgreed (input buffer : List ℕ) (used : ℕ) : Type 0 where
+  pub prints : Printed longestOutput (world input) buffer used
   pub demand-3 : Claim (stepsOf input) (history (stepsOf input)) (worldFor input)
 
--- the output for the bytes that the input was fed, whatever they are
-abbrev pub PrintsFed : Input → Output → Type 0
-PrintsFed i o = (bytes : List ℕ) → stateOf i ≡ fed over withLine (fresh []) bytes → PrintsAgreed bytes o
+-- so for the bytes that the input was fed, whatever they are
+abbrev pub PrintsFed : Input → List ℕ → ℕ → Type 0
+PrintsFed i buffer used = (bytes : List ℕ) → stateOf i ≡ fed over withLine (fresh []) bytes → PrintsAgreed bytes buffer used

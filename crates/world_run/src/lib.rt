@@ -58,24 +58,14 @@ pub fn run_fed(input: Input) -> Session
 // No output is longer: 1,001 answers, and the lines of a world.
 pub const OUTPUT_BYTES: usize = LINE_BYTES * (ANSWERED_LINES as usize + WORLD_LINES);
 
-// What the program prints: the first `count` bytes.
-pub struct Output {
-    pub bytes: [u8; OUTPUT_BYTES],
-    pub count: usize,
-}
-
-// What is printed for the bytes that were fed.
-pub fn output_of(input: Input) -> Output
-    ensures { λ r. ⌜ PrintsFed input r ⌝ }
+// What is printed for the bytes that were fed: the first bytes of the buffer, as many as the answer
+// says.
+pub fn output_of(input: Input, out: &mut [u8; OUTPUT_BYTES]) -> usize
+    ensures { λ r. ⌜ PrintsFed input (now (out .exit)) r ⌝ }
 {
     let session = run_fed(input);
     let answers = session.answers;
     let world = session.world;
-    let mut bytes = [0; OUTPUT_BYTES];
-    let at = text_report::put_answers(&mut bytes, 0, answers);
-    let count = world_report::put_world(&mut bytes, at, world);
-    Output {
-        bytes: bytes,
-        count: count,
-    }
+    let at = text_report::put_answers(out, 0, answers);
+    world_report::put_world(out, at, world)
 }

@@ -1,10 +1,9 @@
 use native.Mathlib.Omega.{arith}
 use borrow.Author.Needs.{needs}
 use Prim.Native.Nat.{_≤_, _-_}
-use mathlib.Core.Logic.{inl, inr}
-use mathlib.Core.Path.{_≡_, sym, _∙_}
+use mathlib.Core.Logic.{inr}
 use Rattle.text_io.specs.Reading.{Given, maxPieces}
-use Rattle.text_io.proofs.Pieces.{given-more, given-none}
+use Rattle.text_io.proofs.Pieces.{ended-by, given-more, given-none}
 use Rattle.plain_run.specs.Session.{answerLine, freshSession, isOver, stateOf}
 use Rattle.plain_io.specs.declared.Reading.{Reading}
 use Rattle.plain_io.specs.Exchange.{More}
@@ -28,32 +27,24 @@ loop-holds c = (omega arith, given-none isOver answerLine freshSession (stateOf 
 
 returns : tie.Need-returns Inv-loop μ-loop
 returns c =
-    let l = c .before .before .before .before .before .loop in
-    let m = c .before .before .read-more in
-    record { reading = then (l .reading) (m .result) (l .inv .1) (m .ensures); ended = inl (c .if2 .taken) }
-
-returns-2 : tie.Need-returns-2 Inv-loop μ-loop
-returns-2 c =
-    let l = c .before .before .before .before .before .before .before .before .loop in
-    let m = c .before .before .before .before .before .read-more in
+    let l = c .before .before .before .before .before .before .before .loop in
+    let m = c .before .before .before .before .read-more in
     record {
       reading = then (l .reading) (m .result) (l .inv .1) (m .ensures);
-      ended = inr (inl (sym (c .before .is-over .ensures) ∙ c .if3 .taken));
+      ended = ended-by isOver answerLine freshSession (stateOf (m .result .input)) (m .result .pieces) (m .result .last) _ (c .before .is-over .ensures) (c .if2 .taken);
     }
 
 loop-less : tie.Need-loop-less Inv-loop μ-loop
-loop-less c =
-    let m = c .before .before .before .before .before .read-more in
-    omega (arith, m .ensures .count, c .before .before .before .before .before .before .if1 .taken)
+loop-less c = omega (arith, c .before .before .before .before .read-more .ensures .count, c .before .before .before .before .before .if1 .taken)
 
 loop-again : tie.Need-loop-again Inv-loop μ-loop
 loop-again c =
-    let l = c .before .before .before .before .before .before .before .before .loop in
-    let m = c .before .before .before .before .before .read-more in
-    (omega (arith, m .ensures .count, c .before .before .before .before .before .before .if1 .taken), then (l .reading) (m .result) (l .inv .1) (m .ensures))
+    let l = c .before .before .before .before .before .before .before .loop in
+    let m = c .before .before .before .before .read-more in
+    (omega (arith, m .ensures .count, c .before .before .before .before .before .if1 .taken), then (l .reading) (m .result) (l .inv .1) (m .ensures))
 
-returns-3 : tie.Need-returns-3 Inv-loop μ-loop
-returns-3 c =
+returns-2 : tie.Need-returns-2 Inv-loop μ-loop
+returns-2 c =
     let l = c .before .before .loop in
     record { reading = l .inv .1; ended = inr (inr (omega (arith, l .inv .0, c .if1 .left))) }
 
@@ -65,10 +56,8 @@ read-all-spec =
     μ-loop
     (λ c κs. search needs)
     loop-holds
-    (λ c κs. search needs)
+    (λ c κs. search needs) (λ c κs. search needs)
     returns
-    (λ c κs. search needs)
-    returns-2
     loop-less
     loop-again
-    returns-3)
+    returns-2)

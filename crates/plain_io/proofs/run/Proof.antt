@@ -1,33 +1,27 @@
 use borrow.Author.Needs.{needs}
 use Rattle.text_io.specs.Reading.{bytesRead}
 use Rattle.text_io.proofs.Pieces.{read-is-fed}
-use Rattle.plain_run.specs.Plain.{plain}
 use Rattle.plain_run.specs.Printed.{Prints}
 use Rattle.plain_run.specs.Session.{answerLine, freshSession, isOver, stateOf}
 use Rattle.plain_io.proofs.run.Statement.{statement}
 use Rattle.plain_io.proofs.run.Tie as tie
 
 -- the output is that of the bytes read
-prints : (c : tie.After-output-of) → Prints (plain (bytesRead (c .before .before .read-all .ensures))) (c .output-of .result)
+prints : (c : tie.After-output-of) → Prints (bytesRead (c .before .before .before .read-all .ensures)) (c .output-of .last .1 .0) (c .output-of .result)
 prints c =
-    let r = c .before .before .read-all in
+    let r = c .before .before .before .read-all in
     c .output-of .ensures (bytesRead (r .ensures)) (read-is-fed isOver answerLine freshSession (stateOf (r .result .input)) (r .result .pieces) (r .result .last) (r .ensures))
 
-array-share-prefix-bytes : tie.Need-array-share-prefix-bytes
-array-share-prefix-bytes c = prints (c .before) .count
-
-slice-aggregate-print : tie.Need-slice-aggregate-print
-slice-aggregate-print c = prints (c .before .before) .counted
+print-requires : tie.Need-print-requires
+print-requires c κs = let p = prints (c .before .before) in (p .count, p .counted)
 
 returns : tie.Need-returns
-returns c = record { read = c .before .before .before .before .before .read-all .ensures; prints = prints (c .before .before .before) }
+returns c = record { read = c .before .before .before .before .before .before .read-all .ensures; prints = prints (c .before .before .before) }
 
 pub run-spec : {M : Type 1} → statement M
 run-spec =
     tie.close
     (tie.spec
     (λ c κs. search needs) (λ c κs. search needs)
-    array-share-prefix-bytes
-    slice-aggregate-print
-    (λ c κs. search needs)
+    print-requires
     returns)

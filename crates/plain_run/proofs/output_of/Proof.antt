@@ -1,7 +1,5 @@
 use borrow.Author.Needs.{needs}
-use Prim.Native.Nat.{ℕ}
 use mathlib.Core.Path.{_∙_, ap}
-use lib.ListN.{length-replicate}
 use Rattle.text_lines.specs.Feed.{finished}
 use Rattle.text_report.proofs.Lengths.{within-more}
 use Rattle.text_report.proofs.PrintedLaws.{printed-as, printed-whole}
@@ -15,13 +13,12 @@ returns : tie.Need-returns
 returns c =
     λ bytes is.
     printed-as
-    (ap output (c .before .before .before .before .before .before .before .before .finish .ensures ∙ ap (finished isOver answerLine) is) ∙ output-is-plain bytes)
-    (printed-whole longestOutput _ _ _ _ (length-replicate {A = ℕ} longestOutput 0) (within-more (c .before .before .before .before .put-answers .ensures) (c .before .put-log .ensures)))
+    (ap output (c .before .before .before .before .before .before .finish .ensures ∙ ap (finished isOver answerLine) is) ∙ output-is-plain bytes)
+    (printed-whole longestOutput _ _ _ _ (c .before .before .before .put-answers-arg .given .0 .1) (within-more (c .before .before .put-answers .ensures) (c .put-log .ensures)))
 
 pub output-of-spec : {M : Type 1} → statement M
 output-of-spec =
     tie.close
     (tie.spec
-    (λ c κs. search needs) (λ c. search needs) (λ c κs. search needs) (λ c. search needs)
-    (λ c κs. search needs)
+    (λ c κs. search needs) (λ c κs. search needs) (λ c κs. search needs)
     returns)

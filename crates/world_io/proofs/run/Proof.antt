@@ -8,26 +8,21 @@ use Rattle.world_io.proofs.run.Statement.{statement}
 use Rattle.world_io.proofs.run.Tie as tie
 
 -- the output is that of the bytes read
-prints : (c : tie.After-output-of) → PrintsAgreed (bytesRead (c .before .before .read-all .ensures)) (c .output-of .result)
+prints : (c : tie.After-output-of) → PrintsAgreed (bytesRead (c .before .before .before .read-all .ensures)) (c .output-of .last .1 .0) (c .output-of .result)
 prints c =
-    let r = c .before .before .read-all in
+    let r = c .before .before .before .read-all in
     c .output-of .ensures (bytesRead (r .ensures)) (read-is-fed over withLine [] (stateOf (r .result .input)) (r .result .pieces) (r .result .last) (r .ensures))
 
-array-share-prefix-bytes : tie.Need-array-share-prefix-bytes
-array-share-prefix-bytes c = prints (c .before) .prints .count
-
-slice-aggregate-print : tie.Need-slice-aggregate-print
-slice-aggregate-print c = prints (c .before .before) .prints .counted
+print-requires : tie.Need-print-requires
+print-requires c κs = let p = prints (c .before .before) .prints in (p .count, p .counted)
 
 returns : tie.Need-returns
-returns c = record { read = c .before .before .before .before .before .read-all .ensures; prints = prints (c .before .before .before) }
+returns c = record { read = c .before .before .before .before .before .before .read-all .ensures; prints = prints (c .before .before .before) }
 
 pub run-spec : {M : Type 1} → statement M
 run-spec =
     tie.close
     (tie.spec
     (λ c κs. search needs) (λ c κs. search needs)
-    array-share-prefix-bytes
-    slice-aggregate-print
-    (λ c κs. search needs)
+    print-requires
     returns)

@@ -1,6 +1,4 @@
 use borrow.Author.Needs.{needs}
-use Prim.Native.Nat.{ℕ}
-use lib.ListN.{length-replicate}
 use Rattle.text_report.proofs.Lengths.{within-more}
 use Rattle.text_report.proofs.PrintedLaws.{printed-as, printed-whole}
 use Rattle.world_run.specs.Ran.{longestOutput}
@@ -10,13 +8,13 @@ use Rattle.world_run.proofs.output_of.Tie as tie
 
 returns : tie.Need-returns
 returns c =
-    let s = c .before .before .before .before .before .before .before .before .run-fed in
+    let s = c .before .before .before .before .before .before .run-fed in
     λ bytes is.
     record {
       prints =
           printed-as
           (agreed-prints bytes (s .result) (s .ensures bytes is))
-          (printed-whole longestOutput _ _ _ _ (length-replicate {A = ℕ} longestOutput 0) (within-more (c .before .before .before .before .put-answers .ensures) (c .before .put-world .ensures)));
+          (printed-whole longestOutput _ _ _ _ (c .before .before .before .put-answers-arg .given .0 .1) (within-more (c .before .before .put-answers .ensures) (c .put-world .ensures)));
       demand-3 = input-agrees bytes;
     }
 
@@ -24,6 +22,5 @@ pub output-of-spec : {M : Type 1} → statement M
 output-of-spec =
     tie.close
     (tie.spec
-    (λ c κs. search needs) (λ c. search needs) (λ c κs. search needs) (λ c. search needs)
-    (λ c κs. search needs)
+    (λ c κs. search needs) (λ c κs. search needs) (λ c κs. search needs)
     returns)

@@ -13,11 +13,11 @@ use Rattle.world_report.proofs.coordinators.put_coordinators.Statement.
 use Rattle.world_report.proofs.coordinators.put_coordinators.Tie as tie
 
 abbrev Inv-loop : tie.InvT-loop
-Inv-loop out₀ at cs logs to₀ i₀ out to i =
-    Put coordinators longestCoordinator (λ k. coordinatorText k (getD cs k freshCoordinator) (getD logs k emptyLog)) out₀ at out to i
+Inv-loop out₀ at₀ cs logs i₀ out at i =
+    Put coordinators longestCoordinator (λ k. coordinatorText k (getD cs k freshCoordinator) (getD logs k emptyLog)) out₀ at₀ out at i
 
 abbrev μ-loop : tie.MeasureT-loop
-μ-loop out₀ at cs logs to₀ i₀ out to i = coordinators - i
+μ-loop out₀ at₀ cs logs i₀ out at i = coordinators - i
 
 loop-again : tie.Need-loop-again Inv-loop μ-loop
 loop-again c =

@@ -12,11 +12,11 @@ use Rattle.world_report.proofs.processes.put_all_heard.Statement.{state
 use Rattle.world_report.proofs.processes.put_all_heard.Tie as tie
 
 abbrev Inv-loop : tie.InvT-loop
-Inv-loop out₀ at ps to₀ i₀ out to i =
-    Put processes longestHeard (λ j. heardText (suc j) (getD ps (suc j) freshProcess)) out₀ at out to i
+Inv-loop out₀ at₀ ps i₀ out at i =
+    Put processes longestHeard (λ j. heardText (suc j) (getD ps (suc j) freshProcess)) out₀ at₀ out at i
 
 abbrev μ-loop : tie.MeasureT-loop
-μ-loop out₀ at ps to₀ i₀ out to i = processes - i
+μ-loop out₀ at₀ ps i₀ out at i = processes - i
 
 loop-again : tie.Need-loop-again Inv-loop μ-loop
 loop-again c =

@@ -12,11 +12,11 @@ use Rattle.world_report.proofs.processes.put_heard.Statement.{statement
 use Rattle.world_report.proofs.processes.put_heard.Tie as tie
 
 abbrev Inv-loop : tie.InvT-loop
-Inv-loop out₀ at proc p to₀ i₀ out to i =
-    Put transactions longestLine (λ tx. outcomeText proc tx (getD (p .heard) tx (record { outcome = Open }) .outcome)) out₀ at out to i
+Inv-loop out₀ at₀ proc p i₀ out at i =
+    Put transactions longestLine (λ tx. outcomeText proc tx (getD (p .heard) tx (record { outcome = Open }) .outcome)) out₀ at₀ out at i
 
 abbrev μ-loop : tie.MeasureT-loop
-μ-loop out₀ at proc p to₀ i₀ out to i = transactions - i
+μ-loop out₀ at₀ proc p i₀ out at i = transactions - i
 
 pub put-heard-spec : {M : Type 1} → statement M
 put-heard-spec =

@@ -13,11 +13,11 @@ use Rattle.world_report.proofs.processes.put_restores.Statement.{statem
 use Rattle.world_report.proofs.processes.put_restores.Tie as tie
 
 abbrev Inv-loop : tie.InvT-loop
-Inv-loop out₀ at ps replays to₀ i₀ out to i =
-    Put processes longestRestore (λ j. restoreText (suc j) (getD ps (suc j) freshProcess) (getD replays (suc j) noReplay)) out₀ at out to i
+Inv-loop out₀ at₀ ps replays i₀ out at i =
+    Put processes longestRestore (λ j. restoreText (suc j) (getD ps (suc j) freshProcess) (getD replays (suc j) noReplay)) out₀ at₀ out at i
 
 abbrev μ-loop : tie.MeasureT-loop
-μ-loop out₀ at ps replays to₀ i₀ out to i = processes - i
+μ-loop out₀ at₀ ps replays i₀ out at i = processes - i
 
 loop-again : tie.Need-loop-again Inv-loop μ-loop
 loop-again c =
