@@ -31,13 +31,14 @@ fn ballot_barred(n: u8, k: Coordinator, coord: u8, inst: u8, ballot: u8) -> bool
         | ((inst != k.applied) | (parties::owner(ballot) != coord) | (ballot <= k.round.ballot))
 }
 
-fn open_refusal(n: u8, sent: u8, d: Down, k: Coordinator, coord: u8, inst: u8, ballot: u8) -> u8
-    ensures { λ r. ⌜ r ≡ firstOf (tests false (isDown d Coord coord) (eqb n 0 || cannotOpen k coord inst ballot) (lacksNumbers sent n) false) ⌝ }
+// The answer to coordinator coord where it is to send to each of n acceptors. `barred`: 5 applies.
+fn refusal_to(n: u8, sent: u8, d: Down, coord: u8, barred: bool) -> u8
+    ensures { λ r. ⌜ r ≡ firstOf (tests false (isDown d Coord coord) barred (lacksNumbers sent n) false) ⌝ }
 {
     refusal::first_of(Tests {
         unsent: false,
         down: parties::is_down(d, Role::Coord, coord),
-        unmet: ballot_barred(n, k, coord, inst, ballot),
+        unmet: barred,
         full: send::lacks_numbers(sent, n),
         ill: false,
     })
@@ -46,15 +47,8 @@ fn open_refusal(n: u8, sent: u8, d: Down, k: Coordinator, coord: u8, inst: u8, b
 pub fn open(mut p: Parts, coord: u8, inst: u8, ballot: u8) -> Change
     ensures { λ r. ⌜ r ≡ planOf p (Open coord inst ballot) ⌝ }
 {
-    let answer = open_refusal(
-        p.acceptors,
-        p.sent,
-        p.down,
-        p.coordinator,
-        coord,
-        inst,
-        ballot,
-    );
+    let barred = ballot_barred(p.acceptors, p.coordinator, coord, inst, ballot);
+    let answer = refusal_to(p.acceptors, p.sent, p.down, coord, barred);
     if answer != 0 {
         return changes::without_messages(p, answer);
     }
@@ -76,30 +70,11 @@ fn proposal_barred(n: u8, k: Coordinator, inst: u8, ballot: u8) -> bool
             | ((k.round.accepted == 0) & (k.queue.count == 0)))
 }
 
-fn propose_refusal(n: u8, sent: u8, d: Down, k: Coordinator, coord: u8, inst: u8, ballot: u8) -> u8
-    ensures { λ r. ⌜ r ≡ firstOf (tests false (isDown d Coord coord) (eqb n 0 || cannotPropose n k inst ballot) (lacksNumbers sent n) false) ⌝ }
-{
-    refusal::first_of(Tests {
-        unsent: false,
-        down: parties::is_down(d, Role::Coord, coord),
-        unmet: proposal_barred(n, k, inst, ballot),
-        full: send::lacks_numbers(sent, n),
-        ill: false,
-    })
-}
-
 pub fn propose(mut p: Parts, coord: u8, inst: u8, ballot: u8) -> Change
     ensures { λ r. ⌜ r ≡ planOf p (Propose coord inst ballot) ⌝ }
 {
-    let answer = propose_refusal(
-        p.acceptors,
-        p.sent,
-        p.down,
-        p.coordinator,
-        coord,
-        inst,
-        ballot,
-    );
+    let barred = proposal_barred(p.acceptors, p.coordinator, inst, ballot);
+    let answer = refusal_to(p.acceptors, p.sent, p.down, coord, barred);
     if answer != 0 {
         return changes::without_messages(p, answer);
     }

@@ -85,45 +85,44 @@ pub fn request(p: Parts, e: Entry, to: u8) -> Change
     changes::sending(p, 1, message::request_to(to, e))
 }
 
-fn tell_refusal(n: u8, sent: u8, d: Down, m: Message, coord: u8, process: u8) -> u8
-    ensures { λ r. ⌜ r ≡ firstOf (tests false (isDown d Coord coord || isDown d Proc process) (eqb n 0 || isOpen (m .outcome)) (lacksNumbers sent 1) false) ⌝ }
+// The answer to a coordinator that is to send the process a message. `barred`: 5 applies, setup or
+// not.
+fn refusal_to(n: u8, sent: u8, d: Down, coord: u8, process: u8, barred: bool) -> u8
+    ensures { λ r. ⌜ r ≡ firstOf (tests false (isDown d Coord coord || isDown d Proc process) (eqb n 0 || barred) (lacksNumbers sent 1) false) ⌝ }
 {
-    let o = m.outcome;
     refusal::first_of(Tests {
         unsent: false,
         down: either_down(d, coord, process),
-        unmet: (n == 0) | o.is_open(),
+        unmet: (n == 0) | barred,
         full: send::lacks_numbers(sent, 1),
         ill: false,
     })
 }
 
+// Whether the transaction of the message is not decided.
+fn undecided(m: Message) -> bool
+    ensures { λ r. ⌜ r ≡ isOpen (m .outcome) ⌝ }
+{
+    let o = m.outcome;
+    o.is_open()
+}
+
 pub fn tell(p: Parts, coord: u8, process: u8, tx: u8) -> Change
     ensures { λ r. ⌜ r ≡ planOf p (Tell coord process tx) ⌝ }
 {
-    let answer = tell_refusal(p.acceptors, p.sent, p.down, p.message, coord, process);
+    let open = undecided(p.message);
+    let answer = refusal_to(p.acceptors, p.sent, p.down, coord, process, open);
     if answer != 0 {
         return changes::without_messages(p, answer);
     }
     changes::sending(p, 1, p.message)
 }
 
-fn restore_refusal(n: u8, sent: u8, d: Down, store: u8, coord: u8, process: u8) -> u8
-    ensures { λ r. ⌜ r ≡ firstOf (tests false (isDown d Coord coord || isDown d Proc process) (eqb n 0 || leb stores store) (lacksNumbers sent 1) false) ⌝ }
-{
-    refusal::first_of(Tests {
-        unsent: false,
-        down: either_down(d, coord, process),
-        unmet: (n == 0) | (STORES <= store),
-        full: send::lacks_numbers(sent, 1),
-        ill: false,
-    })
-}
-
 pub fn restore(p: Parts, coord: u8, process: u8) -> Change
     ensures { λ r. ⌜ r ≡ planOf p (Restore coord process) ⌝ }
 {
-    let answer = restore_refusal(p.acceptors, p.sent, p.down, p.message.store, coord, process);
+    let unheld = STORES <= p.message.store;
+    let answer = refusal_to(p.acceptors, p.sent, p.down, coord, process, unheld);
     if answer != 0 {
         return changes::without_messages(p, answer);
     }

@@ -10,13 +10,15 @@ use Rattle.world_requests.proofs.tell.Tie as tie
 
 returns : tie.Need-returns
 unfolding planOf stepChecks firstRefusal
-returns c = let a = c .before .before .before .args in c .without-messages .ensures ∙ refused-is _ _ _ (changeOf (a .p) (Tell (a .coord) (a .process) (a .tx))) (c .before .before .tell-refusal .ensures) (c .before .if1 .taken)
+returns c =
+    let a = c .before .before .before .before .args in
+    c .without-messages .ensures ∙ refused-is _ _ _ (changeOf (a .p) (Tell (a .coord) (a .process) (a .tx))) (rw (c .before .before .before .undecided .ensures) at (c .before .before .refusal-to .ensures)) (c .before .if1 .taken)
 
 returns-2 : tie.Need-returns-2
 unfolding planOf stepChecks firstRefusal changeOf
 returns-2 c =
-    let a = c .before .before .before .args in
-    c .sending .ensures ∙ done-is (a .p) _ _ _ (c .before .before .tell-refusal .ensures) (c .before .if1 .left)
+    let a = c .before .before .before .before .args in
+    c .sending .ensures ∙ done-is (a .p) _ _ _ (rw (c .before .before .before .undecided .ensures) at (c .before .before .refusal-to .ensures)) (c .before .if1 .left)
 
 pub tell-spec : {M : Type 1} → statement M
-tell-spec = tie.close (tie.spec (λ c κs. search needs) (λ c κs. search needs) returns (λ c κs. search needs) returns-2)
+tell-spec = tie.close (tie.spec (λ c κs. search needs) (λ c κs. search needs) (λ c κs. search needs) returns (λ c κs. search needs) returns-2)
