@@ -1,12 +1,19 @@
 -- What a gathered line does, by its reading.
 use Prim.Native.Nat.{ℕ, _≤_, _<_}
-use mathlib.Core.Path.{_≡_, sym, ap}
+use native.Mathlib.Omega.{arith}
+use mathlib.Core.List.{[], _∷_}
+use mathlib.Core.Logic.{inl, inr}
+use mathlib.Core.Path.{_≡_, refl, sym, ap}
 use borrow.Author.Tests.{le-leb, le-ltb, lt-leb, lt-ltb}
+use denote.Enum.Declared.{tagOf}
+use types.Run.{OneOf}
 use Rattle.log_entry.specs.Refusal.{noPlace, unreadable}
 use Rattle.log_core.specs.declared.Log.{Log}
 use Rattle.log_core.specs.Enter.{answered}
 use Rattle.text_entry.specs.declared.Reading.{Reading}
+use Rattle.text_entry.specs.declared.Reading.the-variants.{Read, Outside, Unreadable}
 use Rattle.text_entry.specs.Entry.{reading}
+use Rattle.text_entry.proofs.Reading.{the-type as reading-type}
 use Rattle.text_lines.specs.declared.Line.{Line}
 use Rattle.text_lines.specs.Line.{bytesOf}
 use Rattle.text_lines.specs.Lines.{maxLineBytes, maxLines}
@@ -28,3 +35,11 @@ module _ (l : Log) (line : Line) where
 
     pub usual-line : count < maxLines → enterHeld l line ≡ lineEntered l count line
     usual-line h = rw (lt-leb maxLines count h)
+
+-- a reading that is neither `Outside` nor `Read`
+pub neither : (r : Reading) → OneOf (0 ∷ 2 ∷ []) (tagOf reading-type r) → OneOf (1 ∷ 2 ∷ []) (tagOf reading-type r) → r ≡ Unreadable
+neither (Read e) a (inl b) = absurd (let z : ⊥ = omega arith in z)
+neither (Read e) a (inr b) = absurd (let z : ⊥ = omega arith in z)
+neither Outside (inl a) b = absurd (let z : ⊥ = omega arith in z)
+neither Outside (inr a) b = absurd (let z : ⊥ = omega arith in z)
+neither Unreadable a b = refl

@@ -58,13 +58,16 @@ fn command_at(count: u16, line: Line) -> Command
     }
     let n = line.length as usize;
     let bytes = line.bytes;
-    match text_entry::read_entry(&bytes[..n]) {
-        Reading::Read(entry) => Command {
-            refused: ACCEPTED,
-            entry,
-        },
-        Reading::Outside => refuse(OUTSIDE_LIMITS),
-        Reading::Unreadable => refuse(UNREADABLE),
+    let reading = text_entry::read_entry(&bytes[..n]);
+    if let Reading::Outside = reading {
+        return refuse(OUTSIDE_LIMITS);
+    }
+    let Reading::Read(entry) = reading else {
+        return refuse(UNREADABLE);
+    };
+    Command {
+        refused: ACCEPTED,
+        entry,
     }
 }
 

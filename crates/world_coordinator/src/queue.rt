@@ -1,6 +1,5 @@
 // A coordinator's queue.
 ghost use mathlib.Core.Path.{_≡_};
-ghost use Rattle.model_protocol.specs.Batch.{entriesOf};
 ghost use Rattle.model_protocol.specs.Queue.{firstBatch, isFull, isIn, leftBy, queued};
 ghost use Rattle.model_protocol.specs.Queue.{joining};
 use crate::limits::least;
@@ -61,21 +60,6 @@ pub fn first_batch(queue: Queue) -> Batch
     }
 }
 
-// Whether an equal entry is in the learned batch.
-fn is_learned(batch: Batch, e: Entry) -> bool
-    ensures { λ r. ⌜ r ≡ isIn e (entriesOf batch) ⌝ }
-{
-    let learned = least(batch.count, BATCH_ENTRIES);
-    let mut j: u8 = 0;
-    while j < learned {
-        if e.same(batch.entries[j as usize]) {
-            return true;
-        }
-        j += 1;
-    }
-    false
-}
-
 // Queue entries equal to an entry of the learned batch leave, the rest keep their order.
 pub fn left_by(queue: Queue, batch: Batch) -> Queue
     ensures { λ r. ⌜ r ≡ leftBy queue batch ⌝ }
@@ -83,13 +67,19 @@ pub fn left_by(queue: Queue, batch: Batch) -> Queue
     let blank = no_entry();
     let mut entries = [blank; QUEUE_PLACES];
     let waiting = least(queue.count, QUEUE_ENTRIES);
+    let learned = least(batch.count, BATCH_ENTRIES);
     let mut n: u8 = 0;
     let mut i: u8 = 0;
-    while i < waiting {
+    'queue: while i < waiting {
         let e = queue.entries[i as usize];
         i += 1;
-        if is_learned(batch, e) {
-            continue;
+        let mut j: u8 = 0;
+        while j < learned {
+            let f = batch.entries[j as usize];
+            if e.same(f) {
+                continue 'queue;
+            }
+            j += 1;
         }
         entries[n as usize] = e;
         n += 1;

@@ -42,13 +42,16 @@ fn command_of(line: Line) -> Command
     }
     let n = line.length as usize;
     let bytes = line.bytes;
-    match text_step::read_step(&bytes[..n]) {
-        Reading::Read(step) => Command {
-            refused: ACCEPTED,
-            step,
-        },
-        Reading::Outside => refuse(OUTSIDE_LIMITS),
-        Reading::Unreadable => refuse(UNREADABLE),
+    let reading = text_step::read_step(&bytes[..n]);
+    if let Reading::Outside = reading {
+        return refuse(OUTSIDE_LIMITS);
+    }
+    let Reading::Read(step) = reading else {
+        return refuse(UNREADABLE);
+    };
+    Command {
+        refused: ACCEPTED,
+        step,
     }
 }
 
