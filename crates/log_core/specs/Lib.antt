@@ -1,5 +1,6 @@
 pub mod Decide
 pub mod Enter
+pub mod Follow
 pub mod Group
 pub mod Log
 pub mod Refusal

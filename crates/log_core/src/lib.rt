@@ -9,6 +9,7 @@ use log_votes::Tally;
 
 pub mod decide;
 pub mod enter;
+pub mod follow;
 pub mod group;
 pub mod query;
 pub mod refusal;

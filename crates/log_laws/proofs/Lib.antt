@@ -32,5 +32,6 @@ pub mod Sizes
 pub mod Stays
 pub mod Steps
 pub mod TakenBefore
+pub mod TakenOver
 pub mod Theorems
 pub mod WellFormed

@@ -7,6 +7,7 @@ use Rattle.log_laws.specs.Groups.{BegunByCommit, FirstCommitBegins, Grou
 use Rattle.log_laws.specs.Holders.{AcceptedTakeHolds, HoldsAtMostOneStore, LostStoreNeverAgain}
 use Rattle.log_laws.specs.Involvement.{InvolvementExactly}
 use Rattle.log_laws.specs.Replays.{ReplayListsExactly, ReplayListsOnce, ReplayOrdered}
+use Rattle.log_laws.specs.TakenOver.{AwaitedExactly, LostStoreVotesNoMore, ReplayedOrAwaited, RowStaysCommitted}
 use Rattle.log_laws.specs.Votes.{AcceptedVoteIsKept, CommitVotesNameOneList, CommittedKeepsNoVote, CommittedRowStays, KeptVoteStays, OutcomeAbortIff, OutcomeCommitIff, OutcomeNeverChanges, RunningExactly}
 use Rattle.log_laws.proofs.AcceptedClaims.{take-holds, vote-is-kept}
 use Rattle.log_laws.proofs.AnswerClaims.{refused-same, take-exactly, vote-exactly}
@@ -23,6 +24,7 @@ use Rattle.log_laws.proofs.Remembered.{remembered-stays, remembers-runn
 use Rattle.log_laws.proofs.ReplayClaims.{lists-exactly, lists-once, ordered}
 use Rattle.log_laws.proofs.Stays.{no-vote-kept, one-list-named, outcome-stays, row-stays, vote-stays}
 use Rattle.log_laws.proofs.TakenBefore.{held-exactly}
+use Rattle.log_laws.proofs.TakenOver
 
 pub outcome-commit-iff : OutcomeCommitIff
 outcome-commit-iff = commit-iff
@@ -107,6 +109,18 @@ vote-answer-exactly = vote-exactly
 
 pub take-answer-exactly : TakeAnswerExactly
 take-answer-exactly = take-exactly
+
+pub awaited-exactly : AwaitedExactly
+awaited-exactly = TakenOver.awaited-exactly
+
+pub lost-store-votes-no-more : LostStoreVotesNoMore
+lost-store-votes-no-more = TakenOver.votes-no-more
+
+pub replayed-or-awaited : ReplayedOrAwaited
+replayed-or-awaited = TakenOver.replayed-or-awaited
+
+pub row-stays-committed : RowStaysCommitted
+row-stays-committed = TakenOver.row-stays-committed
 
 pub refused-entry-changes-nothing : RefusedEntryChangesNothing
 refused-entry-changes-nothing = refused-same

@@ -7,4 +7,5 @@ pub mod Holders
 pub mod Involvement
 pub mod Reached
 pub mod Replays
+pub mod TakenOver
 pub mod Votes
