@@ -5,7 +5,7 @@
 mod plain_log;
 mod step_file;
 
-use plain_log::{Entry, Log, Outcome, STORES};
+use plain_log::{Entry, Log, Outcome, Vote, STORES, TRANSACTIONS};
 use std::io::Write;
 use step_file::{answers, print_log, print_rows, program, step, Fields, Row};
 
@@ -45,7 +45,15 @@ enum Message {
     Accept { acceptor: u8, inst: u8, ballot: u8, batch: Batch },
     Acceptance { acceptor: u8, inst: u8, ballot: u8 },
     Outcome { process: u8, tx: u8, outcome: Outcome },
-    Restore { process: u8, store: u8, position: u8, rows: Vec<Row> },
+    Restore { process: u8, store: u8, position: u8, rows: Vec<Row>, running: u32 },
+    Follow { process: u8, store: u8, tx: u8, followed: Followed },
+}
+
+/// What a follow says of its transaction.
+#[derive(Clone, Copy)]
+struct Followed {
+    outcome: Outcome,
+    update: u32,
 }
 
 impl Message {
@@ -58,9 +66,9 @@ impl Message {
             Message::Promise { ballot, .. } | Message::Acceptance { ballot, .. } => {
                 (Role::Coord, ballot % 3)
             }
-            Message::Outcome { process, .. } | Message::Restore { process, .. } => {
-                (Role::Process, process)
-            }
+            Message::Outcome { process, .. }
+            | Message::Restore { process, .. }
+            | Message::Follow { process, .. } => (Role::Process, process),
         }
     }
 }
@@ -131,18 +139,41 @@ impl Coordinator {
 
 #[derive(Default)]
 struct Process {
-    heard: [Option<Outcome>; 32],
+    heard: [Option<Outcome>; TRANSACTIONS],
     store: Option<u8>,
     position: u8,
     rows: Vec<Row>,
+    running: u32, // the transactions that the restore lists, as bits
+    follows: [Option<Followed>; TRANSACTIONS],
 }
 
 impl Process {
-    fn restore(&mut self, store: u8, position: u8, rows: &Vec<Row>) {
+    fn restore(&mut self, store: u8, position: u8, rows: &Vec<Row>, running: u32) {
         if position > self.position {
             self.store = Some(store);
             self.position = position;
             self.rows.clone_from(rows);
+            self.running = running;
+            self.follows = [None; TRANSACTIONS];
+        }
+    }
+
+    fn follow(&mut self, store: u8, tx: u8, followed: Followed) {
+        if self.store == Some(store) && self.running >> tx & 1 == 1 {
+            self.follows[tx as usize].get_or_insert(followed);
+        }
+    }
+
+    /// The transactions that the restore lists, and the follows taken since.
+    fn print_follows(&self, out: &mut Vec<u8>) {
+        for tx in (0..TRANSACTIONS).filter(|tx| self.running >> tx & 1 == 1) {
+            writeln!(out, "running={tx}").unwrap();
+        }
+        for (tx, followed) in self.follows.iter().enumerate() {
+            if let Some(Followed { outcome, update }) = followed {
+                writeln!(out, "follow={} outcome={} upd={:08x}", tx, outcome.word(), update)
+                    .unwrap();
+            }
         }
     }
 }
@@ -162,6 +193,7 @@ enum Step {
     Deliver { msg: u8 },
     Tell { coord: u8, process: u8, tx: u8 },
     Restore { coord: u8, process: u8 },
+    Follow { coord: u8, process: u8, tx: u8 },
     Crash { role: Role, id: u8 },
 }
 
@@ -187,6 +219,21 @@ fn majority(heard: u8, acceptors: u8) -> bool {
     2 * heard.count_ones() > acceptors as u32
 }
 
+fn store_of(log: &Log, process: u8) -> Option<u8> {
+    (0..STORES as u8).find(|&s| log.holder(s) == process)
+}
+
+fn commit_vote(log: &Log, tx: u8, store: u8) -> Option<Vote> {
+    log.kept(tx, store).filter(|vote| vote.commit)
+}
+
+/// The transactions that run with a kept commit vote of the store, as bits.
+fn awaited(log: &Log, store: u8) -> u32 {
+    (0..TRANSACTIONS as u8)
+        .filter(|&tx| commit_vote(log, tx, store).is_some() && log.outcome(tx) == Outcome::Open)
+        .fold(0, |set, tx| set | 1 << tx)
+}
+
 impl World {
     fn is_down(&self, role: Role, id: u8) -> bool {
         self.down[role as usize] >> id & 1 == 1
@@ -209,6 +256,7 @@ impl World {
             Step::Deliver { msg } => self.deliver(msg as usize),
             Step::Tell { coord, process, tx } => self.tell(coord, process, tx),
             Step::Restore { coord, process } => self.restore(coord, process),
+            Step::Follow { coord, process, tx } => self.follow(coord, process, tx),
             Step::Crash { role, id } => {
                 refuse(3, self.is_down(role, id))?;
                 refuse(5, self.acceptors == 0)?;
@@ -309,8 +357,11 @@ impl World {
             Message::Outcome { tx, outcome, .. } => {
                 self.processes[id as usize].heard[*tx as usize] = Some(*outcome)
             }
-            Message::Restore { store, position, rows, .. } => {
-                self.processes[id as usize].restore(*store, *position, rows);
+            Message::Restore { store, position, rows, running, .. } => {
+                self.processes[id as usize].restore(*store, *position, rows, *running);
+            }
+            &Message::Follow { store, tx, followed, .. } => {
+                self.processes[id as usize].follow(store, tx, followed);
             }
         }
         Ok(())
@@ -329,14 +380,29 @@ impl World {
         let c = &self.coordinators[coord as usize];
         refuse(3, self.is_down(Role::Coord, coord) || self.is_down(Role::Process, process))?;
         refuse(5, self.acceptors == 0)?;
-        let store = (0..STORES as u8).find(|&s| c.log.holder(s) == process).ok_or(5u32)?;
+        let store = store_of(&c.log, process).ok_or(5u32)?;
         refuse(6, self.is_full(1))?;
         self.messages.push(Message::Restore {
             process,
             store,
             position: c.applied,
             rows: c.log.replay(store),
+            running: awaited(&c.log, store),
         });
+        Ok(())
+    }
+
+    fn follow(&mut self, coord: u8, process: u8, tx: u8) -> Result<(), u32> {
+        let log = &self.coordinators[coord as usize].log;
+        refuse(3, self.is_down(Role::Coord, coord) || self.is_down(Role::Process, process))?;
+        let outcome = log.outcome(tx);
+        refuse(5, self.acceptors == 0 || outcome == Outcome::Open)?;
+        let store = store_of(log, process).ok_or(5u32)?;
+        let vote = commit_vote(log, tx, store).ok_or(5u32)?;
+        refuse(6, self.is_full(1))?;
+        let update = if outcome == Outcome::Commit { vote.update } else { 0 };
+        let followed = Followed { outcome, update };
+        self.messages.push(Message::Follow { process, store, tx, followed });
         Ok(())
     }
 
@@ -356,6 +422,7 @@ impl World {
             if let Some(store) = p.store {
                 writeln!(out, "proc={} store={} position={}", i, store, p.position).unwrap();
                 print_rows(out, store, &p.rows);
+                p.print_follows(out);
             }
         }
     }
@@ -364,7 +431,7 @@ impl World {
 impl Step {
     fn read(fields: &mut Fields, acceptors: u8) -> Option<Step> {
         // the most frequent first
-        const KINDS: [(&[u8], u8); 9] = [
+        const KINDS: [(&[u8], u8); 10] = [
             (b"deliver", 5),
             (b"take", 0),
             (b"vote", 1),
@@ -373,10 +440,12 @@ impl Step {
             (b"propose", 4),
             (b"tell", 6),
             (b"restore", 7),
-            (b"crash", 8),
+            (b"follow", 8),
+            (b"crash", 9),
         ];
         let coord = |fields: &mut Fields| fields.decimal(b" coord=", 0..=2);
         let process = |fields: &mut Fields| fields.decimal(b" proc=", 1..=15);
+        let tx = |fields: &mut Fields| fields.decimal(b" tx=", 0..=31);
         let ballot = |fields: &mut Fields| -> Option<(u8, u8, u8)> {
             Some((
                 coord(fields)?,
@@ -401,12 +470,9 @@ impl Step {
                 Step::Propose { coord, inst, ballot }
             }
             5 => Step::Deliver { msg: fields.decimal(b" msg=", 0..=127)? },
-            6 => Step::Tell {
-                coord: coord(fields)?,
-                process: process(fields)?,
-                tx: fields.decimal(b" tx=", 0..=31)?,
-            },
+            6 => Step::Tell { coord: coord(fields)?, process: process(fields)?, tx: tx(fields)? },
             7 => Step::Restore { coord: coord(fields)?, process: process(fields)? },
+            8 => Step::Follow { coord: coord(fields)?, process: process(fields)?, tx: tx(fields)? },
             _ => Step::read_crash(fields, acceptors)?,
         })
     }

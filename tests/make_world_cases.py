@@ -7,14 +7,14 @@ world_by_hand.py have their output reasoned by hand: where the reference differs
 written."""
 import case_files
 import world_reference as reference
-from plain_log import FORMS, joined as lines
+from plain_log import FORMS, TXS, joined as lines
 from world_by_hand import BY_HAND, parts
-from world_random import guided_script, random_script
+from world_random import followed_script, guided_script, random_script
 from world_script import Script, step
 
 GOOD = {
     "setup": (3,), "take": (1, 0, 0), "vote": (1, 0, 0, 4, "01", "commit", "0000000a", 0), "open": (1, 0, 25), "propose": (1, 0, 25),
-    "deliver": (12,), "tell": (1, 12, 31), "restore": (1, 12), "crash": ("acceptor", 1),
+    "deliver": (12,), "tell": (1, 12, 31), "restore": (1, 12), "follow": (1, 12, 31), "crash": ("acceptor", 1),
 }
 
 
@@ -77,7 +77,7 @@ def reading_cases():
         "do=vote proc=1 by=0 store=0 tx=0 list=001 say=commit upd=00000000 to=0", "do=vote proc=1 by=0 store=0 tx=0 list=FF say=commit upd=00000000 to=0",
         "do=vote proc=1 by=0 store=0 tx=0 list=01 say=commit upd=000000000 to=0", "do=vote proc=1 by=0 store=0 tx=0 list=01 say=commit upd=0000000A to=0",
         "do=crash role=acceptors id=0", "do=crash role=coordinator id=0", "do=crash role=process id=1", "do=crash role= id=1", "do=crash id=1 role=proc",
-        "do=follow coord=0 proc=1 tx=0", "do=back proc=1 turn=2", "do=setup acceptors=three", "do=setup acceptors=3,5", "do=deliver msg=0x1",
+        "do=followed coord=0 proc=1 tx=0", "do=follow coord=0 proc=1", "do=back proc=1 turn=2", "do=setup acceptors=three", "do=setup acceptors=3,5", "do=deliver msg=0x1",
         "\ufeffdo=setup acceptors=3", "do=setup acceptors=３", "do=setup acceptors=3"))
 
 
@@ -141,6 +141,7 @@ def sweep(script):
             script.restore(c, p)
             for tx in (0, 9, 31):
                 script.tell(c, p, tx)
+                script.follow(c, p, tx)
     for acceptors in (3, 5):
         script.setup(acceptors)
     for role, top in (("acceptor", 5), ("coord", 3), ("proc", 16)):
@@ -213,6 +214,7 @@ def last_number_steps():
     yield "accept", 3, 1, proposed, lambda s: s.deliver(s.first[2])
     yield "tell", 3, 1, decided, lambda s: s.tell(0, 2, 4)
     yield "restore", 3, 1, decided, lambda s: s.restore(0, 1)
+    yield "follow", 3, 1, decided, lambda s: s.follow(0, 1, 4)
 
 
 def last_number_cases():
@@ -363,6 +365,36 @@ def groups():
     yield "groups", script.data()
 
 
+def every_transaction_running():
+    script = Script()
+    script.hold((1, 0))
+    for tx in range(TXS):  # store 1 never votes
+        script.queue(script.commit(1, 0, tx, "03", tx))
+        if tx % 4 == 3:
+            script.learn(0, 3)
+    script.deliver(*script.restore(0, 1))  # lists all
+    script.follow(0, 1, 0)
+    script.follow(0, 1, 31)
+    yield "every-transaction-running", script.data()
+
+
+def many_follows():
+    script = Script()
+    script.hold((1, 0), (2, 1))
+    txs = [0, 1, 2, 3, 9, 10, 11, 19, 28, 29, 30, 31]
+    entries = [(script.commit, 1, 0, tx, "03", 0xffffffff - tx) for tx in txs] + [(script.take, 3, 0)]
+    entries += [(script.commit, 2, 1, tx, "03", tx) if tx % 3 else (script.abort, 2, 1, 1, tx, "03") for tx in txs]
+    for at, (send, *values) in enumerate(entries, 1):
+        script.queue(send(*values))
+        if at % 4 == 0 or at == len(entries):
+            script.learn(0, 3)
+        if at == 16:  # three are decided, nine run
+            script.deliver(*script.restore(0, 3))
+    follows = [number for tx in txs for number in script.follow(0, 3, tx)]
+    script.deliver(*reversed(follows))
+    yield "many-follows", script.data()
+
+
 def sender_down():
     script = Script()
     script.crash("coord", 1)
@@ -429,7 +461,7 @@ def full_queues():
 TRAFFIC = (
     most_instances, eight_stores_two_down, outbid, learned_by_three_and_all_again,
     everything_thrice, everything_backwards, takeovers, restores_of_three_stores, groups,
-    sender_down, equal_entries, batch_of_another, entries_that_differ_in_one_value, full_queues,
+    every_transaction_running, many_follows, sender_down, equal_entries, batch_of_another, entries_that_differ_in_one_value, full_queues,
 )
 
 
@@ -443,6 +475,7 @@ def random_cases():
         yield "random-%d" % seed, random_script(seed).data()
     for seed in range(10):
         yield "guided-%d" % seed, guided_script(seed).data()
+        yield "followed-%d" % seed, followed_script(seed).data()
 
 
 def cases():

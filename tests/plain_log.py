@@ -71,6 +71,10 @@ class Log:
     def votes(self, tx):
         return [self.kept[t, s] for t, s in sorted(self.kept) if t == tx]
 
+    def has_commit(self, tx, store):
+        """The store has a kept commit vote on the transaction."""
+        return (tx, store) in self.kept and self.kept[tx, store].commit
+
     def outcome(self, tx):
         votes = self.votes(tx)
         if not all(v.commit for v in votes):
@@ -84,6 +88,10 @@ class Log:
         if any(store in v.stores for v in votes):
             return "yes"
         return "no" if any(v.commit for v in votes) else "unknown"
+
+    def running(self):
+        """The transactions that run."""
+        return [tx for tx in self.txs() if self.outcome(tx) == "open"]
 
     def group(self, tx):
         """0 if it has none."""
@@ -110,7 +118,7 @@ class Log:
         if isinstance(entry, Take):
             self.holders[entry.store].append(entry.process)
             return 0
-        running = {tx for tx in self.txs() if self.outcome(tx) == "open"}
+        running = self.running()
         self.kept[entry.tx, entry.store] = entry
         if self.outcome(entry.tx) == "commit":
             if self.groups and entry.tx in self.groups[-1][1]:

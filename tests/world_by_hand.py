@@ -1,5 +1,5 @@
-"""Step files for `world` with every answer and the report reasoned by hand from document 01: a
-check on world_reference.py.
+"""Step files for `world` with every answer and the report reasoned by hand from documents 01 and
+02: a check on world_reference.py.
 
 A row is a step, its answer after an arrow, and after a # the numbers of the messages that it sends,
 or why it is answered so. The report stands after a row of dashes."""
@@ -809,11 +809,402 @@ deliver msg=4 -> 0
 ---
 """ + NOTHING
 
+# Process 3 takes store 0 over while 4 and 5 run with its commit votes: the restore lists both. A
+# follow is refused while they run, to who holds nothing, and where the store that the process holds
+# has no kept commit vote: none at all, an abort, or only another store's. Coordinator 1 has learned
+# nothing. A follow of 6, which no restore lists, is sent and not taken. The update of 5, aborted,
+# is 0.
+FOLLOW = """
+setup acceptors=3 -> 0
+take proc=1 store=0 to=0 -> 0 # 0
+take proc=2 store=1 to=0 -> 0 # 1
+deliver msg=0 -> 0
+deliver msg=1 -> 0
+""" + learn(0, 0, 3, 2) + """
+restore coord=0 proc=1 -> 0 # 12
+restore coord=0 proc=2 -> 0 # 13
+deliver msg=12 -> 0
+deliver msg=13 -> 0
+vote proc=1 by=0 store=0 tx=4 list=03 say=commit upd=0000000a to=0 -> 0 # 14
+vote proc=1 by=0 store=0 tx=5 list=03 say=commit upd=0000000b to=0 -> 0 # 15
+take proc=3 store=0 to=0 -> 0 # 16
+deliver msg=14 -> 0
+deliver msg=15 -> 0
+deliver msg=16 -> 0
+follow coord=0 proc=1 tx=4 -> 5 # no vote is kept yet
+""" + learn(0, 1, 3, 17) + """
+follow coord=0 proc=3 tx=4 -> 5 # it runs
+follow coord=0 proc=1 tx=4 -> 5 # it runs, and process 1 holds nothing any more
+restore coord=0 proc=3 -> 0 # 27: lists 4 and 5
+deliver msg=27 -> 0
+vote proc=2 by=1 store=1 tx=4 list=03 say=commit upd=0000000c to=0 -> 0 # 28
+vote proc=2 by=1 store=1 tx=5 list=03 say=abort upd=00000000 to=0 -> 0 # 29
+vote proc=2 by=1 store=1 tx=6 list=02 say=commit upd=0000000d to=0 -> 0 # 30
+vote proc=2 by=1 store=0 tx=7 list=03 say=abort upd=00000000 to=0 -> 0 # 31, on behalf
+deliver msg=28 -> 0
+deliver msg=29 -> 0
+deliver msg=30 -> 0
+deliver msg=31 -> 0
+""" + learn(0, 2, 3, 32) + """
+follow coord=0 proc=1 tx=4 -> 5 # process 1 holds nothing
+follow coord=0 proc=3 tx=6 -> 5 # committed, but of store 0 no vote is kept
+follow coord=0 proc=3 tx=7 -> 5 # store 0's kept vote is an abort
+follow coord=0 proc=2 tx=5 -> 5 # and so is store 1's
+follow coord=0 proc=2 tx=7 -> 5 # aborted, but of store 1 no vote is kept
+follow coord=0 proc=3 tx=8 -> 5 # nobody voted
+follow coord=1 proc=3 tx=4 -> 5 # coordinator 1 has no vote and no holder
+follow coord=0 proc=3 tx=4 -> 0 # 42
+follow coord=0 proc=3 tx=5 -> 0 # 43
+follow coord=0 proc=2 tx=6 -> 0 # 44
+deliver msg=43 -> 0
+deliver msg=42 -> 0
+deliver msg=44 -> 0 # not listed: nothing
+---
+coord=0 applied=3
+tx=4 outcome=commit group=1
+tx=5 outcome=abort group=0
+tx=6 outcome=commit group=2
+tx=7 outcome=abort group=0
+store=0 holder=3
+store=1 holder=2
+store=0 group=1 tx=4 upd=0000000a
+store=1 group=1 tx=4 upd=0000000c
+store=1 group=2 tx=6 upd=0000000d
+coord=1 applied=0
+coord=2 applied=0
+proc=1 store=0 position=1
+proc=2 store=1 position=1
+proc=3 store=0 position=2
+running=4
+running=5
+follow=4 outcome=commit upd=0000000a
+follow=5 outcome=abort upd=00000000
+"""
+
+# The lowest of 1, 2, 3, 5 and 6. Transaction 4 is committed by store 0 alone. Process 2 and
+# coordinator 2 crash. 24 numbers are used when 34 opens take 102 more and two takes the last ones.
+FOLLOW_REFUSED = ("""
+follow coord=0 proc=1 tx=4 -> 5 # no setup
+follow coord=3 proc=1 tx=4 -> 2
+follow coord=0 proc=0 tx=4 -> 2
+follow coord=0 proc=16 tx=4 -> 2
+follow coord=0 proc=1 tx=32 -> 2
+follow coord=0 proc=1 -> 1
+follow coord=0 proc=1 tx= -> 1
+follow coord=0 proc=1 tx=04 -> 1
+follow coord=3 proc=16 tx=04 -> 1
+follow proc=1 coord=0 tx=4 -> 1
+follow coord=0 tx=4 -> 1
+follow coord=0 proc=1 store=0 tx=4 -> 1
+follow coord=0 proc=1 tx=4 to=0 -> 1
+follow  coord=0 proc=1 tx=4 -> 1
+follows coord=0 proc=1 tx=4 -> 1
+setup acceptors=3 -> 0
+follow coord=0 proc=1 tx=4 -> 5 # nobody holds a store
+take proc=1 store=0 to=0 -> 0 # 0
+deliver msg=0 -> 0
+""" + learn(0, 0, 3, 1) + """
+restore coord=0 proc=1 -> 0 # 11
+deliver msg=11 -> 0
+vote proc=1 by=0 store=0 tx=4 list=01 say=commit upd=0000000a to=0 -> 0 # 12
+deliver msg=12 -> 0
+""" + learn(0, 1, 3, 13) + """
+crash role=proc id=2 -> 0
+crash role=coord id=2 -> 0
+follow coord=0 proc=2 tx=4 -> 3 # the process; also 5
+follow coord=2 proc=1 tx=4 -> 3 # the coordinator; also 5
+follow coord=2 proc=2 tx=32 -> 2
+follow coord=0 proc=1 tx=4 -> 0 # 23
+""" + "".join("open coord=1 inst=0 ballot=%d -> 0\n" % (3 * k + 1) for k in range(34))
+                  + "take proc=3 store=3 to=1 -> 0\n" * 2 + """
+follow coord=0 proc=1 tx=4 -> 6
+follow coord=0 proc=1 tx=5 -> 5 # nobody voted; 6 would be higher
+follow coord=0 proc=3 tx=4 -> 5 # not the holder
+follow coord=2 proc=1 tx=4 -> 3
+deliver msg=23 -> 0 # a delivered follow needs no number
+crash role=proc id=1 -> 0
+deliver msg=23 -> 3
+follow coord=0 proc=1 tx=4 -> 3
+---
+coord=0 applied=2
+tx=4 outcome=commit group=1
+store=0 holder=1
+store=0 group=1 tx=4 upd=0000000a
+coord=1 applied=0
+coord=2 applied=0
+proc=1 store=0 position=1
+""")
+
+# A follow that comes before the restore does nothing; delivered again after it, it is taken, and a
+# third time it does nothing. The restore of position 3 has the update in its rows: it empties the
+# follows and lists 2 alone, so the follow of 1 does nothing from then on.
+FOLLOW_BEFORE_RESTORE = """
+setup acceptors=3 -> 0
+take proc=1 store=0 to=0 -> 0 # 0
+take proc=2 store=1 to=0 -> 0 # 1
+deliver msg=0 -> 0
+deliver msg=1 -> 0
+""" + learn(0, 0, 3, 2) + """
+restore coord=0 proc=1 -> 0 # 12
+restore coord=0 proc=2 -> 0 # 13
+deliver msg=12 -> 0
+deliver msg=13 -> 0
+vote proc=1 by=0 store=0 tx=1 list=03 say=commit upd=0000000a to=0 -> 0 # 14
+vote proc=1 by=0 store=0 tx=2 list=03 say=commit upd=0000000b to=0 -> 0 # 15
+take proc=3 store=0 to=0 -> 0 # 16
+deliver msg=14 -> 0
+deliver msg=15 -> 0
+deliver msg=16 -> 0
+""" + learn(0, 1, 3, 17) + """
+restore coord=0 proc=3 -> 0 # 27: lists 1 and 2
+vote proc=2 by=1 store=1 tx=1 list=03 say=commit upd=0000000c to=0 -> 0 # 28
+deliver msg=28 -> 0
+""" + learn(0, 2, 3, 29) + """
+follow coord=0 proc=3 tx=1 -> 0 # 39
+deliver msg=39 -> 0 # process 3 took no restore: nothing
+deliver msg=27 -> 0
+deliver msg=39 -> 0 # taken
+deliver msg=39 -> 0 # taken already: nothing
+restore coord=0 proc=3 -> 0 # 40: one row, lists 2
+deliver msg=40 -> 0
+deliver msg=39 -> 0 # not listed any more: nothing
+deliver msg=27 -> 0 # position 2 is not above 3
+deliver msg=39 -> 0
+vote proc=2 by=1 store=1 tx=2 list=03 say=abort upd=00000000 to=0 -> 0 # 41
+deliver msg=41 -> 0
+""" + learn(0, 3, 3, 42) + """
+follow coord=0 proc=3 tx=2 -> 0 # 52
+follow coord=0 proc=3 tx=2 -> 0 # 53, the same again
+deliver msg=53 -> 0 # taken
+deliver msg=52 -> 0 # nothing
+---
+coord=0 applied=4
+tx=1 outcome=commit group=1
+tx=2 outcome=abort group=0
+store=0 holder=3
+store=1 holder=2
+store=0 group=1 tx=1 upd=0000000a
+store=1 group=1 tx=1 upd=0000000c
+coord=1 applied=0
+coord=2 applied=0
+proc=1 store=0 position=1
+proc=2 store=1 position=1
+proc=3 store=0 position=3
+store=0 group=1 tx=1 upd=0000000a
+running=2
+follow=2 outcome=abort upd=00000000
+"""
+
+# Restores of positions 2 and 3 both list 1, which store 2's vote commits afterwards. Processes 3
+# and 4 take the first restore and their follow. The second restore empties both. Process 3 then
+# takes its follow once more, process 4 gets none.
+FOLLOW_NEWER_RESTORE = """
+setup acceptors=3 -> 0
+take proc=1 store=0 to=0 -> 0 # 0
+take proc=2 store=1 to=0 -> 0 # 1
+deliver msg=0 -> 0
+deliver msg=1 -> 0
+""" + learn(0, 0, 3, 2) + """
+restore coord=0 proc=1 -> 0 # 12
+restore coord=0 proc=2 -> 0 # 13
+deliver msg=12 -> 0
+deliver msg=13 -> 0
+vote proc=1 by=0 store=0 tx=1 list=07 say=commit upd=0000000a to=0 -> 0 # 14
+vote proc=2 by=1 store=1 tx=1 list=07 say=commit upd=0000000b to=0 -> 0 # 15
+take proc=3 store=0 to=0 -> 0 # 16
+take proc=4 store=1 to=0 -> 0 # 17
+deliver msg=14 -> 0
+deliver msg=15 -> 0
+deliver msg=16 -> 0
+deliver msg=17 -> 0
+""" + learn(0, 1, 3, 18) + """
+restore coord=0 proc=3 -> 0 # 28: position 2, lists 1
+restore coord=0 proc=4 -> 0 # 29: the same of store 1
+take proc=5 store=2 to=0 -> 0 # 30
+deliver msg=30 -> 0
+""" + learn(0, 2, 3, 31) + """
+restore coord=0 proc=3 -> 0 # 41: position 3, lists 1
+restore coord=0 proc=4 -> 0 # 42
+restore coord=0 proc=5 -> 0 # 43: lists nothing, store 2 has no vote
+deliver msg=43 -> 0
+vote proc=5 by=2 store=2 tx=1 list=07 say=commit upd=0000000c to=0 -> 0 # 44
+deliver msg=44 -> 0
+""" + learn(0, 3, 3, 45) + """
+follow coord=0 proc=3 tx=1 -> 0 # 55
+follow coord=0 proc=4 tx=1 -> 0 # 56
+deliver msg=28 -> 0
+deliver msg=29 -> 0
+deliver msg=55 -> 0 # taken
+deliver msg=56 -> 0 # taken
+deliver msg=41 -> 0
+deliver msg=42 -> 0
+deliver msg=55 -> 0 # taken, since none was since that restore
+---
+coord=0 applied=4
+tx=1 outcome=commit group=1
+store=0 holder=3
+store=1 holder=4
+store=2 holder=5
+store=0 group=1 tx=1 upd=0000000a
+store=1 group=1 tx=1 upd=0000000b
+store=2 group=1 tx=1 upd=0000000c
+coord=1 applied=0
+coord=2 applied=0
+proc=1 store=0 position=1
+proc=2 store=1 position=1
+proc=3 store=0 position=3
+running=1
+follow=1 outcome=commit upd=0000000a
+proc=4 store=1 position=3
+running=1
+proc=5 store=2 position=3
+"""
+
+# Process 3 holds store 1, loses it and holds store 0, while 1 runs with commit votes of both. Its
+# follow is of store 0. After the restore of store 1, which lists 1 too, it does nothing; after that
+# of store 0 it is taken, with store 0's update.
+FOLLOW_OTHER_STORE = """
+setup acceptors=3 -> 0
+take proc=1 store=0 to=0 -> 0 # 0
+take proc=2 store=1 to=0 -> 0 # 1
+deliver msg=0 -> 0
+deliver msg=1 -> 0
+""" + learn(0, 0, 3, 2) + """
+restore coord=0 proc=1 -> 0 # 12
+restore coord=0 proc=2 -> 0 # 13
+deliver msg=12 -> 0
+deliver msg=13 -> 0
+vote proc=1 by=0 store=0 tx=1 list=07 say=commit upd=0000000a to=0 -> 0 # 14
+vote proc=2 by=1 store=1 tx=1 list=07 say=commit upd=0000000b to=0 -> 0 # 15
+take proc=3 store=1 to=0 -> 0 # 16
+deliver msg=14 -> 0
+deliver msg=15 -> 0
+deliver msg=16 -> 0
+""" + learn(0, 1, 3, 17) + """
+restore coord=0 proc=3 -> 0 # 27: store 1, lists 1
+take proc=4 store=1 to=0 -> 0 # 28
+take proc=3 store=0 to=0 -> 0 # 29
+take proc=5 store=2 to=0 -> 0 # 30
+deliver msg=28 -> 0
+deliver msg=29 -> 0
+deliver msg=30 -> 0
+""" + learn(0, 2, 3, 31) + """
+restore coord=0 proc=3 -> 0 # 41: store 0, lists 1
+restore coord=0 proc=5 -> 0 # 42
+deliver msg=42 -> 0
+vote proc=5 by=2 store=2 tx=1 list=07 say=commit upd=0000000c to=0 -> 0 # 43
+deliver msg=43 -> 0
+""" + learn(0, 3, 3, 44) + """
+follow coord=0 proc=3 tx=1 -> 0 # 54: store 0
+follow coord=0 proc=4 tx=1 -> 0 # 55: store 1
+deliver msg=27 -> 0
+deliver msg=54 -> 0 # of another store: nothing
+deliver msg=41 -> 0
+deliver msg=54 -> 0 # taken
+deliver msg=55 -> 0 # process 4 took no restore: nothing
+---
+coord=0 applied=4
+tx=1 outcome=commit group=1
+store=0 holder=3
+store=1 holder=4
+store=2 holder=5
+store=0 group=1 tx=1 upd=0000000a
+store=1 group=1 tx=1 upd=0000000b
+store=2 group=1 tx=1 upd=0000000c
+coord=1 applied=0
+coord=2 applied=0
+proc=1 store=0 position=1
+proc=2 store=1 position=1
+proc=3 store=0 position=3
+running=1
+follow=1 outcome=commit upd=0000000a
+proc=5 store=2 position=3
+"""
+
+# Process 3 takes store 0 over while 1 and 2 run, and loses it to process 4 before 2 is decided. Its
+# follow of 1 was sent before, and is taken all the same. One of 2 is not sent to it: its list stays
+# incomplete. Coordinator 1 learns three instances: in its log 3 is still the holder and 2 runs.
+FOLLOW_REPLACED = """
+setup acceptors=3 -> 0
+take proc=1 store=0 to=0 -> 0 # 0
+take proc=2 store=1 to=0 -> 0 # 1
+deliver msg=0 -> 0
+deliver msg=1 -> 0
+""" + learn(0, 0, 3, 2) + """
+restore coord=0 proc=1 -> 0 # 12
+restore coord=0 proc=2 -> 0 # 13
+deliver msg=12 -> 0
+deliver msg=13 -> 0
+vote proc=1 by=0 store=0 tx=1 list=03 say=commit upd=0000000a to=0 -> 0 # 14
+vote proc=1 by=0 store=0 tx=2 list=03 say=commit upd=0000000b to=0 -> 0 # 15
+take proc=3 store=0 to=0 -> 0 # 16
+deliver msg=14 -> 0
+deliver msg=15 -> 0
+deliver msg=16 -> 0
+""" + learn(0, 1, 3, 17) + """
+restore coord=0 proc=3 -> 0 # 27: lists 1 and 2
+deliver msg=27 -> 0
+vote proc=2 by=1 store=1 tx=1 list=03 say=commit upd=0000000c to=0 -> 0 # 28
+deliver msg=28 -> 0
+""" + learn(0, 2, 3, 29) + """
+follow coord=0 proc=3 tx=1 -> 0 # 39
+take proc=4 store=0 to=0 -> 0 # 40
+deliver msg=40 -> 0
+""" + learn(0, 3, 3, 41) + """
+follow coord=0 proc=3 tx=1 -> 5 # not the holder any more
+follow coord=0 proc=4 tx=1 -> 0 # 51
+restore coord=0 proc=4 -> 0 # 52: one row, lists 2
+deliver msg=52 -> 0
+deliver msg=51 -> 0 # 1 is not listed: nothing
+vote proc=2 by=1 store=1 tx=2 list=03 say=commit upd=0000000d to=0 -> 0 # 53
+deliver msg=53 -> 0
+""" + learn(0, 4, 3, 54) + """
+follow coord=0 proc=3 tx=2 -> 5
+follow coord=0 proc=4 tx=2 -> 0 # 64
+deliver msg=64 -> 0 # taken
+deliver msg=39 -> 0 # taken by process 3
+""" + learn(1, 0, 4, 65) + learn(1, 1, 4, 75) + learn(1, 2, 4, 85) + """
+follow coord=1 proc=3 tx=2 -> 5 # it runs in this log
+follow coord=1 proc=4 tx=1 -> 5 # not the holder in this log
+follow coord=1 proc=3 tx=1 -> 0 # 95
+deliver msg=95 -> 0 # one of 1 was taken: nothing
+---
+coord=0 applied=5
+tx=1 outcome=commit group=1
+tx=2 outcome=commit group=1
+store=0 holder=4
+store=1 holder=2
+store=0 group=1 tx=1 upd=0000000a
+store=0 group=1 tx=2 upd=0000000b
+store=1 group=1 tx=1 upd=0000000c
+store=1 group=1 tx=2 upd=0000000d
+coord=1 applied=3
+tx=1 outcome=commit group=1
+tx=2 outcome=open group=0
+store=0 holder=3
+store=1 holder=2
+store=0 group=1 tx=1 upd=0000000a
+store=1 group=1 tx=1 upd=0000000c
+coord=2 applied=0
+proc=1 store=0 position=1
+proc=2 store=1 position=1
+proc=3 store=0 position=2
+running=1
+running=2
+follow=1 outcome=commit upd=0000000a
+proc=4 store=0 position=4
+store=0 group=1 tx=1 upd=0000000a
+running=2
+follow=2 outcome=commit upd=0000000b
+"""
+
 BY_HAND = {
     "life": LIFE, "highest-ballot": HIGHEST, "queue": QUEUE, "numbers-used-up": NUMBERS, "late-acceptances": LATE, "before-setup": BEFORE,
     "takeover": TAKEOVER, "restores-out-of-order": RESTORES, "two-down": TWO_DOWN, "learned-on-line-1001": LINE_1001,
     "three-coordinators": THREE, "all-down": ALL_DOWN, "votes": VOTES, "other-instance": OTHER_INSTANCE, "older-ballot": OLDER_BALLOT,
     "replies-to-one-down": REPLIES, "vote-lists": LISTS, "accepts-without-a-number": ACCEPTS,
+    "follow": FOLLOW, "follow-refused": FOLLOW_REFUSED, "follow-before-restore": FOLLOW_BEFORE_RESTORE,
+    "follow-newer-restore": FOLLOW_NEWER_RESTORE, "follow-other-store": FOLLOW_OTHER_STORE, "follow-replaced": FOLLOW_REPLACED,
 }
 
 

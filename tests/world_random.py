@@ -1,4 +1,5 @@
 """Drawn step files for `world`: traffic of every kind, from a seed."""
+from plain_log import STORES, TXS
 from world_script import Script
 
 
@@ -17,6 +18,7 @@ class Draw:
 
 
 def random_step(script, draw, hostile):
+    """Any step but a follow, which needs a store taken over to do something: see takeover."""
     world = script.world
     c = draw.below(3)
     coordinator, process, store = world.coordinators[c], 1 + draw.below(6), draw.below(3)
@@ -178,9 +180,22 @@ def crashes(script, draw):
         script.crash(role, draw.below({"acceptor": 5, "coord": 3, "proc": 7}[role]))
 
 
+def some_follow(script, draw, c):
+    """Mostly one that the coordinator may send."""
+    log = script.world.coordinators[c].log
+    decided = [tx for tx in log.txs() if log.outcome(tx) != "open"]
+    held = [(log.holder(s), s) for s in range(STORES) if log.holder(s)]
+    allowed = [(p, tx) for p, s in held for tx in decided if log.has_commit(tx, s)]
+    any_pair = 1 + draw.below(6), draw.below(4)
+    return script.follow(c, *(draw.of(allowed) if allowed and draw.below(3) else any_pair))
+
+
 def traffic(script, draw):
     for _ in range(10 + draw.below(40)):
-        random_step(script, draw, True)
+        if draw.below(16):
+            random_step(script, draw, True)
+        else:
+            some_follow(script, draw, draw.below(3))
 
 
 def instances(script, draw):
@@ -217,26 +232,76 @@ def one_vote(script, draw, p, tx, stores, c):
     return script.abort(p, by, draw.of([by, draw.below(4)]), tx, stores, c)
 
 
+def believers_of(script):
+    return [p for p in range(1, 16) if script.world.processes[p].position]
+
+
+def furthest(script, draw):
+    """Mostly the coordinator that applied most."""
+    applied = [c.applied for c in script.world.coordinators]
+    return applied.index(max(applied)) if draw.below(8) else draw.below(3)
+
+
+def list_of(script, processes):
+    return "%02x" % sum({1 << script.world.processes[p].store for p in processes})
+
+
 def transaction(script, draw):
     """All that believe they hold a store vote; the outcome is told, and some are restored."""
-    believers = [p for p in range(1, 16) if script.world.processes[p].position]
+    believers = believers_of(script)
     if script.world.acceptors and believers:
-        applied = [c.applied for c in script.world.coordinators]
-        c = applied.index(max(applied)) if draw.below(8) else draw.below(3)
+        c = furthest(script, draw)
         tx = draw.of([0, 1, 2, 3, 30, 31])
-        stores = "%02x" % sum({1 << script.world.processes[p].store for p in believers})
+        stores = list_of(script, believers)
         votes = [one_vote(script, draw, p, tx, stores, c) for p in believers]
         learned(script, draw, c, votes)
         script.deliver(*script.tell(c, draw.of(believers), tx), *script.tell(c, 9, draw.below(32)))
         script.deliver(*script.restore(c, draw.of(believers)))
 
 
+def takeover(script, draw):
+    """A store is taken over while its vote runs. The others vote, and the new holder follows."""
+    c = furthest(script, draw)
+    log, processes = script.world.coordinators[c].log, script.world.processes
+    holders = [p for p in believers_of(script) if log.held_by(p) == [processes[p].store]]
+    if not script.world.acceptors or len(holders) < 2:
+        return
+    old, new = draw.of(holders), 9 + draw.below(7)
+    others = [p for p in holders if p != old][: 1 + draw.below(3)]
+    tx = draw.of([tx for tx in range(TXS) if tx not in log.txs() or not draw.below(8)])
+    store, stores = processes[old].store, list_of(script, [old] + others)
+    early = some_follow(script, draw, c)
+    vote = script.commit(old, store, tx, stores, 1 + draw.below(1 << 31), c)
+    learned(script, draw, c, [vote, script.take(new, store, c)])
+    script.deliver(*script.restore(c, new), *early)
+    script.deliver(*script.follow(c, new, tx))  # refused, where the transaction runs
+    learned(script, draw, c, [one_vote(script, draw, p, tx, stores, c) for p in others])
+    sent = script.follow(c, new, tx)
+    if not draw.below(4):
+        script.deliver(*script.restore(c, new))
+    script.deliver(*sent * draw.of([1, 1, 2]), *early)
+
+
 def setups(script, draw):
     script.setup(draw.of([3, 4, 5]))
 
 
-PARTS = [transaction, transaction, transaction, stores_held, instances, traffic, hostile_lines]
+PARTS = [transaction, transaction, transaction, takeover, takeover]
+PARTS += [stores_held, instances, traffic, hostile_lines]
 RARE = [numbers_used_up, crashes, setups, full_queue, all_again, hostile_lines]
+
+
+def followed_script(seed):
+    """Stores that are taken over again and again while votes run; some traffic between."""
+    draw = Draw(seed)
+    script = Script()
+    script.hold(*((s + 1, s) for s in range(2 + draw.below(3))))
+    while script.world.left() > 12 and len(script.rows) < 900:
+        takeover(script, draw)
+        for _ in range(draw.below(6)):
+            random_step(script, draw, seed % 4 == 0)
+    all_again(script, draw)
+    return script
 
 
 def mixed_file(seed):

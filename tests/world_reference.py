@@ -1,5 +1,5 @@
 #!/usr/bin/env python3
-"""The program `world`, written from document 01 alone, to derive expected outputs.
+"""The program `world`, written from documents 01 and 02 alone, to derive expected outputs.
 
     world_reference.py < STEPS          prints what `world` prints
     world_reference.py check DIR        compares each DIR/NAME.steps with DIR/NAME.out
@@ -59,6 +59,8 @@ class Process:
         self.store = None
         self.position = 0
         self.rows = []
+        self.running = []  # as the restore lists them
+        self.follows = {}  # tx: outcome and update, taken since the restore
 
 
 class World:
@@ -212,10 +214,18 @@ class World:
         return 0
 
     def deliver_restore(self, process, values):
-        store, position, rows = values
+        store, position, rows, running = values
         p = self.processes[process]
         if position > p.position:
             p.store, p.position, p.rows = store, position, rows
+            p.running, p.follows = running, {}
+        return 0
+
+    def deliver_follow(self, process, values):
+        store, tx, outcome, update = values
+        p = self.processes[process]
+        if store == p.store and tx in p.running and tx not in p.follows:
+            p.follows[tx] = outcome, update
         return 0
 
     def tell(self, coord, process, tx):
@@ -236,7 +246,24 @@ class World:
             self.crashed(("coord", coord), ("proc", process)), (5, not stores), (6, self.left() < 1)
         )
         if not answer:
-            self.send("restore", "proc", process, (stores[0], c.applied, c.log.replay(stores[0])))
+            store = stores[0]
+            running = [tx for tx in c.log.running() if c.log.has_commit(tx, store)]
+            self.send("restore", "proc", process, (store, c.applied, c.log.replay(store), running))
+        return answer
+
+    def follow(self, coord, process, tx):
+        log = self.coordinators[coord].log
+        outcome = log.outcome(tx)
+        stores = [store for store in log.held_by(process) if log.has_commit(tx, store)]
+        answer = self.refusal(
+            self.crashed(("coord", coord), ("proc", process)),
+            (5, outcome == "open" or not stores),
+            (6, self.left() < 1),
+        )
+        if not answer:
+            store = stores[0]
+            update = log.kept[tx, store].update if outcome == "commit" else 0
+            self.send("follow", "proc", process, (store, tx, outcome, update))
         return answer
 
     def crash(self, role, id):
@@ -259,6 +286,9 @@ class World:
             if p.position:
                 yield "proc=%d store=%d position=%d" % (i, p.store, p.position)
                 yield from replay_lines(p.store, p.rows)
+                yield from ("running=%d" % tx for tx in p.running)
+                for tx in sorted(p.follows):
+                    yield "follow=%d outcome=%s upd=%08x" % (tx, *p.follows[tx])
 
 
 # Step files
@@ -272,6 +302,7 @@ FIELDS = {
     "deliver": "msg",
     "tell": "coord proc tx",
     "restore": "coord proc",
+    "follow": "coord proc tx",
     "crash": "role id",
 }
 STEPS = Reader(FIELDS)

@@ -47,6 +47,9 @@ class Script:
     def restore(self, c, p):
         return self.step("restore", c, p)
 
+    def follow(self, c, p, tx):
+        return self.step("follow", c, p, tx)
+
     def crash(self, role, i):
         return self.step("crash", role, i)
 

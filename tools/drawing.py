@@ -4,7 +4,7 @@ from xml.sax.saxutils import escape
 
 from marks import COLOURS, crash_mark, late_mark, learned_mark, legend, lost_mark, open_mark
 from marks import propose_mark, stroke
-from story import counted
+from story import counted, followed
 from svg import BOLD, FONT, GREY, INK, LETTER, PALE, PAPER, SMALL
 from svg import arrow, document, element, grounded, line, path, text, width, wrapped
 
@@ -269,7 +269,7 @@ class Chart(Places):
 
 
 def known(world):
-    """By party a heading and rows: a coordinator's log, what a process heard and restored."""
+    """By party a heading and rows: a coordinator's log, what a process heard, restored, followed."""
     for i, c in enumerate(world.coordinators):
         down = ", down" if ("coord", i) in world.down else ""
         yield "coordinator %d%s: applied %d" % (i, down, c.applied), list(log_rows(c.log))
@@ -280,6 +280,8 @@ def known(world):
             place = (p.store, p.position, counted(len(p.rows), "row"))
             rows.append("restored s%d at position %d, %s" % place)
             rows += ["group %d tx%d upd %x" % row for row in p.rows]
+            rows += ["running tx%d" % tx for tx in p.running]
+            rows += ["follow " + followed(tx, *p.follows[tx]) for tx in sorted(p.follows)]
         if rows:
             yield "process %d%s" % (i, down), rows
 

@@ -10,6 +10,7 @@ COLOURS = {
     "accepted": "#00785a",
     "outcome": "#882255",
     "restore": "#882255",
+    "follow": "#882255",
 }
 LEARNED = "#f0c000"
 
@@ -58,7 +59,7 @@ ARROWS = [
     ("request", "request"),
     ("prepare", "prepare, promise"),
     ("accept", "accept, accepted"),
-    ("restore", "tell, restore"),
+    ("restore", "tell, restore, follow"),
     ("again", "delivered again"),
 ]
 MARKS = [

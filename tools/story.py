@@ -115,8 +115,11 @@ def says(message):
     if message.kind == "outcome":
         return "tell tx%d %s" % values
     if message.kind == "restore":
-        store, position, rows = values
-        return "restore s%d pos %d, %s" % (store, position, counted(len(rows), "row"))
+        store, position, rows, running = values
+        runs = ", running " + " ".join("tx%d" % tx for tx in running) if running else ""
+        return "restore s%d pos %d, %s%s" % (store, position, counted(len(rows), "row"), runs)
+    if message.kind == "follow":
+        return "follow s%d %s" % (values[0], followed(*values[1:]))
     place = "%s i%d b%d" % ((message.kind,) + values[:2])
     if message.kind == "accept":
         return "%s: %s" % (place, batch(values[2]))
@@ -128,6 +131,11 @@ def says(message):
             else place + ", none accepted"
         )
     return place
+
+
+def followed(tx, outcome, update):
+    """What a follow says of its transaction."""
+    return "tx%d %s" % (tx, outcome) + (" upd %x" % update if outcome == "commit" else "")
 
 
 def counted(n, thing):

@@ -1,6 +1,6 @@
 -- All invariants together hold after every list of steps.
 use Prim.Native.Nat.{ℕ, zero, suc, _+_, _*_, _≤_, _<_}
-use mathlib.Core.Path.{_≡_, refl, sym, ap, subst, _∙_}
+use mathlib.Core.Path.{_≡_, refl, sym, ap, subst, subst₂, _∙_}
 use mathlib.Core.Logic.{_⊎_, inl, inr}
 use mathlib.Core.List.{List, [], _∷_, _++_, List·Memᴰ·not-nil}
 use native.Mathlib.Omega.{arith}
@@ -26,19 +26,20 @@ use Rattle.log_core.specs.Replay.{noReplay}
 use Rattle.model_protocol.specs.Message.{noMessage}
 use Rattle.model_protocol.specs.Queue.{queueOf}
 use Rattle.model_protocol.specs.Step.{run, stepOf}
-use Rattle.model_protocol.specs.World.{emptySlot, freshCoordinator, freshProcess, freshWorld}
+use Rattle.model_protocol.specs.World.{emptySlot, freshCoordinator, freshProcess, freshWorld, noFollowed, noFollows}
 use Rattle.model_agreement.specs.Bounds.{CellRange, CoRange}
-use Rattle.model_agreement.specs.Claim.{plainLog}
+use Rattle.model_agreement.specs.Plain.{plainLog}
 use Rattle.model_agreement.specs.Content.{Content}
 use Rattle.model_agreement.specs.History.{Accepts, Event, Got, LastOpened, Learns, Since, acceptors, asked, before, delivered, here, history, heardOf, historyFrom, kept, later, learns, noted, opened, restoredOf, restoring, setup, withoutMessages, there}
 use Rattle.model_agreement.proofs.HistoryKept.{Hist, hist-move}
 use Rattle.model_agreement.proofs.BallotInvariant.{Inv, Said, attempt, holding, inv-move, sent-up}
+use Rattle.model_agreement.proofs.FollowsKept.{KeepsAll, keeps-none}
 use Rattle.model_agreement.proofs.ProcessesKeep.{Keeps, Kept, kept-move}
 use Rattle.model_agreement.proofs.Range.{Range, range-move}
 use Rattle.model_agreement.proofs.Recorded.{AccHist, CoHist}
 use Rattle.model_agreement.proofs.LogsAndProcesses.{CoFact, Later, Rest, more, rest-move, same}
 use Rattle.model_agreement.proofs.Shape.{QueueOk, Shape, shape-move}
-use Rattle.model_agreement.proofs.StepEffects.{Move, Trans, asks, counts, crashes, hears, is-told, joins, moves, opens, passes-accept, passes-accepted, passes-prepare, passes-promise, passes-request, passes-restore, promises, proposes, refused, restores, sets-up, takes, tells, trans, votes}
+use Rattle.model_agreement.proofs.StepEffects.{Move, Trans, asks, counts, crashes, follows, hears, is-told, joins, moves, opens, passes-accept, passes-accepted, passes-follow, passes-prepare, passes-promise, passes-request, passes-restore, promises, proposes, refused, restores, sets-up, takes, takes-follow, tells, trans, votes}
 use Rattle.model_agreement.proofs.StepEffects as t
 use Rattle.model_agreement.proofs.SentMessages.{At, Outbox, Posts, Sent, outboxOf}
 use Rattle.model_agreement.proofs.ChangedWorld.{withAcceptors}
@@ -100,6 +101,7 @@ got-move G (opens k i b ms c _ _ _ _ _ _ p) = got-opened (got-more G p)
 got-move G (proposes k i b v ms c _ _ _ _ _ _ _ _ p) = got-more G p
 got-move G (tells k q tx ms c _ _ _ p) = got-more G p
 got-move G (restores k q ms c _ _ _ p) = got-restoring (got-more G p)
+got-move G (follows k q tx ms c _ _ _ _ _ p) = got-more G p
 got-move G (crashes d) = G
 got-move G (promises j i b a ms c s _ p) = got-more (got-one G s) p
 got-move G (passes-prepare j i b a s _) = got-one G s
@@ -113,8 +115,10 @@ got-move G (passes-accepted j i b a s _) = got-one G s
 got-move G (joins j k e s _) = got-one G s
 got-move G (passes-request j k e s) = got-one G s
 got-move G (is-told j p tx o s) = got-one G s
-got-move G (takes j p z i r s _) = got-one G s
-got-move G (passes-restore j p z i r s _) = got-one G s
+got-move G (takes j p z i r n s _) = got-one G s
+got-move G (passes-restore j p z i r n s _) = got-one G s
+got-move G (takes-follow j p z tx o u s _) = got-one G s
+got-move G (passes-follow j p z tx o u s _) = got-one G s
 
 -- ---- the number of acceptors stays, and the history grows by at most one event
 
@@ -129,6 +133,7 @@ goes (opens k i b ms c _ _ _ _ _ _ p) = record { number = refl; kept = refl; lat
 goes (proposes k i b v ms c _ _ _ _ _ _ _ _ p) = record { number = refl; kept = refl; later = same }
 goes (tells k q tx ms c _ _ _ p) = record { number = refl; kept = refl; later = same }
 goes (restores k q ms c _ _ _ p) = record { number = refl; kept = refl; later = more _ }
+goes (follows k q tx ms c _ _ _ _ _ p) = record { number = refl; kept = refl; later = same }
 goes (crashes d) = record { number = refl; kept = refl; later = same }
 goes (promises j i b a ms c s _ p) = record { number = refl; kept = refl; later = more _ }
 goes (passes-prepare j i b a s _) = record { number = refl; kept = refl; later = more _ }
@@ -142,8 +147,10 @@ goes (passes-accepted j i b a s _) = record { number = refl; kept = refl; later 
 goes (joins j k e s _) = record { number = refl; kept = refl; later = more _ }
 goes (passes-request j k e s) = record { number = refl; kept = refl; later = more _ }
 goes (is-told j p tx o s) = record { number = refl; kept = refl; later = more _ }
-goes (takes j p z i r s _) = record { number = refl; kept = refl; later = more _ }
-goes (passes-restore j p z i r s _) = record { number = refl; kept = refl; later = more _ }
+goes (takes j p z i r n s _) = record { number = refl; kept = refl; later = more _ }
+goes (passes-restore j p z i r n s _) = record { number = refl; kept = refl; later = more _ }
+goes (takes-follow j p z tx o u s _) = record { number = refl; kept = refl; later = more _ }
+goes (passes-follow j p z tx o u s _) = record { number = refl; kept = refl; later = more _ }
 
 -- ---- the fresh world, before setup and after
 
@@ -197,8 +204,13 @@ silent tx = sym (ap (λ x. x .outcome) (same-each transactions tx unheard))
 
 fresh-keeps : {n : ℕ} {h : List Event} → Blank n h → (p : ℕ) → Keeps (restoredOf p h) (λ tx. heardOf p tx h) freshProcess
 unfolding freshProcess
-fresh-keeps nothing p = record { store = refl; position = refl; heard = silent }
-fresh-keeps (only-setup m) p = record { store = refl; position = refl; heard = silent }
+fresh-keeps nothing p = record { store = refl; position = refl; running = refl; heard = silent }
+fresh-keeps (only-setup m) p = record { store = refl; position = refl; running = refl; heard = silent }
+
+fresh-follows : {n : ℕ} {h : List Event} → Blank n h → (p : ℕ) → KeepsAll freshProcess noFollows (restoredOf p h .follows)
+unfolding freshProcess
+fresh-follows nothing p = keeps-none freshProcess 0 0 0 noFollows
+fresh-follows (only-setup m) p = keeps-none freshProcess 0 0 0 noFollows
 
 fresh-replay : {n : ℕ} {h : List Event} → Blank n h → (p : ℕ) → noReplay ≡ restoredOf p h .replay
 fresh-replay nothing p = refl
@@ -221,14 +233,19 @@ module _ (n : ℕ) where
     log-row = length-replicate coordinators emptyLog;
     process-row = length-replicate processPlaces freshProcess;
     restored-row = length-replicate processPlaces noReplay;
+    follows-row = length-replicate processPlaces noFollows;
     room = record { message-row = length-replicate messages noMessage; replay-row = length-replicate messages noReplay };
     sent-most = omega arith;
     heard = λ p. subst (λ x. length (x .heard) ≡ transactions) (same-each processPlaces p freshProcess) heard;
+    followed = λ p. subst (λ x. length (x .of) ≡ transactions) (same-each processPlaces p noFollows) followed;
     queues = λ k. subst (λ c. QueueOk (c .queue)) (same-each coordinators k freshCoordinator) queue;
   }
     where
       heard : length (freshProcess .heard) ≡ transactions
       heard = unfold freshProcess in length-replicate transactions unheard
+
+      followed : length (noFollows .of) ≡ transactions
+      followed = unfold noFollows in length-replicate transactions noFollowed
 
       queue : QueueOk (freshCoordinator .queue)
       queue = unfold freshCoordinator queueOf in record { places = length-replicate queuePlaces noEntry; count = omega arith }
@@ -339,6 +356,8 @@ module _ (n : ℕ) where
   fresh-kept {h} z = record {
     each = λ p. subst (λ x. Keeps (restoredOf p h) (λ tx. heardOf p tx h) x) (same-each processPlaces p freshProcess) (fresh-keeps z p);
     replays = λ p. sym (same-each processPlaces p noReplay) ∙ fresh-replay z p;
+    follows =
+        λ p. subst₂ (λ x y. KeepsAll x y (restoredOf p h .follows)) (same-each processPlaces p freshProcess) (same-each processPlaces p noFollows) (fresh-follows z p);
     taken = λ p l. absurd (not-taken z p l);
   }
 

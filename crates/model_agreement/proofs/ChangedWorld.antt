@@ -10,16 +10,18 @@ use Rattle.model_protocol.specs.declared.Batch.{Batch}
 use Rattle.model_protocol.specs.declared.AcceptorSlot.{AcceptorSlot}
 use Rattle.model_protocol.specs.declared.Coordinator.{Coordinator}
 use Rattle.model_protocol.specs.declared.Down.{Down}
+use Rattle.model_protocol.specs.declared.Follows.{Follows}
 use Rattle.model_protocol.specs.declared.Message.{Message}
 use Rattle.model_protocol.specs.declared.Places.{Places}
 use Rattle.model_protocol.specs.declared.Process.{Process}
 use Rattle.model_protocol.specs.declared.World.{World}
 use Rattle.model_protocol.specs.Batch.{entriesOf}
-use Rattle.model_protocol.specs.Change.{acceptorsNow, slotNow, coordinatorNow, done, downNow, givesReplay, learns, processNow, sending, takesReplay}
+use Rattle.model_protocol.specs.Change.{acceptorsNow, slotNow, coordinatorNow, done, downNow, givesReplay, keepsFollow, learns, processNow, sending, takesReplay}
 use Rattle.model_protocol.specs.Message.{acceptTo, prepareTo}
+use Rattle.model_protocol.specs.Process.{withFollow}
 use Rattle.model_protocol.specs.Send.{copyOf, sendToAll}
 use Rattle.model_protocol.specs.Step.{changed, partsAt, putBack}
-use Rattle.model_protocol.specs.World.{logOf, withMessage}
+use Rattle.model_protocol.specs.World.{followsOf, logOf, withMessage}
 use Rattle.model_agreement.proofs.SentMessages.{addingBoth, outboxOf, posted}
 use Rattle.model_protocol.proofs.PutBack.{all-back, none-sent, nothing-changed, same-slots, same-coordinators, same-logs, same-processes}
 
@@ -31,6 +33,7 @@ withAcceptors w n = record {
   logs = w .logs;
   processes = w .processes;
   restored = w .restored;
+  follows = w .follows;
   down = w .down;
   messages = w .messages;
   replays = w .replays;
@@ -45,6 +48,7 @@ withSlot w a i x = record {
   logs = w .logs;
   processes = w .processes;
   restored = w .restored;
+  follows = w .follows;
   down = w .down;
   messages = w .messages;
   replays = w .replays;
@@ -59,6 +63,7 @@ withCoordinator w c x = record {
   logs = w .logs;
   processes = w .processes;
   restored = w .restored;
+  follows = w .follows;
   down = w .down;
   messages = w .messages;
   replays = w .replays;
@@ -73,6 +78,7 @@ withProcess w p x = record {
   logs = w .logs;
   processes = set (w .processes) p x;
   restored = w .restored;
+  follows = w .follows;
   down = w .down;
   messages = w .messages;
   replays = w .replays;
@@ -88,6 +94,23 @@ withTaken w p x r = record {
   logs = w .logs;
   processes = set (w .processes) p x;
   restored = set (w .restored) p r;
+  follows = w .follows;
+  down = w .down;
+  messages = w .messages;
+  replays = w .replays;
+  sent = w .sent;
+}
+
+-- and keeps the follows fs
+abbrev pub withFollowed : World → ℕ → Process → Follows → World
+withFollowed w p x fs = record {
+  acceptors = w .acceptors;
+  slots = w .slots;
+  coordinators = w .coordinators;
+  logs = w .logs;
+  processes = set (w .processes) p x;
+  restored = w .restored;
+  follows = set (w .follows) p fs;
   down = w .down;
   messages = w .messages;
   replays = w .replays;
@@ -102,6 +125,7 @@ withDown w d = record {
   logs = w .logs;
   processes = w .processes;
   restored = w .restored;
+  follows = w .follows;
   down = d;
   messages = w .messages;
   replays = w .replays;
@@ -117,6 +141,7 @@ withLearned w c x b = record {
   logs = set (w .logs) c (feed (logOf w c) (entriesOf b));
   processes = w .processes;
   restored = w .restored;
+  follows = w .follows;
   down = w .down;
   messages = w .messages;
   replays = w .replays;
@@ -157,6 +182,7 @@ module _ (w : World) (at : Places) (r : Replay) (d : Message) where
     logs = same-logs w at i;
     processes = same-processes w at i;
     restored = w .restored;
+    follows = w .follows;
     down = w .down;
     messages = w .messages;
     replays = w .replays;
@@ -184,6 +210,7 @@ module _ (w : World) (at : Places) (r : Replay) (d : Message) where
     logs = set (w .logs) (at .coordinator) (feed (logOf w (at .coordinator)) (entriesOf b));
     processes = same-processes w at i;
     restored = w .restored;
+    follows = w .follows;
     down = w .down;
     messages = w .messages;
     replays = w .replays;
@@ -198,6 +225,7 @@ module _ (w : World) (at : Places) (r : Replay) (d : Message) where
     logs = same-logs w at i;
     processes = set (w .processes) (at .process) h;
     restored = w .restored;
+    follows = w .follows;
     down = w .down;
     messages = w .messages;
     replays = w .replays;
@@ -212,6 +240,23 @@ module _ (w : World) (at : Places) (r : Replay) (d : Message) where
     logs = same-logs w at i;
     processes = set (w .processes) (at .process) h;
     restored = set (w .restored) (at .process) r;
+    follows = w .follows;
+    down = w .down;
+    messages = w .messages;
+    replays = w .replays;
+    sent = w .sent;
+  })
+
+  pub process-follows : (h : Process)
+      → changed w at r (keepsFollow (processNow (partsAt w at d) h)) ≡ withFollowed w (at .process) h (withFollow (followsOf w (at .process)) d)
+  process-follows h = none-sent _ _ ∙ (λ i. record {
+    acceptors = w .acceptors;
+    slots = same-slots w at i;
+    coordinators = same-coordinators w at i;
+    logs = same-logs w at i;
+    processes = set (w .processes) (at .process) h;
+    restored = w .restored;
+    follows = set (w .follows) (at .process) (withFollow (followsOf w (at .process)) d);
     down = w .down;
     messages = w .messages;
     replays = w .replays;
@@ -256,6 +301,7 @@ slot-answers w r d a i x m = one-sent _ m ∙ (λ k. withMessage (record {
   logs = same-logs w (slotAt a i) k;
   processes = same-processes w (slotAt a i) k;
   restored = w .restored;
+  follows = w .follows;
   down = w .down;
   messages = w .messages;
   replays = w .replays;

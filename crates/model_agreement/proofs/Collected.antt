@@ -7,7 +7,7 @@ use native.Mathlib.Decide.{ℕ-discrete}
 use native.Mathlib.Omega.{arith}
 use Rattle.model_paxos.specs.Messages.{Paxos}
 use Rattle.model_protocol.specs.declared.Batch.{Batch}
-use Rattle.model_agreement.specs.Content.{Content, paxos, request, restore, tell}
+use Rattle.model_agreement.specs.Content.{Content, follow, paxos, request, restore, tell}
 use Rattle.model_agreement.proofs.BallotInvariant.{Said, said-at}
 use Rattle.model_agreement.proofs.SentMessages.{Outbox, contentIn}
 
@@ -15,7 +15,8 @@ abbrev add : Content → List (Paxos Batch) → List (Paxos Batch)
 add (paxos m) l = m ∷ l
 add (request k e) l = l
 add (tell p t o) l = l
-add (restore p s i r) l = l
+add (restore p s i r n) l = l
+add (follow p s t o u) l = l
 
 -- those among the first k
 abbrev pub collected : Outbox → ℕ → List (Paxos Batch)
@@ -30,7 +31,8 @@ is-collected ms (suc k) m s = go (is-collected ms k m) (ℕ-discrete (s .sent .n
     skip (paxos x) t = List·Memᴰ·tail t
     skip (request j e) t = t
     skip (tell p t o) t′ = t′
-    skip (restore p z i r) t = t
+    skip (restore p z i r n) t = t
+    skip (follow p z t o u) t′ = t′
 
     go : (Said ms k m → List·Memᴰ m (collected ms k)) → Dec (s .sent .number ≡ k) → List·Memᴰ m (collected ms (suc k))
     go r (yes e) =
@@ -55,4 +57,5 @@ was-said ms (suc k) m t = go (contentIn ms k) refl (was-said ms k m) t
         two (inr u) = older (r u)
     go (request j y) e r t = older (r t)
     go (tell p z o) e r t = older (r t)
-    go (restore p z i y) e r t = older (r t)
+    go (restore p z i y n) e r t = older (r t)
+    go (follow p z x o u) e r t = older (r t)

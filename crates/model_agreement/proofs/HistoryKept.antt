@@ -23,11 +23,11 @@ use Rattle.model_protocol.specs.World.{slotOf, coordinatorOf, emptySlot, freshC
 use Rattle.model_agreement.specs.Content.{Content, paxos, request}
 use Rattle.model_agreement.specs.History.{Accepts, Event, Got, LastOpened, Since, asked, delivered, first, heard, here, kept, later, opened, opening, restoring, setup, withoutMessages, there}
 use Rattle.model_agreement.proofs.Arrays.{slot-cases, slot-ind, each-case, set-ind}
-use Rattle.model_agreement.proofs.BallotInvariant.{Inv, Mail, Said, accepted-positive, is-request, is-restore, is-tell, said-at, said-direct-message, said-one, said-other, said-others, said-up}
+use Rattle.model_agreement.proofs.BallotInvariant.{Inv, Mail, Said, accepted-positive, is-follow, is-request, is-restore, is-tell, said-at, said-direct-message, said-one, said-other, said-others, said-up}
 use Rattle.model_agreement.proofs.Range.{Range}
 use Rattle.model_agreement.proofs.Recorded.{AccHist, CoHist, acc-frame, acc-passes, acc-prepares, acc-sent, acc-votes, co-counts, co-frame, co-learns, co-opens}
 use Rattle.model_agreement.proofs.Shape.{Shape}
-use Rattle.model_agreement.proofs.StepEffects.{Move, asks, counts, crashes, hears, is-told, joins, learns, opens, passes-accept, passes-accepted, passes-prepare, passes-promise, passes-request, passes-restore, promises, proposes, restores, takes, tells, votes}
+use Rattle.model_agreement.proofs.StepEffects.{Move, asks, counts, crashes, follows, hears, is-told, joins, learns, opens, passes-accept, passes-accepted, passes-follow, passes-prepare, passes-promise, passes-request, passes-restore, promises, proposes, restores, takes, takes-follow, tells, votes}
 use Rattle.model_agreement.proofs.SentMessages.{At, OneNew, Outbox, Posts, outboxOf}
 
 -- ---- what an event leaves as it was
@@ -48,7 +48,8 @@ module _ {h : List Event} where
   got-aside (restored-by k m) (there y) = y
   got-aside (mailed m (is-request k e)) (there y) = y
   got-aside (mailed m (is-tell p t o)) (there y) = y
-  got-aside (mailed m (is-restore p s i r)) (there y) = y
+  got-aside (mailed m (is-restore p s i r n)) (there y) = y
+  got-aside (mailed m (is-follow p s t o u)) (there y) = y
 
   accepts-aside : {e : Event} {i b a : ℕ} {v : Batch} → Aside e → Accepts i b a v (e ∷ h) → Accepts i b a v h
   accepts-aside (set-up n) (later y) = y
@@ -57,7 +58,8 @@ module _ {h : List Event} where
   accepts-aside (restored-by k m) (later y) = y
   accepts-aside (mailed m (is-request k e)) (later y) = y
   accepts-aside (mailed m (is-tell p t o)) (later y) = y
-  accepts-aside (mailed m (is-restore p s i r)) (later y) = y
+  accepts-aside (mailed m (is-restore p s i r n)) (later y) = y
+  accepts-aside (mailed m (is-follow p s t o u)) (later y) = y
 
   since-aside : {e : Event} {k i b a : ℕ} → Aside e → Since k i b a (e ∷ h) → Since k i b a h
   since-aside (set-up n) (kept o y) = y
@@ -66,7 +68,8 @@ module _ {h : List Event} where
   since-aside (restored-by k m) (kept o y) = y
   since-aside (mailed m (is-request k e)) (kept o y) = y
   since-aside (mailed m (is-tell p t x)) (kept o y) = y
-  since-aside (mailed m (is-restore p s i r)) (kept o y) = y
+  since-aside (mailed m (is-restore p s i r n)) (kept o y) = y
+  since-aside (mailed m (is-follow p s t x u)) (kept o y) = y
 
   -- a message of the ballots of another kind
   got-kind : {j : ℕ} {m x : Paxos Batch} → kind m ≢ kind x → Got (paxos m) (delivered j (paxos x) ∷ h) → Got (paxos m) h
@@ -322,11 +325,12 @@ module _ {w : World} {h : List Event} (s : Shape w) (few : w .acceptors ≤ most
       }
   hist-move (tells k q tx ms c _ _ _ p) = record { acc = accs-sent H (said-up p) (λ m _. said-direct-message (is-tell q tx _) p m); co = H .co }
   hist-move (restores k q ms c _ _ _ p) =
-      aside (restored-by k _) (said-up p) (said-direct-message (is-restore q _ _ _) p)
+      aside (restored-by k _) (said-up p) (said-direct-message (is-restore q _ _ _ _) p)
       (λ j. co-frame (H .co j) tt (λ a y. since-aside (restored-by k _) y) (λ i c y. last-restoring y))
     where
       last-restoring : {j i b m : ℕ} → LastOpened j i b (restoring k m ∷ h) → LastOpened j i b h
       last-restoring (withoutMessages o y) = y
+  hist-move (follows k q tx ms c _ _ _ _ _ p) = record { acc = accs-sent H (said-up p) (λ m _. said-direct-message (is-follow q _ tx _ _) p m); co = H .co }
   hist-move (crashes d) = H
   hist-move (promises j i b a ms c t g p) = hist-promises j i b a (R .sent t .inst) ms c (R .sent t .acceptor) g p
   hist-move (passes-prepare j i b a t g) = hist-passes j i b a (R .sent t .inst) g
@@ -363,5 +367,7 @@ module _ {w : World} {h : List Event} (s : Shape w) (few : w .acceptors ≤ most
       }
   hist-move (passes-request j k e _) = directMessage j (is-request k e)
   hist-move (is-told j p tx o _) = directMessage j (is-tell p tx o)
-  hist-move (takes j p z i r _ _) = directMessage j (is-restore p z i r)
-  hist-move (passes-restore j p z i r _ _) = directMessage j (is-restore p z i r)
+  hist-move (takes j p z i r n _ _) = directMessage j (is-restore p z i r n)
+  hist-move (passes-restore j p z i r n _ _) = directMessage j (is-restore p z i r n)
+  hist-move (takes-follow j p z tx o u _ _) = directMessage j (is-follow p z tx o u)
+  hist-move (passes-follow j p z tx o u _ _) = directMessage j (is-follow p z tx o u)

@@ -11,10 +11,14 @@ pub mod Recorded
 pub mod HistoryKept
 pub mod Plain
 pub mod LogsAndProcesses
+pub mod FollowsKept
 pub mod ProcessesKeep
 pub mod AllInvariants
 pub mod Collected
+pub mod TakenOver
 pub mod Theorem
+pub mod FollowRefused
 pub mod Limits
 pub mod Cases
 pub mod Examples
+pub mod Followed

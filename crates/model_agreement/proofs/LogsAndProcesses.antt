@@ -17,8 +17,9 @@ use Rattle.log_core.specs.declared.Log.{Log}
 use Rattle.log_votes.specs.declared.Outcome.{Outcome}
 use Rattle.log_core.specs.declared.Replay.{Replay}
 use Rattle.log_core.specs.Enter.{feed}
-use Rattle.log_core.specs.Log.{emptyLog, holderOf, outcomeOf}
-use Rattle.log_votes.specs.Outcome.{isOpen}
+use Rattle.log_core.specs.Follow.{awaitedOf}
+use Rattle.log_core.specs.Log.{emptyLog, holderOf, outcomeOf, voteAt}
+use Rattle.log_votes.specs.Outcome.{isCommit, isOpen}
 use Rattle.log_core.specs.Replay.{replayOf}
 use Rattle.model_steps.specs.Limits.{coordinators, instances}
 use Rattle.log_laws.proofs.Replicated.{holders-length}
@@ -36,10 +37,10 @@ use Rattle.model_protocol.specs.Batch.{batchOf, entriesOf, noBatch, noEntry}
 use Rattle.model_protocol.specs.Coordinator.{batchToPropose, counting, learning}
 use Rattle.model_protocol.specs.Limits.{batchEntries, queuePlaces}
 use Rattle.model_protocol.specs.Queue.{firstBatch, leftBy, queueOf, queued, without}
-use Rattle.model_protocol.specs.Step.{heldStore}
+use Rattle.model_protocol.specs.Step.{heldStore, updateOf, votingStore}
 use Rattle.model_protocol.specs.World.{coordinatorOf, freshCoordinator, logOf}
-use Rattle.model_agreement.specs.Claim.{allEntries, plainLog}
-use Rattle.model_agreement.specs.Content.{Content, paxos, request, restore, tell}
+use Rattle.model_agreement.specs.Plain.{allEntries, plainLog}
+use Rattle.model_agreement.specs.Content.{Content, follow, paxos, request, restore, tell}
 use Rattle.model_agreement.specs.History.{Applied, Before, Event, Happened, asked, delivered, earlier, now, restoring}
 use Rattle.model_agreement.proofs.Arrays.{set-ind}
 use Rattle.model_agreement.proofs.HistoryKept.{Hist}
@@ -49,7 +50,7 @@ use Rattle.model_agreement.proofs.Queue.{front-of, in-joined, in-take, 
 use Rattle.model_agreement.proofs.Range.{Range}
 use Rattle.model_agreement.proofs.Shape.{QueueOk, Shape}
 use Rattle.model_agreement.proofs.Tests.{neqb→ne}
-use Rattle.model_agreement.proofs.StepEffects.{Move, asks, counts, crashes, hears, is-told, joins, learns, opens, passes-accept, passes-accepted, passes-prepare, passes-promise, passes-request, passes-restore, promises, proposes, restores, takes, tells, votes}
+use Rattle.model_agreement.proofs.StepEffects.{Move, asks, counts, crashes, follows, hears, is-told, joins, learns, opens, passes-accept, passes-accepted, passes-follow, passes-prepare, passes-promise, passes-request, passes-restore, promises, proposes, restores, takes, takes-follow, tells, votes}
 use Rattle.model_agreement.proofs.SentMessages.{AllNew, At, OneNew, Outbox, Posts, outboxOf}
 
 -- ---- what is said of a message, a queue and a log, by the number n of acceptors, the history h
@@ -78,13 +79,23 @@ pub record Told (n : ℕ) (S : Paxos Batch → Type 0) (tx : ℕ) (o : Outcome) 
   pub shut : T (not (isOpen o))
   pub is : o ≡ outcomeOf (plainLog batches) tx
 
--- the restore of number j
-pub record Given (n : ℕ) (h : List Event) (S : Paxos Batch → Type 0) (j p s i : ℕ) (r : Replay) : Type 0 where
+-- the follow of store s on tx
+pub record Brought (n : ℕ) (S : Paxos Batch → Type 0) (s tx : ℕ) (o : Outcome) (u : ℕ) : Type 0 where
+  pub batches : List Batch
+  pub front : Front n S batches
+  pub shut : T (not (isOpen o))
+  pub is : o ≡ outcomeOf (plainLog batches) tx
+  pub kept : isCommit s (voteAt (plainLog batches) tx s) ≡ true
+  pub update : u ≡ updateOf (plainLog batches) tx s
+
+-- the restore of number j, which lists the transactions x
+pub record Given (n : ℕ) (h : List Event) (S : Paxos Batch → Type 0) (j p s i : ℕ) (r : Replay) (x : ℕ) : Type 0 where
   pub batches : List Batch
   pub front : Front n S batches
   pub size : length batches ≡ i
   pub rows : r ≡ replayOf (plainLog batches) s
   pub holder : holderOf (plainLog batches) s ≡ p
+  pub running : x ≡ awaitedOf (plainLog batches) s
   pub place : s < stores
   pub sender : ℕ
   pub then : List Event
@@ -97,7 +108,8 @@ pub data SentFact (n : ℕ) (h : List Event) (S : Paxos Batch → Type 0) (j : �
   proposal : {i b a : ℕ} {v : Batch} → Fine h v → SentFact n h S j (paxos (accept i b a v))
   requested : {k : ℕ} {e : Entry} → Happened (asked e) h → SentFact n h S j (request k e)
   told : {p tx : ℕ} {o : Outcome} → Told n S tx o → SentFact n h S j (tell p tx o)
-  given : {p s i : ℕ} {r : Replay} → Given n h S j p s i r → SentFact n h S j (restore p s i r)
+  given : {p s i x : ℕ} {r : Replay} → Given n h S j p s i r x → SentFact n h S j (restore p s i r x)
+  brought : {p s tx u : ℕ} {o : Outcome} → Brought n S s tx o u → SentFact n h S j (follow p s tx o u)
 
 module _ {n : ℕ} {h : List Event} {S : Paxos Batch → Type 0} {j : ℕ} where
   pub fine-of : {i b a : ℕ} {v : Batch} → SentFact n h S j (paxos (accept i b a v)) → Fine h v
@@ -110,8 +122,11 @@ module _ {n : ℕ} {h : List Event} {S : Paxos Batch → Type 0} {j : ℕ} where
   pub told-of : {p tx : ℕ} {o : Outcome} → SentFact n h S j (tell p tx o) → Told n S tx o
   told-of (told f) = f
 
-  pub given-of : {p s i : ℕ} {r : Replay} → SentFact n h S j (restore p s i r) → Given n h S j p s i r
+  pub given-of : {p s i x : ℕ} {r : Replay} → SentFact n h S j (restore p s i r x) → Given n h S j p s i r x
   given-of (given f) = f
+
+  pub brought-of : {p s tx u : ℕ} {o : Outcome} → SentFact n h S j (follow p s tx o u) → Brought n S s tx o u
+  brought-of (brought f) = f
 
 pub record CoFact (n : ℕ) (h : List Event) (S : Paxos Batch → Type 0) (c : Coordinator) (l : Log) : Type 0 where
   pub fed : Fed n S (c .applied) l
@@ -148,14 +163,19 @@ module _ {n : ℕ} {S S′ : Paxos Batch → Type 0} (up : (m : Paxos Batch) →
   told-up : {tx : ℕ} {o : Outcome} → Told n S tx o → Told n S′ tx o
   told-up t = record { batches = t .batches; front = front-up (t .front); shut = t .shut; is = t .is }
 
+  brought-up : {s tx u : ℕ} {o : Outcome} → Brought n S s tx o u → Brought n S′ s tx o u
+  brought-up t =
+      record { batches = t .batches; front = front-up (t .front); shut = t .shut; is = t .is; kept = t .kept; update = t .update }
+
   module _ {h h′ : List Event} (l : Later h h′) where
-    given-up : {j p s i : ℕ} {r : Replay} → Given n h S j p s i r → Given n h′ S′ j p s i r
+    given-up : {j p s i x : ℕ} {r : Replay} → Given n h S j p s i r x → Given n h′ S′ j p s i r x
     given-up g = record {
       batches = g .batches;
       front = front-up (g .front);
       size = g .size;
       rows = g .rows;
       holder = g .holder;
+      running = g .running;
       place = g .place;
       sender = g .sender;
       then = g .then;
@@ -176,6 +196,7 @@ fact-up up l (proposal f) = proposal (fine-up l f)
 fact-up up l (requested f) = requested (asked-up l f)
 fact-up up l (told f) = told (told-up up f)
 fact-up up l (given f) = given (given-up up l f)
+fact-up up l (brought f) = brought (brought-up up f)
 
 module _ {n : ℕ} {h h′ : List Event} {ms : Outbox} {k : ℕ} {cos : List Coordinator} {logs : List Log} (O : RestOf n h ms k cos logs) (l : Later h h′) where
   -- nothing is sent
@@ -293,6 +314,15 @@ in-left {e} q b o t =
     size : length (queued q) ≤ queuePlaces
     size = simp length-take (omega (arith, o .count))
 
+-- a store that a follow names has a kept commit vote
+voted : (l : Log) (tx s : ℕ) → cond (isCommit s (voteAt l tx s)) s stores < stores
+    → isCommit (cond (isCommit s (voteAt l tx s)) s stores) (voteAt l tx (cond (isCommit s (voteAt l tx s)) s stores)) ≡ true
+voted l tx s = go (isCommit s (voteAt l tx s)) refl
+  where
+    go : (b : Bool) → isCommit s (voteAt l tx s) ≡ b → cond b s stores < stores → isCommit (cond b s stores) (voteAt l tx (cond b s stores)) ≡ true
+    go true e h = e
+    go false e h = absurd (omega arith)
+
 row-length : (bs : List Batch) (l : Log) → l ≡ plainLog bs → length (l .holders) ≡ stores
 unfolding plainLog
 row-length bs l e = ap (λ x. length (x .holders)) e ∙ holders-length (allEntries bs)
@@ -369,7 +399,7 @@ module _ {w : World} {h : List Event} (s : Shape w) (R : Range w) (I : Inv w) (H
       l : Log
       l = logOf w k
 
-      gave : Given (w .acceptors) (restoring k (w .sent) ∷ h) (Said ms c) (w .sent) q (heldStore l q) (coordinatorOf w k .applied) (replayOf l (heldStore l q))
+      gave : Given (w .acceptors) (restoring k (w .sent) ∷ h) (Said ms c) (w .sent) q (heldStore l q) (coordinatorOf w k .applied) (replayOf l (heldStore l q)) (awaitedOf l (heldStore l q))
       gave =
           let f = O .cos k .fed in
           record {
@@ -378,11 +408,28 @@ module _ {w : World} {h : List Event} (s : Shape w) (R : Range w) (I : Inv w) (H
             size = f .size;
             rows = ap (λ x. replayOf x (heldStore l q)) (f .is);
             holder = ap (λ x. holderOf x (heldStore l q)) (sym (f .is)) ∙ held-holder l q (subst (λ n. heldStore l q < n) (sym (row-length (f .batches) l (f .is))) z);
+            running = ap (λ x. awaitedOf x (heldStore l q)) (f .is);
             place = z;
             sender = k;
             then = h;
             sent = now;
             position = applied-now k;
+          }
+  rest-move (follows k q tx ms c _ _ _ z y p) = rest-more O same p (fact-one (brought (brought-up (said-up p) brings)))
+    where
+      l : Log
+      l = logOf w k
+
+      brings : Brought (w .acceptors) S (votingStore l q tx) tx (outcomeOf l tx) (updateOf l tx (votingStore l q tx))
+      brings =
+          let f = O .cos k .fed in
+          record {
+            batches = f .batches;
+            front = f .front;
+            shut = z;
+            is = ap (λ x. outcomeOf x tx) (f .is);
+            kept = ap (λ x. isCommit (votingStore l q tx) (voteAt x tx (votingStore l q tx))) (sym (f .is)) ∙ voted l tx (heldStore l q) y;
+            update = ap (λ x. updateOf x tx (votingStore l q tx)) (f .is);
           }
   rest-move (crashes d) = O
   rest-move (promises j i b a ms c t g p) = rest-more O (more _) p (fact-one (no-proposal (omega arith)))
@@ -428,5 +475,7 @@ module _ {w : World} {h : List Event} (s : Shape w) (R : Range w) (I : Inv w) (H
       joins-too x (inr d) = asked-up (more _) (rw d (asked-of (O .sent t)))
   rest-move (passes-request j k e _) = rest-same O (more _)
   rest-move (is-told j p tx o _) = rest-same O (more _)
-  rest-move (takes j p z i r _ _) = rest-same O (more _)
-  rest-move (passes-restore j p z i r _ _) = rest-same O (more _)
+  rest-move (takes j p z i r x _ _) = rest-same O (more _)
+  rest-move (passes-restore j p z i r x _ _) = rest-same O (more _)
+  rest-move (takes-follow j p z tx o u _ _) = rest-same O (more _)
+  rest-move (passes-follow j p z tx o u _ _) = rest-same O (more _)

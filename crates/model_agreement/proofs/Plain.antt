@@ -10,10 +10,11 @@ use Rattle.log_entry.specs.declared.Entry.{Entry}
 use Rattle.log_core.specs.declared.Log.{Log}
 use Rattle.log_core.specs.Enter.{enter, feed}
 use Rattle.log_core.specs.Log.{emptyLog, holderOf}
+use Rattle.log_laws.specs.Reached.{reached}
 use Rattle.model_protocol.specs.declared.Batch.{Batch}
 use Rattle.model_protocol.specs.Batch.{entriesOf}
 use Rattle.model_protocol.specs.Step.{heldFrom, heldStore}
-use Rattle.model_agreement.specs.Claim.{allEntries, plainLog}
+use Rattle.model_agreement.specs.Plain.{allEntries, plainLog}
 
 pub feed-append : (l : Log) (es fs : List Entry) → feed l (es ++ fs) ≡ feed (feed l es) fs
 unfolding feed
@@ -43,6 +44,12 @@ plain-more bs v = plain-append bs (v ∷ []) ∙ ap (λ es. feed (plainLog bs) e
 -- the first j batches, and the rest
 pub plain-split : (j : ℕ) (s : List Batch) → plainLog s ≡ feed (plainLog (take j s)) (allEntries (drop j s))
 plain-split j s = ap (λ l. plainLog l) (sym (take-append-drop j s)) ∙ plain-append (take j s) (drop j s)
+
+-- the same as a log that is reached by the entries of the first j batches and then by those of the
+-- rest
+pub plain-reached : (j : ℕ) (s : List Batch) → plainLog s ≡ reached (allEntries (take j s) ++ allEntries (drop j s))
+unfolding plainLog
+plain-reached j s = plain-split j s ∙ sym (feed-append emptyLog (allEntries (take j s)) (allEntries (drop j s)))
 
 -- ---- the store that a process holds
 

@@ -20,7 +20,7 @@ use Rattle.model_agreement.specs.Bounds.{CellRange, CoRange, InRange}
 use Rattle.model_agreement.specs.Content.{Content}
 use Rattle.model_agreement.specs.History.{Event}
 use Rattle.model_agreement.proofs.Arrays.{set-all}
-use Rattle.model_agreement.proofs.StepEffects.{Higher, Move, asks, counts, crashes, hears, is-told, joins, learns, opens, ours, passes-accept, passes-accepted, passes-prepare, passes-promise, passes-request, passes-restore, promises, proposes, restores, takes, tells, theirs, votes}
+use Rattle.model_agreement.proofs.StepEffects.{Higher, Move, asks, counts, crashes, follows, hears, is-told, joins, learns, opens, ours, passes-accept, passes-accepted, passes-follow, passes-prepare, passes-promise, passes-request, passes-restore, promises, proposes, restores, takes, takes-follow, tells, theirs, votes}
 use Rattle.model_agreement.proofs.SentMessages.{AllNew, At, OneNew, Outbox, Posts, outboxOf}
 
 pub record Range (w : World) : Type 0 where
@@ -122,6 +122,7 @@ module _ {w : World} (R : Range w) where
       }
   range-move (tells k q tx ms c g l _ p) = record { sent = more-one p (g, l); slots = R .slots; cos = R .cos }
   range-move (restores k q ms c z g _ p) = record { sent = more-one p (z, g, R .cos k .applied); slots = R .slots; cos = R .cos }
+  range-move (follows k q tx ms c z g l _ y p) = record { sent = more-one p (z, g, l, y); slots = R .slots; cos = R .cos }
   range-move (crashes d) = record { sent = R .sent; slots = R .slots; cos = R .cos }
   range-move (promises j i b a ms c s _ p) =
       record {
@@ -194,5 +195,7 @@ module _ {w : World} (R : Range w) where
       }
   range-move (passes-request j k e _) = R
   range-move (is-told j p tx o _) = record { sent = R .sent; slots = R .slots; cos = R .cos }
-  range-move (takes j p z i r _ _) = record { sent = R .sent; slots = R .slots; cos = R .cos }
-  range-move (passes-restore j p z i r _ _) = R
+  range-move (takes j p z i r n _ _) = record { sent = R .sent; slots = R .slots; cos = R .cos }
+  range-move (passes-restore j p z i r n _ _) = R
+  range-move (takes-follow j p z tx o u _ _) = record { sent = R .sent; slots = R .slots; cos = R .cos }
+  range-move (passes-follow j p z tx o u _ _) = R

@@ -131,6 +131,7 @@ posted w ms k = record {
   logs = w .logs;
   processes = w .processes;
   restored = w .restored;
+  follows = w .follows;
   down = w .down;
   messages = ms .messages;
   replays = ms .replays;

@@ -16,6 +16,7 @@ use Rattle.model_protocol.specs.declared.Batch.{Batch}
 use Rattle.model_protocol.specs.declared.AcceptorSlot.{AcceptorSlot}
 use Rattle.model_protocol.specs.declared.Coordinator.{Coordinator}
 use Rattle.model_protocol.specs.declared.Down.{Down}
+use Rattle.model_protocol.specs.declared.Follows.{Follows}
 use Rattle.model_protocol.specs.declared.Process.{Process}
 use Rattle.model_protocol.specs.declared.Queue.{Queue}
 use Rattle.model_protocol.specs.declared.World.{World}
@@ -23,14 +24,14 @@ use Rattle.model_protocol.specs.Batch.{entriesOf, noEntry}
 use Rattle.model_protocol.specs.Coordinator.{learning}
 use Rattle.model_protocol.specs.Limits.{slotPlaces, processPlaces, queuePlaces}
 use Rattle.model_protocol.specs.Queue.{isFull, joined, leftBy, queueOf, queued, without}
-use Rattle.model_protocol.specs.World.{coordinatorOf, freshCoordinator, freshProcess, processOf}
+use Rattle.model_protocol.specs.World.{coordinatorOf, followsOf, freshCoordinator, freshProcess, noFollows, processOf}
 use Rattle.model_agreement.specs.Content.{Content}
 use Rattle.model_agreement.specs.History.{Event}
 use Rattle.model_agreement.proofs.Arrays.{set-all}
 use Rattle.model_agreement.proofs.Queue.{without-shorter}
-use Rattle.model_agreement.proofs.StepEffects.{Move, asks, counts, crashes, hears, is-told, joins, learns, opens, passes-accept, passes-accepted, passes-prepare, passes-promise, passes-request, passes-restore, promises, proposes, restores, takes, tells, votes}
+use Rattle.model_agreement.proofs.StepEffects.{Move, asks, counts, crashes, follows, hears, is-told, joins, learns, opens, passes-accept, passes-accepted, passes-follow, passes-prepare, passes-promise, passes-request, passes-restore, promises, proposes, restores, takes, takes-follow, tells, votes}
 use Rattle.model_agreement.proofs.SentMessages.{Outbox, Posts, Roomy, outboxOf, posted}
-use Rattle.model_agreement.proofs.ChangedWorld.{withSlot, withCoordinator, withDown, withLearned, withProcess, withTaken}
+use Rattle.model_agreement.proofs.ChangedWorld.{withSlot, withCoordinator, withDown, withFollowed, withLearned, withProcess, withTaken}
 
 pub record QueueOk (q : Queue) : Type 0 where
   pub places : length (q .entries) ≡ queuePlaces
@@ -42,9 +43,11 @@ pub record Shape (w : World) : Type 0 where
   pub log-row : length (w .logs) ≡ coordinators
   pub process-row : length (w .processes) ≡ processPlaces
   pub restored-row : length (w .restored) ≡ processPlaces
+  pub follows-row : length (w .follows) ≡ processPlaces
   pub room : Roomy (outboxOf w)
   pub sent-most : w .sent ≤ messages
   pub heard : (p : ℕ) → length (processOf w p .heard) ≡ transactions
+  pub followed : (p : ℕ) → length (followsOf w p .of) ≡ transactions
   pub queues : (k : ℕ) → QueueOk (coordinatorOf w k .queue)
 
 joined-ok : (q : Queue) (e : Entry) → QueueOk q → q .count < queuePlaces → QueueOk (joined q e)
@@ -85,9 +88,11 @@ module _ {w : World} (s : Shape w) where
     log-row = s .log-row;
     process-row = s .process-row;
     restored-row = s .restored-row;
+    follows-row = s .follows-row;
     room = m .0;
     sent-most = m .1;
     heard = s .heard;
+    followed = s .followed;
     queues = queues-set k c q;
   }
 
@@ -98,9 +103,11 @@ module _ {w : World} (s : Shape w) where
     log-row = length-set (w .logs) k _ ∙ s .log-row;
     process-row = s .process-row;
     restored-row = s .restored-row;
+    follows-row = s .follows-row;
     room = s .room;
     sent-most = s .sent-most;
     heard = s .heard;
+    followed = s .followed;
     queues = queues-set k c q;
   }
 
@@ -113,9 +120,11 @@ module _ {w : World} (s : Shape w) where
     log-row = s .log-row;
     process-row = s .process-row;
     restored-row = s .restored-row;
+    follows-row = s .follows-row;
     room = m .0;
     sent-most = m .1;
     heard = s .heard;
+    followed = s .followed;
     queues = s .queues;
   }
 
@@ -126,9 +135,11 @@ module _ {w : World} (s : Shape w) where
     log-row = s .log-row;
     process-row = length-set (w .processes) p x ∙ s .process-row;
     restored-row = s .restored-row;
+    follows-row = s .follows-row;
     room = s .room;
     sent-most = s .sent-most;
     heard = heard-set p x o;
+    followed = s .followed;
     queues = s .queues;
   }
 
@@ -139,9 +150,27 @@ module _ {w : World} (s : Shape w) where
     log-row = s .log-row;
     process-row = length-set (w .processes) p x ∙ s .process-row;
     restored-row = length-set (w .restored) p r ∙ s .restored-row;
+    follows-row = s .follows-row;
     room = s .room;
     sent-most = s .sent-most;
     heard = heard-set p x o;
+    followed = s .followed;
+    queues = s .queues;
+  }
+
+  process-follows : (p : ℕ) (x : Process) (fs : Follows) → length (x .heard) ≡ transactions → length (fs .of) ≡ transactions
+      → Shape (withFollowed w p x fs)
+  process-follows p x fs o q = record {
+    slot-row = s .slot-row;
+    co-row = s .co-row;
+    log-row = s .log-row;
+    process-row = length-set (w .processes) p x ∙ s .process-row;
+    restored-row = s .restored-row;
+    follows-row = length-set (w .follows) p fs ∙ s .follows-row;
+    room = s .room;
+    sent-most = s .sent-most;
+    heard = heard-set p x o;
+    followed = set-all (λ y. length (y .of) ≡ transactions) (w .follows) noFollows p fs q (s .followed);
     queues = s .queues;
   }
 
@@ -153,9 +182,11 @@ module _ {w : World} (s : Shape w) where
     log-row = s .log-row;
     process-row = s .process-row;
     restored-row = s .restored-row;
+    follows-row = s .follows-row;
     room = m .0;
     sent-most = m .1;
     heard = s .heard;
+    followed = s .followed;
     queues = s .queues;
   }
 
@@ -172,6 +203,7 @@ module _ {w : World} (s : Shape w) where
   shape-move (proposes k i b v ms c _ _ _ _ _ _ _ _ p) = co-changes k _ ms c (more p) (s .queues k)
   shape-move (tells k q tx ms c _ _ _ p) = only-sent (w .down) ms c (more p)
   shape-move (restores k q ms c _ _ _ p) = only-sent (w .down) ms c (more p)
+  shape-move (follows k q tx ms c _ _ _ _ _ p) = only-sent (w .down) ms c (more p)
   shape-move (crashes d) = only-sent d (outboxOf w) (w .sent) none-sent
   shape-move (promises j i b a ms c _ _ p) = slot-changes a i _ ms c (more p)
   shape-move (passes-prepare j i b a _ _) = s
@@ -185,5 +217,7 @@ module _ {w : World} (s : Shape w) where
   shape-move (joins j k e _ f) = co-changes k _ _ _ none-sent (joins-ok k e f)
   shape-move (passes-request j k e _) = s
   shape-move (is-told j p tx o _) = process-changes p _ (length-set (processOf w p .heard) tx _ ∙ s .heard p)
-  shape-move (takes j p z i r _ _) = process-takes p _ r (s .heard p)
-  shape-move (passes-restore j p z i r _ _) = s
+  shape-move (takes j p z i r n _ _) = process-takes p _ r (s .heard p)
+  shape-move (passes-restore j p z i r n _ _) = s
+  shape-move (takes-follow j p z tx o u _ _) = process-follows p _ _ (s .heard p) (length-set (followsOf w p .of) tx _ ∙ s .followed p)
+  shape-move (passes-follow j p z tx o u _ _) = s

@@ -7,6 +7,7 @@ use mathlib.Core.Bool.{Bool, true, false, _&&_, _||_, not, cond}
 use mathlib.Core.List.{List, _∷_}
 use native.Mathlib.Nat.{mod-eq-of-lt, mod-lt}
 use native.Mathlib.Omega.{arith}
+use lib.ListN.{set}
 use lib.Dec.{T, T-not, eqb, eqb→eq, eqb-refl, leb, leb→le, ltb, ltb→lt, nleb→lt, nltb→le, lt→ltb}
 use Rattle.log_entry.specs.declared.Entry.{Entry}
 use Rattle.log_entry.specs.Entry.{noProcess, outside}
@@ -15,11 +16,12 @@ use Rattle.log_entry.specs.Refusal.{check, outsideLimits}
 use Rattle.log_votes.specs.declared.Outcome.{Outcome}
 use Rattle.log_core.specs.declared.Replay.{Replay}
 use Rattle.log_votes.specs.Outcome.{isOpen}
+use Rattle.log_core.specs.Follow.{awaitedOf}
 use Rattle.log_core.specs.Log.{outcomeOf}
 use Rattle.log_core.specs.Replay.{replayOf}
 use Rattle.model_steps.specs.declared.Role.{Role}
 use Rattle.model_steps.specs.declared.Step.{Step}
-use Rattle.model_steps.specs.declared.Step.the-variants.{Setup, Request, Open, Propose, Deliver, Tell, Restore, Crash}
+use Rattle.model_steps.specs.declared.Step.the-variants.{Setup, Request, Open, Propose, Deliver, Tell, Restore, Follow, Crash}
 use Rattle.model_steps.specs.Limits.{ballots, coordinators, instances, messages, noBallot, noCoordinator, outsideStep, mostAcceptors}
 use Rattle.model_paxos.specs.Ballot.{majority, owner}
 use Rattle.model_paxos.specs.Messages.{accept, accepted, prepare, promise}
@@ -42,18 +44,18 @@ use Rattle.model_protocol.specs.Coordinator.{batchToPropose, counting, hearing,
 use Rattle.model_protocol.specs.Change.{coordinatorNow, done}
 use Rattle.model_protocol.specs.Deliver.{deliveryChange, noPlaceFor}
 use Rattle.model_protocol.specs.Limits.{slotPlaces, processPlaces}
-use Rattle.model_protocol.specs.Message.{acceptTo, acceptedFrom, prepareTo, promiseFrom, requestTo, restoreTo, tellTo}
+use Rattle.model_protocol.specs.Message.{acceptTo, acceptedFrom, followTo, prepareTo, promiseFrom, requestTo, restoreTo, tellTo}
 use Rattle.model_protocol.specs.Places.{deliveryPlaces, placesOf}
-use Rattle.model_protocol.specs.Process.{hearingOutcome, taking}
+use Rattle.model_protocol.specs.Process.{following, hearingOutcome, taking, takesFollow}
 use Rattle.model_protocol.specs.Queue.{isFull, isIn, joined, joining, queued}
 use Rattle.model_protocol.specs.Send.{lacksNumbers}
-use Rattle.model_protocol.specs.Step.{acceptorsCounted, cannotOpen, cannotPropose, changed, changeOf, heldStore, messageFor, messageIn, partsAt, partsOf, placesIn, replayIn, stepChecks, stepOf, stepRefusal, voterNotHolder}
-use Rattle.model_protocol.specs.World.{slotOf, coordinatorOf, crashed, logOf, messageOf, newRound, processOf, replayWith, withMessage}
+use Rattle.model_protocol.specs.Step.{acceptorsCounted, cannotOpen, cannotPropose, changed, changeOf, heldStore, messageFor, messageIn, partsAt, partsOf, placesIn, replayIn, stepChecks, stepOf, stepRefusal, updateOf, voterNotHolder, votingStore}
+use Rattle.model_protocol.specs.World.{slotOf, coordinatorOf, crashed, followsOf, logOf, messageOf, newRound, processOf, replayWith, withMessage}
 use Rattle.model_agreement.specs.Bounds.{InRange}
-use Rattle.model_agreement.specs.Content.{Content, contentAs, paxos, request, restore, tell}
+use Rattle.model_agreement.specs.Content.{Content, contentAs, follow, paxos, request, restore, tell}
 use Rattle.model_agreement.specs.History.{Event, asked, delivered, note, noted, opened, restoring, setup}
 use Rattle.model_agreement.proofs.Tests.{Passed, Positive, both, is-false, is-true, neither, neqb→ne, none-of-five, none-of-three, not-first, not-not, not-second, passed}
-use Rattle.model_agreement.proofs.ChangedWorld.{accepts-sent, acceptors-changed, slot-answers, slotAt, coordinator-changed, coordinator-learns, down-changed, nothing, only-sends, prepares-sent, process-changed, process-takes, restore-sent, withAcceptors, withSlot, withCoordinator, withDown, withLearned, withProcess, withTaken}
+use Rattle.model_agreement.proofs.ChangedWorld.{accepts-sent, acceptors-changed, slot-answers, slotAt, coordinator-changed, coordinator-learns, down-changed, nothing, only-sends, prepares-sent, process-changed, process-follows, process-takes, restore-sent, withAcceptors, withSlot, withCoordinator, withDown, withFollowed, withLearned, withProcess, withTaken}
 use Rattle.model_agreement.proofs.SentMessages.{AllNew, At, OneNew, Outbox, Posts, Roomy, at-new, outboxOf, posted, posts-all, posts-both, posts-one, send-posts}
 
 -- the accepted pair that a round keeps after a promise with the pair (d, v)
@@ -91,8 +93,16 @@ pub data Move (w : World) (h : List Event) : World → List Event → Type 0 whe
       → Posts (outboxOf w) (w .sent) ms c
       (OneNew (w .sent)
       (restore p (heldStore (logOf w k) p) (coordinatorOf w k .applied)
-      (replayOf (logOf w k) (heldStore (logOf w k) p))))
+      (replayOf (logOf w k) (heldStore (logOf w k) p))
+      (awaitedOf (logOf w k) (heldStore (logOf w k) p))))
       → Move w h (posted w ms c) (restoring k (w .sent) ∷ h)
+  follows : (k p tx : ℕ) (ms : Outbox) (c : ℕ) → 0 < p → p ≤ processes → tx < transactions
+      → T (not (isOpen (outcomeOf (logOf w k) tx)))
+      → votingStore (logOf w k) p tx < stores
+      → Posts (outboxOf w) (w .sent) ms c
+      (OneNew (w .sent)
+      (follow p (votingStore (logOf w k) p tx) tx (outcomeOf (logOf w k) tx) (updateOf (logOf w k) tx (votingStore (logOf w k) p tx))))
+      → Move w h (posted w ms c) h
   crashes : (d : Down) → Move w h (withDown w d) h
   -- a message is delivered to an acceptor
   promises : (j i b a : ℕ) (ms : Outbox) (c : ℕ) → At (outboxOf w) (w .sent) j (paxos (prepare i b a))
@@ -146,12 +156,20 @@ pub data Move (w : World) (h : List Event) : World → List Event → Type 0 whe
   -- to a process
   is-told : (j p tx : ℕ) (o : Outcome) → At (outboxOf w) (w .sent) j (tell p tx o)
       → Move w h (withProcess w p (hearingOutcome (processOf w p) tx o)) (delivered j (tell p tx o) ∷ h)
-  takes : (j p s i : ℕ) (r : Replay) → At (outboxOf w) (w .sent) j (restore p s i r)
+  takes : (j p s i : ℕ) (r : Replay) (n : ℕ) → At (outboxOf w) (w .sent) j (restore p s i r n)
       → T (ltb (processOf w p .position) i)
-      → Move w h (withTaken w p (taking (processOf w p) s i) r) (delivered j (restore p s i r) ∷ h)
-  passes-restore : (j p s i : ℕ) (r : Replay) → At (outboxOf w) (w .sent) j (restore p s i r)
+      → Move w h (withTaken w p (taking (processOf w p) s i n) r) (delivered j (restore p s i r n) ∷ h)
+  passes-restore : (j p s i : ℕ) (r : Replay) (n : ℕ) → At (outboxOf w) (w .sent) j (restore p s i r n)
       → T (not (ltb (processOf w p .position) i))
-      → Move w h w (delivered j (restore p s i r) ∷ h)
+      → Move w h w (delivered j (restore p s i r n) ∷ h)
+  takes-follow : (j p s tx : ℕ) (o : Outcome) (u : ℕ) → At (outboxOf w) (w .sent) j (follow p s tx o u)
+      → T (takesFollow (processOf w p) s tx)
+      → Move w h
+      (withFollowed w p (following (processOf w p) tx) (record { of = set (followsOf w p .of) tx (record { outcome = o; update = u }) }))
+      (delivered j (follow p s tx o u) ∷ h)
+  passes-follow : (j p s tx : ℕ) (o : Outcome) (u : ℕ) → At (outboxOf w) (w .sent) j (follow p s tx o u)
+      → T (not (takesFollow (processOf w p) s tx))
+      → Move w h w (delivered j (follow p s tx o u) ∷ h)
 
 pub data Trans (w : World) (h : List Event) : World → List Event → Type 0 where
   refused : Trans w h w h
@@ -294,15 +312,24 @@ module _ (w : World) (h : List Event) (room : Roomy (outboxOf w)) (few : w .acce
         to-world (process-changed w (processAt (m .to)) y m (hearingOutcome (processOf w (m .to)) (m .tx) (m .outcome)))
         (is-told j (m .to) (m .tx) (m .outcome) s)
 
-    t-taken : At (outboxOf w) (w .sent) j (restore (m .to) (m .store) (m .position) y) → Handled j m y kind.Restore (processAt (m .to))
+    t-taken : At (outboxOf w) (w .sent) j (restore (m .to) (m .store) (m .position) y (m .running)) → Handled j m y kind.Restore (processAt (m .to))
     unfolding deliveryChange
     t-taken s _ =
         let at = processAt (m .to) in
         let q = processOf w (m .to) in
         move-by (λ (ch : Change). changed w at y ch) (ltb (q .position) (m .position))
-        (λ f. to-world (process-takes w at y m (taking q (m .store) (m .position)))
-        (takes j (m .to) (m .store) (m .position) y s f))
-        (λ f. to-world (nothing w at y m) (passes-restore j (m .to) (m .store) (m .position) y s f))
+        (λ f. to-world (process-takes w at y m (taking q (m .store) (m .position) (m .running)))
+        (takes j (m .to) (m .store) (m .position) y (m .running) s f))
+        (λ f. to-world (nothing w at y m) (passes-restore j (m .to) (m .store) (m .position) y (m .running) s f))
+
+    t-followed : At (outboxOf w) (w .sent) j (follow (m .to) (m .store) (m .tx) (m .outcome) (m .update)) → Handled j m y kind.Follow (processAt (m .to))
+    unfolding deliveryChange
+    t-followed s _ =
+        let at = processAt (m .to) in
+        let q = processOf w (m .to) in
+        move-by (λ (ch : Change). changed w at y ch) (takesFollow q (m .store) (m .tx))
+        (λ f. to-world (process-follows w at y m (following q (m .tx))) (takes-follow j (m .to) (m .store) (m .tx) (m .outcome) (m .update) s f))
+        (λ f. to-world (nothing w at y m) (passes-follow j (m .to) (m .store) (m .tx) (m .outcome) (m .update) s f))
 
     -- no number of a message that was sent lies beyond the places
     own-place : owner (m .ballot) % coordinators ≡ owner (m .ballot)
@@ -320,6 +347,7 @@ module _ (w : World) (h : List Event) (room : Roomy (outboxOf w)) (few : w .acce
     t-deliver kind.Accepted s = rw own-place (t-accepted s)
     t-deliver kind.Tell s = let l = range j _ s .0 in let e : m .to % processPlaces ≡ m .to = mod-eq-of-lt (omega arith) in rw e (t-told s)
     t-deliver kind.Restore s = let l = range j _ s .1 in let e : m .to % processPlaces ≡ m .to = mod-eq-of-lt (omega arith) in rw e (t-taken s)
+    t-deliver kind.Follow s = let l = range j _ s .1 in let e : m .to % processPlaces ≡ m .to = mod-eq-of-lt (omega arith) in rw e (t-followed s)
 
   -- ---- steps
 
@@ -416,12 +444,16 @@ module _ (w : World) (h : List Event) (room : Roomy (outboxOf w)) (few : w .acce
   process-in : (p : ℕ) → T (not (noProcess p)) → (0 < p) × (p ≤ processes)
   process-in p t = let q = neither (eqb p 0) (ltb processes p) t in let z = neqb→ne p 0 (q .0) in (omega arith, nltb→le processes p (q .1))
 
-  -- what a tell sends, and a restore, by the log of coordinator k
+  -- what a tell sends, a restore and a follow, by the log of coordinator k
   abbrev tellBy : ℕ → ℕ → ℕ → Message
   tellBy p tx k = tellTo p tx (outcomeOf (logOf w k) tx)
 
   abbrev restoreBy : ℕ → ℕ → Message
-  restoreBy p k = restoreTo p (heldStore (logOf w k) p) (coordinatorOf w k .applied)
+  restoreBy p k = restoreTo p (heldStore (logOf w k) p) (coordinatorOf w k .applied) (awaitedOf (logOf w k) (heldStore (logOf w k) p))
+
+  abbrev followBy : ℕ → ℕ → ℕ → Message
+  followBy p tx k =
+      followTo p (votingStore (logOf w k) p tx) tx (outcomeOf (logOf w k) tx) (updateOf (logOf w k) tx (votingStore (logOf w k) p tx))
 
   t-tell : (r : Replay) (k p tx : ℕ) → Taken (Tell k p tx) (coordinatorAt k) r (tellBy p tx k)
   unfolding changeOf stepChecks outsideStep
@@ -442,6 +474,17 @@ module _ (w : World) (h : List Event) (room : Roomy (outboxOf w)) (few : w .acce
       (moves (live (m .0))
       (restores k p _ _ (process-in p (l .1) .0) (process-in p (l .1) .1) (nleb→lt stores (heldStore (logOf w k) p) (m .1))
       (posts-both (outboxOf w) (w .sent) (restoreBy p k) room (one-left (q .1 .1 .1 .0)) _)))
+
+  t-follow : (r : Replay) (k p tx : ℕ) → Taken (Follow k p tx) (coordinatorAt k) r (followBy p tx k)
+  unfolding changeOf stepChecks outsideStep
+  t-follow r k p tx q =
+      let l = none-of-three (noCoordinator k) (noProcess p) (leb transactions tx) (q .0) in
+      let s = votingStore (logOf w k) p tx in
+      let m = none-of-three (eqb (w .acceptors) 0) (isOpen (outcomeOf (logOf w k) tx)) (leb stores s) (q .1 .1 .0) in
+      to-trans (only-sends w (coordinatorAt k) r (followBy p tx k) (followBy p tx k))
+      (moves (live (m .0))
+      (follows k p tx _ _ (process-in p (l .1) .0) (process-in p (l .1) .1) (nleb→lt transactions tx (l .2)) (m .1) (nleb→lt stores s (m .2))
+      (posts-one (outboxOf w) (w .sent) (followBy p tx k) room (one-left (q .1 .1 .1 .0)))))
 
   -- a step within its limits finds its coordinator
   at-its-place : (k : ℕ) (s : Step) (r : Replay) (d : ℕ → Message) → T (not (noCoordinator k)) → Taken s (coordinatorAt k) r (d k)
@@ -468,6 +511,8 @@ module _ (w : World) (h : List Event) (room : Roomy (outboxOf w)) (few : w .acce
   t-step (Tell k p tx) q =
       at-its-place k (Tell k p tx) _ (tellBy p tx) (none-of-three (noCoordinator k) (noProcess p) (leb transactions tx) (q .0) .0) (t-tell _ k p tx) q
   t-step (Restore k p) q = at-its-place k (Restore k p) _ (restoreBy p) (neither (noCoordinator k) (noProcess p) (q .0) .0) (t-restore _ k p) q
+  t-step (Follow k p tx) q =
+      at-its-place k (Follow k p tx) _ (followBy p tx) (none-of-three (noCoordinator k) (noProcess p) (leb transactions tx) (q .0) .0) (t-follow _ k p tx) q
   t-step (Crash role id) p = t-crash _ _ role id _ p
 
   positive : (p : Parts) (s : Step) → Positive (check outsideLimits (outsideStep (acceptorsCounted (p .acceptors)) s) ∷ stepChecks p s)
@@ -479,6 +524,7 @@ module _ (w : World) (h : List Event) (room : Roomy (outboxOf w)) (few : w .acce
   positive p (Deliver j) = (tt, (tt, (tt, (tt, (tt, tt)))))
   positive p (Tell k q tx) = (tt, (tt, (tt, (tt, tt))))
   positive p (Restore k q) = (tt, (tt, (tt, (tt, tt))))
+  positive p (Follow k q tx) = (tt, (tt, (tt, (tt, tt))))
   positive p (Crash role id) = (tt, (tt, (tt, tt)))
 
   pub trans : (s : Step) → Trans w h (stepOf w s .world) (noted w s h)

@@ -9,16 +9,21 @@ use native.Mathlib.Omega.{arith}
 use lib.Count.{onesIn}
 use lib.Dec.{T, eqb, eqb→eq}
 use lib.ListN.{drop, length, take}
-use lib.Seq.{ext-getD}
+use lib.Seq.{ext-getD, take-length, take-take}
 use Rattle.log_entry.specs.declared.Entry.{Entry}
+use Rattle.log_core.specs.declared.Replay.{Replay}
 use Rattle.log_votes.specs.declared.Outcome.{Outcome}
 use Rattle.log_votes.specs.declared.Outcome.the-variants.{Open, Commit, Abort}
 use Rattle.log_core.specs.Enter.{feed}
-use Rattle.log_core.specs.Log.{holderOf, outcomeOf}
+use Rattle.log_core.specs.Follow.{awaitedOf}
+use Rattle.log_core.specs.Log.{holderOf, outcomeOf, voteAt}
 use Rattle.log_votes.specs.Outcome.{isOpen}
 use Rattle.log_core.specs.Replay.{replayOf}
 use Rattle.model_steps.specs.declared.Step.{Step}
 use Rattle.model_steps.specs.Limits.{instances}
+use Rattle.log_entry.proofs.Tests.{and-left, and-right}
+use Rattle.log_laws.specs.Reached.{reached}
+use Rattle.log_laws.specs.TakenOver.{CommittedUpdate}
 use Rattle.log_laws.proofs.Replicated.{decided-stays}
 use Rattle.model_paxos.specs.Ballot.{Majority}
 use Rattle.model_paxos.specs.Messages.{Paxos, accept}
@@ -30,15 +35,18 @@ use Rattle.model_protocol.specs.declared.World.{World}
 use Rattle.model_protocol.specs.Batch.{entriesOf, noBatch}
 use Rattle.model_protocol.specs.Step.{run}
 use Rattle.model_protocol.specs.World.{coordinatorOf, freshWorld, logOf}
-use Rattle.model_agreement.specs.Claim.{Demand3, IsSequence, RestoredWell, allEntries, batchAt, keptOf, plainLog}
-use Rattle.model_agreement.specs.Content.{paxos, request, restore, tell}
-use Rattle.model_agreement.specs.History.{Accepts, Applied, Decided, Event, Got, Happened, acceptors, asked, delivered, first, heardOf, here, history, later, opened, restoredOf, restoring, setup, there}
+use Rattle.model_agreement.specs.Claim.{Demand3, IsSequence, RestoredWell, batchAt, keptOf}
+use Rattle.model_agreement.specs.Content.{follow, paxos, request, restore, tell}
+use Rattle.model_agreement.specs.Plain.{allEntries, plainLog}
+use Rattle.model_agreement.specs.TakenOver.{AllFollowed, EarlierCommit, FollowedWell, Holds, TakenOver}
+use Rattle.model_agreement.specs.History.{Accepts, Applied, Decided, Event, Follow, Got, Restored, Happened, acceptors, asked, delivered, first, heardOf, here, history, later, opened, restoredOf, restoring, setup, there}
 use Rattle.model_agreement.proofs.Collected.{collected, is-collected, was-said}
 use Rattle.model_agreement.proofs.AllInvariants.{Extends, Good, good, history-extends}
 use Rattle.model_agreement.proofs.BallotInvariant.{Said}
-use Rattle.model_agreement.proofs.Plain.{plain-split}
-use Rattle.model_agreement.proofs.LogsAndProcesses.{Front, Told, fine-of, given-of, told-of}
+use Rattle.model_agreement.proofs.Plain.{plain-reached, plain-split}
+use Rattle.model_agreement.proofs.LogsAndProcesses.{Front, Given, Told, brought-of, fine-of, given-of, told-of}
 use Rattle.model_agreement.proofs.SentMessages.{outboxOf}
+use Rattle.model_agreement.proofs.TakenOver.{followed-stays, invented-none, lost-none, taken-got}
 
 -- ---- sequences of one history, and of a longer one
 
@@ -84,7 +92,8 @@ heard-told p tx (opened c i b ∷ h) d = there (heard-told p tx h d)
 heard-told p tx (restoring c m ∷ h) d = there (heard-told p tx h d)
 heard-told p tx (delivered m (paxos x) ∷ h) d = there (heard-told p tx h d)
 heard-told p tx (delivered m (request k e) ∷ h) d = there (heard-told p tx h d)
-heard-told p tx (delivered m (restore q s i r) ∷ h) d = there (heard-told p tx h d)
+heard-told p tx (delivered m (restore q s i r n) ∷ h) d = there (heard-told p tx h d)
+heard-told p tx (delivered m (follow q s t o u) ∷ h) d = there (heard-told p tx h d)
 heard-told p tx (delivered m (tell q t o) ∷ h) d = go (eqb p q) (eqb tx t) (eqb→eq p q) (eqb→eq tx t) (heard-told p tx h) d
   where
     go : (a b : Bool)
@@ -221,7 +230,77 @@ module _ {w : World} {h : List Event} (G : Good w h) where
         within = omega (arith, f .0, g .size);
         rows = g .rows ∙ ap (λ l. replayOf (plainLog l) (restoredOf p h .store)) e;
         holder = ap (λ l. holderOf (plainLog l) (restoredOf p h .store)) (sym e) ∙ g .holder;
+        running = g .running ∙ ap (λ l. awaitedOf (plainLog l) (restoredOf p h .store)) e;
       }
+
+  -- ---- a store that was taken over, by the plain log fed s, which begins with the sequence
+
+  module _ (s : List Batch) (b : sequence ≡ take (length sequence) s) where
+    -- a log fed chosen batches is fed more
+    begins-with : (l : List Batch) → Front n S l → take (length l) s ≡ l
+    begins-with l f =
+        let z = front l f in
+        sym (take-take (length l) (length sequence) s (z .0)) ∙ ap (λ x. take (length l) x) (sym b) ∙ sym (z .1)
+
+    fed-more : (l : List Batch) → Front n S l → plainLog s ≡ reached (allEntries l ++ allEntries (drop (length l) s))
+    fed-more l f = plain-reached (length l) s ∙ ap (λ x. reached (allEntries x ++ allEntries (drop (length l) s))) (begins-with l f)
+
+    follow-is : {p store tx update : ℕ} {o : Outcome} → Got (follow p store tx o update) h → FollowedWell (plainLog s) store tx o update
+    unfolding plainLog
+    follow-is {p} {store} {tx} {update} {o} g =
+        let f = brought-of (G .rest .sent (G .got .was g .at)) in
+        let v = voteAt (plainLog (f .batches)) tx store in
+        subst (λ l. FollowedWell l store tx o update) (sym (fed-more (f .batches) (f .front)))
+        (followed-stays (allEntries (f .batches)) _ store tx o update (not-open o (f .shut)) (f .is)
+        (and-left (v .kept) (v .commit) (f .kept), and-right (v .kept) (v .commit) (f .kept)) (f .update))
+
+    module _ (p : ℕ) (l : 0 < restoredOf p h .position) where
+      abbrev r : Restored
+      r = restoredOf p h
+
+      sent : Given n h S (r .number) p (r .store) (r .position) (r .replay) (r .running)
+      sent = given-of (G .rest .sent (G .kept .taken p l))
+
+      abbrev es : List Entry
+      es = allEntries (sent .batches)
+
+      abbrev rest : List Entry
+      rest = allEntries (drop (length (sent .batches)) s)
+
+      is : plainLog s ≡ reached (es ++ rest)
+      is = fed-more (sent .batches) (sent .front)
+
+      its-follows : (f : Follow) → List·Memᴰ f (r .follows) → FollowedWell (reached (es ++ rest)) (r .store) (f .tx) (f .outcome) (f .update)
+      its-follows f t = subst (λ x. FollowedWell x (r .store) (f .tx) (f .outcome) (f .update)) is (follow-is (taken-got p h f t))
+
+      no-loss : (tx : ℕ) → AllFollowed r → EarlierCommit p r s tx → Holds r tx (voteAt (plainLog s) tx (r .store) .update)
+      unfolding plainLog
+      no-loss tx all e =
+          rw is
+          (lost-none es rest p r (sent .rows) (sent .running) (sent .holder) its-follows tx (rw is at (e .kept-commit)) (rw is at (e .committed)) all
+          (rw (is, at-position) at (e .took))
+          (rw is at (e .another)))
+        where
+          at-position : take (r .position) s ≡ sent .batches
+          at-position = ap (λ x. take x s) (sym (sent .size)) ∙ begins-with (sent .batches) (sent .front)
+
+      no-invention : (tx update : ℕ) → Holds r tx update → CommittedUpdate (plainLog s) tx (r .store) update
+      unfolding plainLog
+      no-invention tx update t = rw is (invented-none es rest p r (sent .rows) (sent .running) (sent .holder) its-follows tx update t)
+
+    list-is : {p store position running : ℕ} {y : Replay} → Got (restore p store position y running) h
+        → running ≡ awaitedOf (plainLog (take position s)) store
+    list-is {p} {store} g =
+        let f = given-of (G .rest .sent (G .got .was g .at)) in
+        f .running ∙ ap (λ l. awaitedOf (plainLog l) store) (sym (begins-with (f .batches) (f .front)) ∙ ap (λ x. take x s) (f .size))
+
+    pub holds-over : TakenOver h s
+    holds-over = record {
+      listed = list-is;
+      followed = follow-is;
+      none-lost = λ p tx l all e. no-loss p l tx all e;
+      none-invented = λ p tx update l t. no-invention p l tx update t;
+    }
 
 -- what was heard stays so, whatever steps follow
 heard-stays : (steps more : List Step) (s : List Batch) {p tx : ℕ} {o : Outcome}
@@ -249,6 +328,10 @@ demand-3 steps = record {
   restored-store = λ p. G .kept .each p .store;
   restored-position = λ p. G .kept .each p .position;
   restored-replay = G .kept .replays;
+  restored-running = λ p. G .kept .each p .running;
+  restored-follows = G .kept .follows;
+  taken-over = holds-over G (sequence G) (sym (take-length (sequence G)));
+  taken-over-stays = λ more s P. holds-over G s (begins (sequence G) s (history-extends steps more) (is-sequence G) P);
 }
   where
     G : Good (run freshWorld steps) (history steps)

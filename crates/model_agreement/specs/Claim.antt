@@ -2,32 +2,27 @@
 -- each step of it.
 use Prim.Native.Nat.{ℕ, _≤_, _<_}
 use mathlib.Core.Path.{_≡_}
-use mathlib.Core.Logic.{_≢_}
-use mathlib.Core.List.{List, [], _∷_, _++_, List·Memᴰ}
+use mathlib.Core.Logic.{_↔_, _≢_}
+use mathlib.Core.Bool.{true}
+use mathlib.Core.List.{List, _++_, List·Memᴰ}
 use lib.ListN.{getD, length, take}
 use Rattle.log_entry.specs.declared.Entry.{Entry}
-use Rattle.log_core.specs.declared.Log.{Log}
+use Rattle.log_entry.specs.Bits.{has}
 use Rattle.log_votes.specs.declared.Outcome.{Outcome}
 use Rattle.log_votes.specs.declared.Outcome.the-variants.{Open}
-use Rattle.log_core.specs.Enter.{feed}
-use Rattle.log_core.specs.Log.{emptyLog, holderOf, outcomeOf}
+use Rattle.log_core.specs.Follow.{awaitedOf}
+use Rattle.log_core.specs.Log.{holderOf, outcomeOf}
 use Rattle.log_core.specs.Replay.{replayOf}
 use Rattle.model_steps.specs.declared.Step.{Step}
 use Rattle.model_protocol.specs.declared.Batch.{Batch}
 use Rattle.model_protocol.specs.declared.World.{World}
 use Rattle.model_protocol.specs.Batch.{entriesOf, noBatch}
 use Rattle.model_protocol.specs.Step.{run}
-use Rattle.model_protocol.specs.World.{coordinatorOf, freshWorld, logOf, processOf, restoredTo}
+use Rattle.model_protocol.specs.World.{coordinatorOf, followsOf, freshWorld, logOf, noFollowed, processOf, restoredTo}
 use Rattle.model_agreement.specs.Content.{tell}
-use Rattle.model_agreement.specs.History.{Applied, Before, Decided, Event, Got, Happened, Restored, acceptors, asked, heardOf, history, restoredOf, restoring}
-
--- "The plain log is fed from empty, batch by batch in order."
-abbrev pub allEntries : List Batch → List Entry
-allEntries [] = []
-allEntries (b ∷ bs) = entriesOf b ++ allEntries bs
-
-unfoldable pub plainLog : List Batch → Log
-plainLog bs = feed emptyLog (allEntries bs)
+use Rattle.model_agreement.specs.History.{Applied, Before, Decided, Event, Follow, Got, Happened, Restored, acceptors, asked, heardOf, history, restoredOf, restoring}
+use Rattle.model_agreement.specs.Plain.{plainLog}
+use Rattle.model_agreement.specs.TakenOver.{TakenOver}
 
 -- the batch of instance i in the sequence s
 abbrev pub batchAt : List Batch → ℕ → Batch
@@ -44,6 +39,12 @@ pub record IsSequence (h : List Event) (s : List Batch) : Type 0 where
 abbrev pub keptOf : World → ℕ → ℕ → Outcome
 keptOf w p tx = getD (processOf w p .heard) tx (record { outcome = Open }) .outcome
 
+-- process p keeps the follow
+abbrev pub KeepsFollow : World → ℕ → Follow → Type 0
+KeepsFollow w p f =
+    (has (processOf w p .followed) (f .tx) ≡ true)
+    × (getD (followsOf w p .of) (f .tx) noFollowed ≡ record { outcome = f .outcome; update = f .update })
+
 -- the restore r that p took last, after the history h with the sequence s
 pub record RestoredWell (p : ℕ) (r : Restored) (h : List Event) (s : List Batch) : Type 0 where
   -- its sender, and the history when it was sent
@@ -57,6 +58,8 @@ pub record RestoredWell (p : ℕ) (r : Restored) (h : List Event) (s : List Batc
   -- holder"
   pub rows : r .replay ≡ replayOf (plainLog (take (r .position) s)) (r .store)
   pub holder : holderOf (plainLog (take (r .position) s)) (r .store) ≡ p
+  -- it lists exactly "the running transactions in which the store has a kept commit vote"
+  pub running : r .running ≡ awaitedOf (plainLog (take (r .position) s)) (r .store)
 
 -- the claim after the list of steps, with its history h and its world w
 pub record Claim (steps : List Step) (h : List Event) (w : World) : Type 0 where
@@ -89,6 +92,14 @@ pub record Claim (steps : List Step) (h : List Event) (w : World) : Type 0 where
   pub restored-store : (p : ℕ) → processOf w p .store ≡ restoredOf p h .store
   pub restored-position : (p : ℕ) → processOf w p .position ≡ restoredOf p h .position
   pub restored-replay : (p : ℕ) → restoredTo w p ≡ restoredOf p h .replay
+  pub restored-running : (p : ℕ) → processOf w p .running ≡ restoredOf p h .running
+  -- and the follows that it took since, and no others
+  pub restored-follows : (p : ℕ) (f : Follow) → KeepsFollow w p f ↔ List·Memᴰ f (restoredOf p h .follows)
+  -- "The last restore plus the follows taken since then hold every update committed by the old
+  -- holder's votes, once a follow of each listed transaction was taken"
+  pub taken-over : TakenOver h sequence
+  -- and it stays so
+  pub taken-over-stays : (more : List Step) (s : List Batch) → IsSequence (history (steps ++ more)) s → TakenOver h s
 
 -- demand 3
 abbrev pub Demand3 : Type 0

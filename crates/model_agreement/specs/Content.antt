@@ -6,7 +6,7 @@ use Rattle.log_core.specs.declared.Replay.{Replay}
 use Rattle.model_paxos.specs.Messages.{Paxos, accept, accepted, prepare, promise}
 use Rattle.model_protocol.specs.declared.Batch.{Batch}
 use Rattle.model_protocol.specs.declared.Kind.{Kind}
-use Rattle.model_protocol.specs.declared.Kind.the-variants.{Request, Prepare, Accept, Promise, Accepted, Tell, Restore}
+use Rattle.model_protocol.specs.declared.Kind.the-variants.{Request, Prepare, Accept, Promise, Accepted, Tell, Restore, Follow}
 use Rattle.model_protocol.specs.declared.Message.{Message}
 
 pub data Content : Type 0 where
@@ -15,8 +15,10 @@ pub data Content : Type 0 where
   request : ℕ → Entry → Content
   -- process, transaction, outcome
   tell : ℕ → ℕ → Outcome → Content
-  -- process, store, position, replay
-  restore : ℕ → ℕ → ℕ → Replay → Content
+  -- process, store, position, replay, the transactions listed as running
+  restore : ℕ → ℕ → ℕ → Replay → ℕ → Content
+  -- process, store, transaction, outcome, update
+  follow : ℕ → ℕ → ℕ → Outcome → ℕ → Content
 
 -- of a message m with which the replay r goes
 abbrev pub contentAs : Kind → Message → Replay → Content
@@ -26,7 +28,8 @@ contentAs Accept m r = paxos (accept (m .inst) (m .ballot) (m .acceptor) (m .bat
 contentAs Promise m r = paxos (promise (m .inst) (m .ballot) (m .acceptor) (m .accepted) (m .batch))
 contentAs Accepted m r = paxos (accepted (m .inst) (m .ballot) (m .acceptor))
 contentAs Tell m r = tell (m .to) (m .tx) (m .outcome)
-contentAs Restore m r = restore (m .to) (m .store) (m .position) r
+contentAs Restore m r = restore (m .to) (m .store) (m .position) r (m .running)
+contentAs Follow m r = follow (m .to) (m .store) (m .tx) (m .outcome) (m .update)
 
 abbrev pub contentOf : Message → Replay → Content
 contentOf m r = contentAs (m .kind) m r

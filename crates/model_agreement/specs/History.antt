@@ -1,7 +1,7 @@
 -- Document 01, "Whole lists of steps": what was opened, sent and delivered, and its words that are
 -- defined by that alone. The newest event stands first.
 use Prim.Native.Nat.{ℕ, _≤_, _<_}
-use mathlib.Core.Bool.{cond, _&&_}
+use mathlib.Core.Bool.{Bool, false, cond, _&&_, _||_, not}
 use mathlib.Core.List.{List, [], _∷_}
 use mathlib.Core.Logic.{_≢_}
 use lib.Dec.{T, eqb, ltb}
@@ -12,6 +12,7 @@ use Rattle.log_votes.specs.declared.Outcome.{Outcome}
 use Rattle.log_votes.specs.declared.Outcome.the-variants as outcome
 use Rattle.log_core.specs.declared.Replay.{Replay}
 use Rattle.model_steps.specs.declared.Step.{Step}
+use Rattle.model_steps.specs.declared.Step.the-variants as step
 use Rattle.model_steps.specs.declared.Step.the-variants.{Setup, Request, Open, Propose, Deliver, Tell, Restore, Crash}
 use Rattle.model_paxos.specs.Ballot.{Majority}
 use Rattle.model_paxos.specs.Messages.{accept, accepted, prepare}
@@ -20,7 +21,7 @@ use Rattle.model_protocol.specs.declared.World.{World}
 use Rattle.log_core.specs.Replay.{noReplay}
 use Rattle.model_protocol.specs.Step.{stepOf}
 use Rattle.model_protocol.specs.World.{freshWorld, messageOf, replayWith}
-use Rattle.model_agreement.specs.Content.{Content, contentOf, paxos, request, restore, tell}
+use Rattle.model_agreement.specs.Content.{Content, contentOf, follow, paxos, request, restore, tell}
 
 -- ---- "Opened, sent and delivered mean by a step answered 0."
 
@@ -44,6 +45,7 @@ note w (Propose c i b) h = h
 note w (Deliver m) h = delivered m (contentOf (messageOf w m) (replayWith w m)) ∷ h
 note w (Tell c p tx) h = h
 note w (Restore c p) h = restoring c (w .sent) ∷ h
+note w (step.Follow c p tx) h = h
 note w (Crash role id) h = h
 
 unfoldable pub noted : World → Step → List Event → List Event
@@ -142,26 +144,64 @@ abbrev pub hears : ℕ → ℕ → ℕ → Content → Outcome → Outcome
 hears p tx m (paxos x) o = o
 hears p tx m (request k e) o = o
 hears p tx m (tell q t o′) o = cond (eqb p q && eqb tx t) o′ o
-hears p tx m (restore q s i r) o = o
+hears p tx m (restore q s i r running) o = o
+hears p tx m (follow q s t o′ u) o = o
 
 -- what p heard of tx last, open if nothing
 abbrev pub heardOf : ℕ → ℕ → List Event → Outcome
 heardOf p tx h = overDeliveries (hears p tx) outcome.Open h
 
+-- a follow, as it was taken
+pub record Follow : Type 0 where
+  pub tx : ℕ
+  pub outcome : Outcome
+  pub update : ℕ
+
+-- the restore that was taken last, and the follows taken since
 pub record Restored : Type 0 where
   -- of the message
   pub number : ℕ
   pub store : ℕ
   pub position : ℕ
   pub replay : Replay
+  -- the transactions listed as running, as a set
+  pub running : ℕ
+  -- the newest first
+  pub follows : List Follow
 
--- "exactly if its position is above the last it took, 0 at first"
+-- one for the transaction was taken
+abbrev pub isFollowed : ℕ → List Follow → Bool
+isFollowed tx [] = false
+isFollowed tx (f ∷ fs) = eqb tx (f .tx) || isFollowed tx fs
+
+-- a restore was taken, and the last one was of the store
+abbrev pub isOf : Restored → ℕ → Bool
+isOf r store = ltb 0 (r .position) && eqb (r .store) store
+
+-- "exactly if it is for its last restore's store and a transaction listed there as running, and none
+-- for that transaction was taken since that restore"
+abbrev pub isTaken : Restored → ℕ → ℕ → Bool
+isTaken r store tx = isOf r store && has (r .running) tx && not (isFollowed tx (r .follows))
+
+abbrev pub withFollow : Restored → Follow → Restored
+withFollow r f = record {
+  number = r .number;
+  store = r .store;
+  position = r .position;
+  replay = r .replay;
+  running = r .running;
+  follows = f ∷ r .follows;
+}
+
+-- a restore "exactly if its position is above the last it took, 0 at first"; and a follow
 abbrev pub takes : ℕ → ℕ → Content → Restored → Restored
 takes p m (paxos x) r = r
 takes p m (request k e) r = r
 takes p m (tell q t o) r = r
-takes p m (restore q s i rows) r = cond (eqb p q && ltb (r .position) i) (record { number = m; store = s; position = i; replay = rows }) r
+takes p m (restore q s i rows running) r =
+    cond (eqb p q && ltb (r .position) i) (record { number = m; store = s; position = i; replay = rows; running = running; follows = [] }) r
+takes p m (follow q s tx o u) r = cond (eqb p q && isTaken r s tx) (withFollow r (record { tx = tx; outcome = o; update = u })) r
 
 -- "Its restored store is that of the last restore it took"; position 0 if it took none
 abbrev pub restoredOf : ℕ → List Event → Restored
-restoredOf p h = overDeliveries (takes p) (record { number = 0; store = 0; position = 0; replay = noReplay }) h
+restoredOf p h = overDeliveries (takes p) (record { number = 0; store = 0; position = 0; replay = noReplay; running = 0; follows = [] }) h

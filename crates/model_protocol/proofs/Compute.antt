@@ -5,6 +5,7 @@ use Rattle.log_entry.specs.Entry.{illFormed, outside, sameEntry}
 use Rattle.log_entry.specs.Refusal.{firstRefusal}
 use Rattle.log_core.specs.Decide.{effectOf, refusal}
 use Rattle.log_core.specs.Enter.{enter, entered, feed, stored}
+use Rattle.log_core.specs.Follow.{awaitedOf}
 use Rattle.log_core.specs.Group.{remembered}
 use Rattle.log_core.specs.Log.{emptyLog}
 use Rattle.log_votes.specs.Outcome.{outcomeOfVotes, running}
@@ -20,9 +21,9 @@ use Rattle.model_protocol.specs.Places.{placesOf}
 use Rattle.model_protocol.specs.Queue.{firstBatch, isIn, joining, leftBy, queueOf, without}
 use Rattle.model_protocol.specs.Send.{copyOf, sendToAll}
 use Rattle.model_protocol.specs.Step.{changeOf, heldFrom, messageFor, run, stepChecks, stepOf, stepRefusal}
-use Rattle.model_protocol.specs.World.{allUp, freshCoordinator, freshProcess, freshWorld}
+use Rattle.model_protocol.specs.World.{allUp, freshCoordinator, freshProcess, freshWorld, noFollows}
 
 -- the world after a list of steps from the fresh world
 unfoldable pub computed : List Step → World
-unfolding run stepOf placesOf stepRefusal stepChecks changeOf messageFor heldFrom deliveryChange firstRefusal outsideStep outside illFormed sendToAll copyOf promiseHeard learning joining batchToPropose firstBatch batchOf isIn sameEntry leftBy queueOf without freshWorld freshCoordinator freshProcess allUp noBatch noReplay emptyLog feed enter entered stored effectOf refusal remembered setOf outcomeOfVotes running replayOf replayFrom groupReplay anyFrom allFrom ones onesIn
+unfolding run stepOf placesOf stepRefusal stepChecks changeOf messageFor heldFrom deliveryChange firstRefusal outsideStep outside illFormed sendToAll copyOf promiseHeard learning joining batchToPropose firstBatch batchOf isIn sameEntry leftBy queueOf without freshWorld freshCoordinator freshProcess allUp noBatch noReplay noFollows awaitedOf emptyLog feed enter entered stored effectOf refusal remembered setOf outcomeOfVotes running replayOf replayFrom groupReplay anyFrom allFrom ones onesIn
 computed steps = run freshWorld steps

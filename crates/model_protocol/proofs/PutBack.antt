@@ -38,6 +38,7 @@ module _ (w : World) (at : Places) where
     logs = same-logs i;
     processes = same-processes i;
     restored = w .restored;
+    follows = w .follows;
     down = w .down;
     messages = w .messages;
     replays = w .replays;

@@ -1,17 +1,21 @@
 -- The tables of steps and answers, by computation, and what stands in the world at their ends.
 use Prim.Native.Nat.{ℕ}
 use mathlib.Core.Path.{_≡_, refl}
+use mathlib.Core.Bool.{true, false}
 use mathlib.Core.List.{List, [], _∷_, _++_, map}
 use lib.ListN.{getD, take}
 use Rattle.log_entry.specs.declared.Entry.{Entry}
 use Rattle.log_votes.specs.declared.Outcome.{Outcome}
 use Rattle.log_votes.specs.declared.Outcome.the-variants as outcome
 use Rattle.log_core.specs.declared.Replayed.{Replayed}
+use Rattle.model_protocol.specs.declared.Followed.{Followed}
 use Rattle.model_protocol.specs.declared.Message.{Message}
+use Rattle.model_protocol.specs.declared.Process.{Process}
 use Rattle.model_protocol.specs.declared.World.{World}
+use Rattle.model_protocol.specs.Process.{takesFollow}
 use Rattle.model_protocol.specs.Queue.{queued}
-use Rattle.model_protocol.specs.Tables.{Holds, Tried, acceptPromises, answersTheDown, asDefined, ballotsOfOne, beforeSetup, downAndBelief, fullQueue, learnsAnothers, numbersUsed, ofFive, opensWithThree, otherInstance, proposesWithThree, receiversDown, restoredOnce, stepsOf, takenOver, threeLeft, told}
-use Rattle.model_protocol.specs.World.{coordinatorOf, logOf, messageOf, processOf, restoredTo, slotOf}
+use Rattle.model_protocol.specs.Tables.{Holds, Tried, acceptPromises, answersTheDown, asDefined, ballotsOfOne, beforeSetup, downAndBelief, followsTaken, fullQueue, learnsAnothers, leftRunning, noneToFollow, numbersUsed, ofFive, opensWithThree, otherInstance, proposesWithThree, receiversDown, restoredAnew, restoredOnce, stepsOf, takenOver, threeLeft, told}
+use Rattle.model_protocol.specs.World.{coordinatorOf, followsOf, logOf, noFollowed, messageOf, processOf, restoredTo, slotOf}
 use Rattle.model_protocol.proofs.Compute.{computed}
 
 pub before-setup : Holds beforeSetup
@@ -73,6 +77,14 @@ receivers-down = refl
 pub taken-over-answers : Holds (restoredOnce ++ takenOver)
 unfolding computed asDefined restoredOnce takenOver
 taken-over-answers = refl
+
+pub left-running : Holds (restoredOnce ++ leftRunning ++ followsTaken ++ restoredAnew)
+unfolding computed asDefined restoredOnce leftRunning followsTaken restoredAnew
+left-running = refl
+
+pub none-to-follow : Holds (restoredOnce ++ leftRunning ++ noneToFollow)
+unfolding computed asDefined restoredOnce leftRunning noneToFollow
+none-to-follow = refl
 
 -- ---- what stands in the world at the end
 
@@ -140,3 +152,46 @@ pub restored-other : (logOf (after (restoredOnce ++ takenOver)) 0 .holders ≡ 2
     × (processOf (after (restoredOnce ++ takenOver)) 1 .position ≡ 3)
 unfolding computed restoredOnce takenOver
 restored-other = (refl, refl, refl)
+
+-- "A restore shall also carry the running transactions in which the store has a kept commit vote":
+-- 4 and 6, and no follow was taken yet
+pub listed-running : (processOf (after (restoredOnce ++ leftRunning)) 2 .running ≡ 0x50)
+    × (processOf (after (restoredOnce ++ leftRunning)) 2 .followed ≡ 0)
+    × (rowsOf (after (restoredOnce ++ leftRunning)) 2 ≡ record { group = 1; tx = 5; update = 11 } ∷ [])
+    × (processOf (after (restoredOnce ++ leftRunning)) 3 .running ≡ 0)
+unfolding computed restoredOnce leftRunning
+listed-running = (refl, refl, refl, refl)
+
+abbrev followOf : World → ℕ → ℕ → Followed
+followOf w p tx = getD (followsOf w p .of) tx noFollowed
+
+-- "the outcome and the update (0 if aborted)"
+pub follows-kept : (processOf (after (restoredOnce ++ leftRunning ++ followsTaken)) 2 .running ≡ 0x50)
+    × (processOf (after (restoredOnce ++ leftRunning ++ followsTaken)) 2 .followed ≡ 0x50)
+    × (followOf (after (restoredOnce ++ leftRunning ++ followsTaken)) 2 4 ≡ record { outcome = outcome.Commit; update = 10 })
+    × (followOf (after (restoredOnce ++ leftRunning ++ followsTaken)) 2 6 ≡ record { outcome = outcome.Abort; update = 0 })
+    × (processOf (after (restoredOnce ++ leftRunning ++ followsTaken)) 3 .followed ≡ 0)
+    × (processOf (after (restoredOnce ++ leftRunning ++ followsTaken)) 1 .followed ≡ 0)
+unfolding computed restoredOnce leftRunning followsTaken
+follows-kept = (refl, refl, refl, refl, refl, refl)
+
+-- a later restore lists what runs then, and no follow was taken since it; transaction 4 ran when
+-- group 1 was begun
+pub begins-anew : (processOf (after (restoredOnce ++ leftRunning ++ followsTaken ++ restoredAnew)) 2 .running ≡ 0)
+    × (processOf (after (restoredOnce ++ leftRunning ++ followsTaken ++ restoredAnew)) 2 .followed ≡ 0)
+    × (rowsOf (after (restoredOnce ++ leftRunning ++ followsTaken ++ restoredAnew)) 2
+    ≡ record { group = 1; tx = 4; update = 10 } ∷ record { group = 1; tx = 5; update = 11 } ∷ [])
+unfolding computed restoredOnce leftRunning followsTaken restoredAnew
+begins-anew = (refl, refl, refl)
+
+-- a process whose last restore is of store 0 and lists 4, 5 and 6, and that took a follow of 6
+abbrev followed6 : Process
+followed6 = record { heard = []; store = 0; position = 3; running = 0x70; followed = 0x40 }
+
+-- "exactly if it is for its last restore's store and a transaction listed there as running, and none
+-- for that transaction was taken since that restore"
+pub takes-exactly : map (λ (tx : ℕ). takesFollow followed6 0 tx) (3 ∷ 4 ∷ 5 ∷ 6 ∷ 7 ∷ []) ≡ false ∷ true ∷ true ∷ false ∷ false ∷ []
+takes-exactly = refl
+
+pub takes-none : (takesFollow followed6 1 4 ≡ false) × (takesFollow (record { heard = []; store = 0; position = 0; running = 0x10; followed = 0 }) 0 4 ≡ false)
+takes-none = (refl, refl)

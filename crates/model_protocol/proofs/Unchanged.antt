@@ -10,7 +10,7 @@ use Rattle.log_entry.specs.Refusal.{accepted}
 use Rattle.model_steps.specs.declared.Role.{Role}
 use Rattle.model_steps.specs.declared.Role.the-variants.{Acceptor, Coord, Proc}
 use Rattle.model_steps.specs.declared.Step.{Step}
-use Rattle.model_steps.specs.declared.Step.the-variants.{Crash, Deliver, Open, Propose, Request, Restore, Setup, Tell}
+use Rattle.model_steps.specs.declared.Step.the-variants.{Crash, Deliver, Follow, Open, Propose, Request, Restore, Setup, Tell}
 use Rattle.model_protocol.specs.declared.Change.{Change}
 use Rattle.model_protocol.specs.declared.Down.{Down}
 use Rattle.model_protocol.specs.declared.Kind.{Kind}
@@ -21,11 +21,11 @@ use Rattle.model_protocol.specs.declared.Stepped.{Stepped}
 use Rattle.model_protocol.specs.declared.World.{World}
 use Rattle.model_paxos.specs.Ballot.{majority}
 use Rattle.model_protocol.specs.Acceptor.{accepting, accepts, promises, promising}
-use Rattle.model_protocol.specs.Change.{coordinatorNow, done, learns, processNow, sending, slotNow, takesReplay}
+use Rattle.model_protocol.specs.Change.{coordinatorNow, done, keepsFollow, learns, processNow, sending, slotNow, takesReplay}
 use Rattle.model_protocol.specs.Coordinator.{counting, isHeard, learning, promiseHeard, withRound}
 use Rattle.model_protocol.specs.Deliver.{deliveryChange}
 use Rattle.model_protocol.specs.Message.{acceptedFrom, promiseFrom}
-use Rattle.model_protocol.specs.Process.{taking}
+use Rattle.model_protocol.specs.Process.{following, taking, takesFollow}
 use Rattle.model_protocol.specs.Send.{sendToAll}
 use Rattle.model_protocol.specs.Step.{changeOf, changed, partsOf, placesIn, replayIn, stepOf, stepRefusal}
 use Rattle.model_protocol.specs.Unchanged.{CrashChangesOnlyDown, CrashedStaysDown, OnlyDownChanges, RefusedStepChangesNothing}
@@ -59,11 +59,12 @@ crash-keeps w role id =
       logs = same-logs w (placesIn w (Crash role id));
       processes = same-processes w (placesIn w (Crash role id));
       restored = refl;
+      follows = refl;
       messages = refl;
       replays = refl;
       sent = refl;
     })
-    (record { acceptors = refl; slots = refl; coordinators = refl; logs = refl; processes = refl; restored = refl; messages = refl; replays = refl; sent = refl })
+    (record { acceptors = refl; slots = refl; coordinators = refl; logs = refl; processes = refl; restored = refl; follows = refl; messages = refl; replays = refl; sent = refl })
 
 -- ---- who is down stays down
 
@@ -106,7 +107,10 @@ delivered-down p kind.Tell = refl
 delivered-down p kind.Restore =
     let m = p .message in
     same-down p (ltb (p .process .position) (m .position))
-    (takesReplay (processNow p (taking (p .process) (m .store) (m .position)))) (done p) refl refl
+    (takesReplay (processNow p (taking (p .process) (m .store) (m .position) (m .running)))) (done p) refl refl
+delivered-down p kind.Follow =
+    let m = p .message in
+    same-down p (takesFollow (p .process) (m .store) (m .tx)) (keepsFollow (processNow p (following (p .process) (m .tx)))) (done p) refl refl
 
 -- a flag that is set stays set when another is
 flag-stays : (l : List Bool) (i j : ℕ) → getD l j false ≡ true → getD (set l i true) j false ≡ true
@@ -136,6 +140,7 @@ change-down p (Propose c i b) role id h = h
 change-down p (Deliver m) role id h = subst (λ (d : Down). isDown d role id ≡ true) (sym (delivered-down p (p .message .kind))) h
 change-down p (Tell c q tx) role id h = h
 change-down p (Restore c q) role id h = h
+change-down p (Follow c q tx) role id h = h
 change-down p (Crash r i) role id h = crash-down (p .down) r i role id h
 
 pub stays-down : CrashedStaysDown

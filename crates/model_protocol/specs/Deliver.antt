@@ -5,15 +5,15 @@ use Rattle.model_steps.specs.declared.Role.the-variants.{Acceptor, Coord, Proc}
 use Rattle.model_protocol.specs.declared.Change.{Change}
 use Rattle.model_protocol.specs.declared.Down.{Down}
 use Rattle.model_protocol.specs.declared.Kind.{Kind}
-use Rattle.model_protocol.specs.declared.Kind.the-variants.{Request, Prepare, Accept, Promise, Accepted, Tell, Restore}
+use Rattle.model_protocol.specs.declared.Kind.the-variants.{Request, Prepare, Accept, Promise, Accepted, Tell, Restore, Follow}
 use Rattle.model_protocol.specs.declared.Message.{Message}
 use Rattle.model_protocol.specs.declared.Parts.{Parts}
 use Rattle.model_protocol.specs.Acceptor.{accepting, accepts, promises, promising}
 use Rattle.model_paxos.specs.Ballot.{majority, owner}
-use Rattle.model_protocol.specs.Change.{slotNow, coordinatorNow, done, learns, processNow, sending, takesReplay}
+use Rattle.model_protocol.specs.Change.{slotNow, coordinatorNow, done, keepsFollow, learns, processNow, sending, takesReplay}
 use Rattle.model_protocol.specs.Coordinator.{counting, isHeard, learning, promiseHeard, withQueue, withRound}
 use Rattle.model_protocol.specs.Message.{acceptedFrom, promiseFrom}
-use Rattle.model_protocol.specs.Process.{hearingOutcome, taking}
+use Rattle.model_protocol.specs.Process.{following, hearingOutcome, taking, takesFollow}
 use Rattle.model_protocol.specs.Queue.{isFull, isIn, joining, queued}
 use Rattle.model_protocol.specs.Send.{lacksNumbers}
 use Rattle.model_protocol.specs.World.{isDown}
@@ -27,6 +27,7 @@ receiverDown d m Promise = isDown d Coord (owner (m .ballot))
 receiverDown d m Accepted = isDown d Coord (owner (m .ballot))
 receiverDown d m Tell = isDown d Proc (m .to)
 receiverDown d m Restore = isDown d Proc (m .to)
+receiverDown d m Follow = isDown d Proc (m .to)
 
 -- 6: no number is left for the answer of an acceptor that has one to send, or the queue is full for
 -- a new entry
@@ -38,6 +39,7 @@ noPlaceFor p Promise = false
 noPlaceFor p Accepted = false
 noPlaceFor p Tell = false
 noPlaceFor p Restore = false
+noPlaceFor p Follow = false
 
 -- what the message does
 unfoldable pub deliveryChange : Parts → Kind → Change
@@ -87,4 +89,9 @@ deliveryChange p Tell = done (processNow p (hearingOutcome (p .process) (p .mess
 -- first, and from then believes it holds that store and no other."
 deliveryChange p Restore =
     let m = p .message in
-    cond (ltb (p .process .position) (m .position)) (takesReplay (processNow p (taking (p .process) (m .store) (m .position)))) (done p)
+    cond (ltb (p .process .position) (m .position)) (takesReplay (processNow p (taking (p .process) (m .store) (m .position) (m .running)))) (done p)
+-- "A process takes a delivered follow exactly if it is for its last restore's store and a
+-- transaction listed there as running, and none for that transaction was taken since that restore."
+deliveryChange p Follow =
+    let m = p .message in
+    cond (takesFollow (p .process) (m .store) (m .tx)) (keepsFollow (processNow p (following (p .process) (m .tx)))) (done p)

@@ -5,7 +5,7 @@ use Rattle.log_votes.specs.declared.Outcome.{Outcome}
 use Rattle.log_votes.specs.declared.Outcome.the-variants.{Open}
 use Rattle.model_protocol.specs.declared.Batch.{Batch}
 use Rattle.model_protocol.specs.declared.Kind.{Kind}
-use Rattle.model_protocol.specs.declared.Kind.the-variants.{Request, Prepare, Accept, Promise, Accepted, Tell, Restore}
+use Rattle.model_protocol.specs.declared.Kind.the-variants.{Request, Prepare, Accept, Promise, Accepted, Tell, Restore, Follow}
 use Rattle.model_protocol.specs.declared.Message.{Message}
 use Rattle.model_protocol.specs.Batch.{noBatch, noEntry}
 
@@ -24,6 +24,8 @@ ballotMessage kind inst ballot acceptor accepted batch = record {
   outcome = Open;
   store = 0;
   position = 0;
+  running = 0;
+  update = 0;
 }
 
 abbrev pub prepareTo : ℕ → ℕ → ℕ → Message
@@ -40,8 +42,8 @@ abbrev pub acceptedFrom : ℕ → ℕ → ℕ → Message
 acceptedFrom inst ballot acceptor = ballotMessage Accepted inst ballot acceptor 0 noBatch
 
 -- a message of none of the ballots
-abbrev pub directMessage : Kind → ℕ → Entry → ℕ → Outcome → ℕ → ℕ → Message
-directMessage kind to entry tx outcome store position = record {
+abbrev pub directMessage : Kind → ℕ → Entry → ℕ → Outcome → ℕ → ℕ → ℕ → ℕ → Message
+directMessage kind to entry tx outcome store position running update = record {
   kind = kind;
   to = to;
   acceptor = 0;
@@ -54,16 +56,21 @@ directMessage kind to entry tx outcome store position = record {
   outcome = outcome;
   store = store;
   position = position;
+  running = running;
+  update = update;
 }
 
 abbrev pub requestTo : ℕ → Entry → Message
-requestTo coord entry = directMessage Request coord entry 0 Open 0 0
+requestTo coord entry = directMessage Request coord entry 0 Open 0 0 0 0
 
 abbrev pub tellTo : ℕ → ℕ → Outcome → Message
-tellTo process tx outcome = directMessage Tell process noEntry tx outcome 0 0
+tellTo process tx outcome = directMessage Tell process noEntry tx outcome 0 0 0 0
 
-abbrev pub restoreTo : ℕ → ℕ → ℕ → Message
-restoreTo process store position = directMessage Restore process noEntry 0 Open store position
+abbrev pub restoreTo : ℕ → ℕ → ℕ → ℕ → Message
+restoreTo process store position running = directMessage Restore process noEntry 0 Open store position running 0
+
+abbrev pub followTo : ℕ → ℕ → ℕ → Outcome → ℕ → Message
+followTo process store tx outcome update = directMessage Follow process noEntry tx outcome store 0 0 update
 
 -- the place of no message
 abbrev pub noMessage : Message

@@ -3,7 +3,7 @@
 -- one (`InBounds` of model_agreement).
 use Prim.Native.Nat.{ℕ, _+_, _*_, _%_}
 use Rattle.model_steps.specs.declared.Step.{Step}
-use Rattle.model_steps.specs.declared.Step.the-variants.{Setup, Request, Open, Propose, Deliver, Tell, Restore, Crash}
+use Rattle.model_steps.specs.declared.Step.the-variants.{Setup, Request, Open, Propose, Deliver, Tell, Restore, Follow, Crash}
 use Rattle.model_steps.specs.Limits.{coordinators, instances, messages}
 use Rattle.model_protocol.specs.declared.Kind.{Kind}
 use Rattle.model_protocol.specs.declared.Kind.the-variants as kind
@@ -21,6 +21,7 @@ messageAt (Propose c i b) = 0
 messageAt (Deliver m) = m % messages
 messageAt (Tell c p tx) = 0
 messageAt (Restore c p) = 0
+messageAt (Follow c p tx) = 0
 messageAt (Crash role id) = 0
 
 abbrev pub onlyCoordinator : ℕ → Places
@@ -41,6 +42,7 @@ deliveryPlaces m kind.Promise = onlyCoordinator (owner (m .ballot))
 deliveryPlaces m kind.Accepted = onlyCoordinator (owner (m .ballot))
 deliveryPlaces m kind.Tell = onlyProcess (m .to)
 deliveryPlaces m kind.Restore = onlyProcess (m .to)
+deliveryPlaces m kind.Follow = onlyProcess (m .to)
 
 -- the places of a step; m is the message that it delivers
 unfoldable pub placesOf : Step → Message → Places
@@ -51,4 +53,5 @@ placesOf (Propose c i b) m = onlyCoordinator c
 placesOf (Deliver k) m = deliveryPlaces m (m .kind)
 placesOf (Tell c p tx) m = onlyCoordinator c
 placesOf (Restore c p) m = onlyCoordinator c
+placesOf (Follow c p tx) m = onlyCoordinator c
 placesOf (Crash role id) m = onlyCoordinator 0

@@ -31,6 +31,8 @@ addressed m acceptor = record {
   outcome = m .outcome;
   store = m .store;
   position = m .position;
+  running = m .running;
+  update = m .update;
 }
 
 -- "acceptor 0 first": the message itself, and then the same to acceptor 1, 2 and so on

@@ -12,12 +12,13 @@ use Rattle.log_entry.specs.Refusal.{accepted, check, Check, firstRefusal, illFo
 use Rattle.log_core.specs.declared.Log.{Log}
 use Rattle.log_core.specs.declared.Replay.{Replay}
 use Rattle.log_core.specs.Enter.{feed}
-use Rattle.log_votes.specs.Outcome.{isOpen}
-use Rattle.log_core.specs.Log.{outcomeOf}
+use Rattle.log_votes.specs.Outcome.{isCommit, isCommitted, isOpen}
+use Rattle.log_core.specs.Follow.{awaitedOf}
+use Rattle.log_core.specs.Log.{outcomeOf, voteAt}
 use Rattle.log_core.specs.Replay.{replayOf}
 use Rattle.model_steps.specs.declared.Role.the-variants.{Coord, Proc}
 use Rattle.model_steps.specs.declared.Step.{Step}
-use Rattle.model_steps.specs.declared.Step.the-variants.{Setup, Request, Open, Propose, Deliver, Tell, Restore, Crash}
+use Rattle.model_steps.specs.declared.Step.the-variants.{Setup, Request, Open, Propose, Deliver, Tell, Restore, Follow, Crash}
 use Rattle.model_steps.specs.Limits.{mostAcceptors, outsideStep}
 use Rattle.model_protocol.specs.declared.Change.{Change}
 use Rattle.model_protocol.specs.declared.Coordinator.{Coordinator}
@@ -32,11 +33,11 @@ use Rattle.model_protocol.specs.Batch.{entriesOf}
 use Rattle.model_protocol.specs.Change.{acceptorsNow, coordinatorNow, done, downNow, givesReplay, parts, sending}
 use Rattle.model_protocol.specs.Coordinator.{batchToPropose, proposing, withRound}
 use Rattle.model_protocol.specs.Deliver.{deliveryChange, noPlaceFor, receiverDown}
-use Rattle.model_protocol.specs.Message.{acceptTo, prepareTo, requestTo, restoreTo, tellTo}
+use Rattle.model_protocol.specs.Message.{acceptTo, followTo, prepareTo, requestTo, restoreTo, tellTo}
 use Rattle.model_protocol.specs.Places.{messageAt, placesOf}
-use Rattle.model_protocol.specs.Process.{believes}
+use Rattle.model_protocol.specs.Process.{believes, withFollow}
 use Rattle.model_protocol.specs.Send.{copyOf, lacksNumbers, sendToAll}
-use Rattle.model_protocol.specs.World.{coordinatorOf, crashed, emptySlot, isDown, logOf, messageOf, newRound, processOf, replayWith}
+use Rattle.model_protocol.specs.World.{coordinatorOf, crashed, emptySlot, followsOf, isDown, logOf, messageOf, newRound, processOf, replayWith}
 
 -- 5: no setup
 abbrev pub notSetUp : Parts → Bool
@@ -53,6 +54,15 @@ heldFrom process store (h ∷ holders) = cond (eqb h process) store (heldFrom pr
 
 abbrev pub heldStore : Log → ℕ → ℕ
 heldStore l process = heldFrom process 0 (l .holders)
+
+-- the store that the process holds, if it has a kept commit vote on the transaction; one past the
+-- last store if not
+abbrev pub votingStore : Log → ℕ → ℕ → ℕ
+votingStore l process tx = let s = heldStore l process in cond (isCommit s (voteAt l tx s)) s stores
+
+-- "the update (0 if aborted)" of the store's vote on a decided transaction
+abbrev pub updateOf : Log → ℕ → ℕ → ℕ
+updateOf l tx store = cond (isCommitted (outcomeOf l tx)) (voteAt l tx store .update) 0
 
 -- ---- refusals
 
@@ -111,6 +121,13 @@ stepChecks p (Restore c process) =
     ∷ check notMet (notSetUp p || leb stores (p .message .store))
     ∷ check noPlace (lacksNumbers (p .sent) 1)
     ∷ []
+-- "Follow is refused 5 while the transaction runs, where the process is not the holder, or where the
+-- store has no kept commit vote on it." `FollowRefusedExactly` says it of the log
+stepChecks p (Follow c process tx) =
+    check partyDown (isDown (p .down) Coord c || isDown (p .down) Proc process)
+    ∷ check notMet (notSetUp p || isOpen (p .message .outcome) || leb stores (p .message .store))
+    ∷ check noPlace (lacksNumbers (p .sent) 1)
+    ∷ []
 stepChecks p (Crash role id) = check partyDown (isDown (p .down) role id) ∷ check notMet (notSetUp p) ∷ []
 
 -- the answer to a step: "The lowest number that applies is given."
@@ -131,6 +148,7 @@ changeOf p (Propose c i b) =
 changeOf p (Deliver m) = deliveryChange p (p .message .kind)
 changeOf p (Tell c process tx) = sending p 1 (p .message)
 changeOf p (Restore c process) = givesReplay p (p .message)
+changeOf p (Follow c process tx) = sending p 1 (p .message)
 changeOf p (Crash role id) = done (downNow p (crashed (p .down) role id))
 
 -- ---- the message of a step, where d is the one that it delivers; l is the log of a coordinator
@@ -145,8 +163,13 @@ messageFor (Deliver m) d l n = d
 -- "`tell` sends a process the outcome of a decided tx."
 messageFor (Tell c process tx) d l n = tellTo process tx (outcomeOf l tx)
 -- "`restore` sends the store's holder, by this coordinator's log, the applied count as position and
--- the store's replay." The replay goes beside it: see `putBack`
-messageFor (Restore c process) d l n = restoreTo process (heldStore l process) n
+-- the store's replay." The replay goes beside it: see `putBack`. "A restore shall also carry the
+-- running transactions in which the store has a kept commit vote."
+messageFor (Restore c process) d l n = restoreTo process (heldStore l process) n (awaitedOf l (heldStore l process))
+-- "`follow coord proc tx` sends the holder the store, the outcome and the update (0 if aborted)"
+messageFor (Follow c process tx) d l n =
+    let s = votingStore l process tx in
+    followTo process s tx (outcomeOf l tx) (updateOf l tx s)
 messageFor (Crash role id) d l n = d
 
 -- ---- the step: the parts are taken from their places, changed, and put back
@@ -181,8 +204,8 @@ abbrev pub partsOf : World → Step → Parts
 partsOf w s = partsAt w (placesIn w s) (messageIn w s)
 
 -- the world with the parts of the change at these places, and the coordinator's log fed the batch.
--- The process may take r, the replay of the message delivered. With the message that is sent next
--- may go its store's replay, by the coordinator's log
+-- The process may take r, the replay of the message delivered, or that message as a follow. With the
+-- message that is sent next may go its store's replay, by the coordinator's log
 abbrev pub putBack : World → Places → Replay → Change → World
 putBack w at r ch =
     let log = logOf w (at .coordinator) in
@@ -193,6 +216,10 @@ putBack w at r ch =
       logs = set (w .logs) (at .coordinator) (feed log (entriesOf (ch .learned)));
       processes = set (w .processes) (at .process) (ch .parts .process);
       restored = cond (ch .takes) (set (w .restored) (at .process) r) (w .restored);
+      follows =
+          cond (ch .follows)
+          (set (w .follows) (at .process) (withFollow (followsOf w (at .process)) (ch .parts .message)))
+          (w .follows);
       down = ch .parts .down;
       messages = w .messages;
       replays = cond (ch .gives) (set (w .replays) (w .sent) (replayOf log (ch .message .store))) (w .replays);

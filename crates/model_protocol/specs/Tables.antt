@@ -8,7 +8,7 @@ use mathlib.Core.List.{List, [], _∷_, map}
 use Rattle.log_entry.specs.Entry.{takeEntry, voteEntry}
 use Rattle.model_steps.specs.declared.Role.the-variants.{Acceptor, Coord, Proc}
 use Rattle.model_steps.specs.declared.Step.{Step}
-use Rattle.model_steps.specs.declared.Step.the-variants.{Crash, Deliver, Open, Propose, Request, Restore, Setup, Tell}
+use Rattle.model_steps.specs.declared.Step.the-variants.{Crash, Deliver, Follow, Open, Propose, Request, Restore, Setup, Tell}
 use Rattle.model_protocol.specs.declared.World.{World}
 use Rattle.model_protocol.specs.Step.{stepOf}
 use Rattle.model_protocol.specs.World.{freshWorld}
@@ -45,6 +45,7 @@ beforeSetup =
     ∷ (Propose 0 0 256 gives 2)
     ∷ (Tell 2 15 31 gives 5) ∷ (Tell 3 1 0 gives 2) ∷ (Tell 0 0 0 gives 2) ∷ (Tell 0 16 0 gives 2) ∷ (Tell 0 1 32 gives 2)
     ∷ (Restore 2 15 gives 5) ∷ (Restore 3 1 gives 2) ∷ (Restore 0 0 gives 2) ∷ (Restore 0 16 gives 2)
+    ∷ (Follow 2 15 31 gives 5) ∷ (Follow 3 1 0 gives 2) ∷ (Follow 0 0 0 gives 2) ∷ (Follow 0 16 0 gives 2) ∷ (Follow 0 1 32 gives 2)
     ∷ (Request (takeEntry 15 7) 2 gives 5) ∷ (Request (takeEntry 1 0) 3 gives 2) ∷ (Request (takeEntry 0 0) 0 gives 2)
     ∷ (Request (takeEntry 16 0) 0 gives 2) ∷ (Request (takeEntry 1 8) 0 gives 2)
     ∷ (Request (voteEntry 15 7 7 31 0xff true 0xffffffff) 0 gives 5) ∷ (Request (voteEntry 1 8 0 0 0x01 true 0) 0 gives 2)
@@ -120,7 +121,7 @@ downAndBelief =
     ∷ (Request (voteEntry 1 1 0 4 0x02 true 10) 0 gives 3) ∷ (Request (takeEntry 1 1) 0 gives 3) ∷ (Request (takeEntry 2 1) 1 gives 3)
     ∷ (Request (takeEntry 2 8) 1 gives 2)
     ∷ (Open 1 1 4 gives 3) ∷ (Propose 1 1 4 gives 3) ∷ (Tell 1 2 4 gives 3) ∷ (Tell 0 1 4 gives 3) ∷ (Tell 1 1 32 gives 2)
-    ∷ (Restore 0 1 gives 3) ∷ (Restore 1 2 gives 3)
+    ∷ (Restore 0 1 gives 3) ∷ (Restore 1 2 gives 3) ∷ (Follow 0 1 4 gives 3) ∷ (Follow 1 2 4 gives 3) ∷ (Follow 1 1 32 gives 2)
     -- the receiver: acceptor 2 of a prepare and an accept, process 1 of a restore
     ∷ (Deliver 3 gives 3) ∷ (Deliver 8 gives 3) ∷ (Deliver 11 gives 3) ∷ (Deliver 12 gives 4)
     -- the others go on
@@ -276,4 +277,57 @@ takenOver =
     -- with the restore of store 1 it believes it holds that and no other
     ∷ (Restore 0 1 gives 0) ∷ (Request (voteEntry 1 1 1 5 0x02 true 1) 0 gives 5) ∷ (Deliver 35 gives 0)
     ∷ (Request (voteEntry 1 0 0 4 0x01 true 10) 0 gives 5) ∷ (Request (voteEntry 1 1 1 5 0x02 true 1) 0 gives 0)
+    ∷ []
+
+-- ---- after a restore: process 1 votes, and its store is taken over while two transactions run
+
+unfoldable pub leftRunning : List Tried
+leftRunning =
+    -- process 1 commits 5 alone, and 4 and 6 with store 1; process 3 takes store 1
+    (Request (voteEntry 1 0 0 4 0x03 true 10) 0 gives 0) ∷ (Request (voteEntry 1 0 0 5 0x01 true 11) 0 gives 0)
+    ∷ (Request (voteEntry 1 0 0 6 0x03 true 12) 0 gives 0) ∷ (Request (takeEntry 3 1) 0 gives 0)
+    ∷ (Deliver 12 gives 0) ∷ (Deliver 13 gives 0) ∷ (Deliver 14 gives 0) ∷ (Deliver 15 gives 0) ∷ (Open 0 1 3 gives 0) ∷ (Deliver 16 gives 0)
+    ∷ (Deliver 17 gives 0) ∷ (Deliver 19 gives 0) ∷ (Deliver 20 gives 0) ∷ (Propose 0 1 3 gives 0) ∷ (Deliver 21 gives 0) ∷ (Deliver 22 gives 0)
+    ∷ (Deliver 24 gives 0) ∷ (Deliver 25 gives 0)
+    -- "refused 5 while the transaction runs, where the process is not the holder, or where the store
+    -- has no kept commit vote on it", by the log of the coordinator that sends
+    ∷ (Follow 0 1 4 gives 5) ∷ (Follow 0 2 5 gives 5) ∷ (Follow 0 3 5 gives 5) ∷ (Follow 0 1 7 gives 5) ∷ (Follow 1 1 5 gives 5)
+    -- one that no restore listed is sent all the same, and not taken
+    ∷ (Follow 0 1 5 gives 0) ∷ (Deliver 26 gives 0)
+    -- process 2 takes store 0 over
+    ∷ (Request (takeEntry 2 0) 0 gives 0) ∷ (Deliver 27 gives 0) ∷ (Open 0 2 3 gives 0) ∷ (Deliver 28 gives 0) ∷ (Deliver 29 gives 0) ∷ (Deliver 31 gives 0)
+    ∷ (Deliver 32 gives 0) ∷ (Propose 0 2 3 gives 0) ∷ (Deliver 33 gives 0) ∷ (Deliver 34 gives 0) ∷ (Deliver 36 gives 0) ∷ (Deliver 37 gives 0)
+    ∷ (Follow 0 1 5 gives 5)
+    -- 3 is restored, and so is 2, whose restore is on the way
+    ∷ (Restore 0 3 gives 0) ∷ (Deliver 38 gives 0) ∷ (Restore 0 2 gives 0)
+    -- 3 commits 4 and aborts 6
+    ∷ (Request (voteEntry 3 1 1 4 0x03 true 20) 0 gives 0) ∷ (Request (voteEntry 3 1 1 6 0x03 false 0) 0 gives 0) ∷ (Deliver 40 gives 0)
+    ∷ (Deliver 41 gives 0) ∷ (Open 0 3 3 gives 0) ∷ (Deliver 42 gives 0) ∷ (Deliver 43 gives 0) ∷ (Deliver 45 gives 0) ∷ (Deliver 46 gives 0)
+    ∷ (Propose 0 3 3 gives 0) ∷ (Deliver 47 gives 0) ∷ (Deliver 48 gives 0) ∷ (Deliver 50 gives 0) ∷ (Follow 0 2 4 gives 5) ∷ (Deliver 51 gives 0)
+    -- all are decided now: follows for 2; one for 3, and none of an abort vote
+    ∷ (Follow 0 2 4 gives 0) ∷ (Follow 0 2 6 gives 0) ∷ (Follow 0 2 5 gives 0) ∷ (Follow 0 3 4 gives 0) ∷ (Follow 0 3 6 gives 5)
+    -- a follow before the restore is not taken; then the restore
+    ∷ (Deliver 52 gives 0) ∷ (Deliver 39 gives 0)
+    ∷ []
+
+-- each follow once; none of a transaction that is not listed
+unfoldable pub followsTaken : List Tried
+followsTaken =
+    (Deliver 54 gives 0) ∷ (Deliver 55 gives 0) ∷ (Deliver 52 gives 0) ∷ (Deliver 52 gives 0) ∷ (Deliver 53 gives 0)
+    ∷ []
+
+-- a later restore begins anew
+unfoldable pub restoredAnew : List Tried
+restoredAnew = (Restore 0 2 gives 0) ∷ (Deliver 56 gives 0) ∷ (Deliver 52 gives 0) ∷ []
+
+-- 3, and 5 before 6: with coordinator 1's ballots and two takes all 128 numbers are used
+unfoldable pub noneToFollow : List Tried
+noneToFollow =
+    (Open 1 0 1 gives 0) ∷ (Open 1 0 4 gives 0) ∷ (Open 1 0 7 gives 0) ∷ (Open 1 0 10 gives 0) ∷ (Open 1 0 13 gives 0) ∷ (Open 1 0 16 gives 0)
+    ∷ (Open 1 0 19 gives 0) ∷ (Open 1 0 22 gives 0) ∷ (Open 1 0 25 gives 0) ∷ (Open 1 0 28 gives 0) ∷ (Open 1 0 31 gives 0) ∷ (Open 1 0 34 gives 0)
+    ∷ (Open 1 0 37 gives 0) ∷ (Open 1 0 40 gives 0) ∷ (Open 1 0 43 gives 0) ∷ (Open 1 0 46 gives 0) ∷ (Open 1 0 49 gives 0) ∷ (Open 1 0 52 gives 0)
+    ∷ (Open 1 0 55 gives 0) ∷ (Open 1 0 58 gives 0) ∷ (Open 1 0 61 gives 0) ∷ (Open 1 0 64 gives 0) ∷ (Open 1 0 67 gives 0)
+    ∷ (Request (takeEntry 9 7) 0 gives 0) ∷ (Request (takeEntry 9 7) 0 gives 0)
+    ∷ (Follow 0 2 4 gives 0) ∷ (Follow 0 2 4 gives 6) ∷ (Follow 0 2 7 gives 5) ∷ (Deliver 52 gives 0)
+    ∷ (Crash Proc 2 gives 0) ∷ (Follow 0 2 4 gives 3) ∷ (Deliver 52 gives 3)
     ∷ []

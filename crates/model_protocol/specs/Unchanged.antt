@@ -23,6 +23,7 @@ pub record OnlyDownChanges (w v : World) : Type 0 where
   pub logs : v .logs ≡ w .logs
   pub processes : v .processes ≡ w .processes
   pub restored : v .restored ≡ w .restored
+  pub follows : v .follows ≡ w .follows
   pub messages : v .messages ≡ w .messages
   pub replays : v .replays ≡ w .replays
   pub sent : v .sent ≡ w .sent

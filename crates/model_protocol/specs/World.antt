@@ -16,6 +16,8 @@ use Rattle.model_steps.specs.Limits.{coordinators, instances, messages, mostAcc
 use Rattle.model_protocol.specs.declared.AcceptorSlot.{AcceptorSlot}
 use Rattle.model_protocol.specs.declared.Coordinator.{Coordinator}
 use Rattle.model_protocol.specs.declared.Down.{Down}
+use Rattle.model_protocol.specs.declared.Followed.{Followed}
+use Rattle.model_protocol.specs.declared.Follows.{Follows}
 use Rattle.model_protocol.specs.declared.Message.{Message}
 use Rattle.model_protocol.specs.declared.Process.{Process}
 use Rattle.model_protocol.specs.declared.Round.{Round}
@@ -40,7 +42,14 @@ freshCoordinator = record { applied = 0; queue = queueOf []; round = newRound 0 
 
 -- a process as in a fresh world: it heard nothing and took no restore
 unfoldable pub freshProcess : Process
-freshProcess = record { heard = replicate transactions (record { outcome = Open }); store = 0; position = 0 }
+freshProcess = record { heard = replicate transactions (record { outcome = Open }); store = 0; position = 0; running = 0; followed = 0 }
+
+-- the follow of no transaction
+abbrev pub noFollowed : Followed
+noFollowed = record { outcome = Open; update = 0 }
+
+unfoldable pub noFollows : Follows
+noFollows = record { of = replicate transactions noFollowed }
 
 unfoldable pub allUp : Down
 allUp = record {
@@ -58,6 +67,7 @@ freshWorld = record {
   logs = replicate coordinators emptyLog;
   processes = replicate processPlaces freshProcess;
   restored = replicate processPlaces noReplay;
+  follows = replicate processPlaces noFollows;
   down = allUp;
   messages = replicate messages noMessage;
   replays = replicate messages noReplay;
@@ -91,6 +101,10 @@ replayWith w m = getD (w .replays) m noReplay
 abbrev pub restoredTo : World → ℕ → Replay
 restoredTo w p = getD (w .restored) p noReplay
 
+-- the follows that process p took
+abbrev pub followsOf : World → ℕ → Follows
+followsOf w p = getD (w .follows) p noFollows
+
 -- the party is down
 abbrev pub isDown : Down → Role → ℕ → Bool
 isDown d Acceptor id = getD (d .acceptors) id false
@@ -108,6 +122,7 @@ withMessage w m = record {
   logs = w .logs;
   processes = w .processes;
   restored = w .restored;
+  follows = w .follows;
   down = w .down;
   messages = set (w .messages) (w .sent) m;
   replays = w .replays;

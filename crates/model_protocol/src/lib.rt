@@ -34,12 +34,13 @@ pub enum Kind {
     // To a process, from a coordinator.
     Tell,
     Restore,
+    Follow,
 }
 
 // A message. What its kind does not use is 0.
 pub struct Message {
     pub kind: Kind,
-    // Of a request the coordinator, of a tell and a restore the process that it goes to.
+    // Of a request the coordinator, of a tell, a restore and a follow the process that it goes to.
     pub to: u8,
     // The acceptor that a prepare or an accept goes to, or that a promise or an acceptance comes
     // from.
@@ -52,12 +53,17 @@ pub struct Message {
     pub batch: Batch,
     // Of a request.
     pub entry: Entry,
-    // Of a tell.
+    // Of a tell and a follow.
     pub tx: u8,
     pub outcome: Outcome,
-    // Of a restore: the store and the sender's applied count. The world has its replay.
+    // Of a restore and a follow.
     pub store: u8,
+    // Of a restore: the sender's applied count, and the transactions that run with a kept commit
+    // vote of the store, bit t for transaction t. The world has its replay.
     pub position: u8,
+    pub running: u32,
+    // Of a follow: the update of the store's commit vote, 0 if the transaction was aborted.
+    pub update: u32,
 }
 
 // What an acceptor holds of an instance, 0 at first.
@@ -105,9 +111,25 @@ pub struct Heard {
 pub struct Process {
     // By transaction.
     pub heard: [Heard; TRANSACTION_PLACES],
-    // The last restore that it took: store and position. Position 0 if it took none.
+    // The last restore that it took: store, position, and the transactions listed as running, bit t
+    // for transaction t. Position 0 if it took none.
     pub store: u8,
     pub position: u8,
+    pub running: u32,
+    // Those of which it took a follow since then, bit t for transaction t. The world has the
+    // follows.
+    pub followed: u32,
+}
+
+// What a follow says of its transaction.
+pub struct Followed {
+    pub outcome: Outcome,
+    pub update: u32,
+}
+
+// The follows that a process took, by transaction.
+pub struct Follows {
+    pub of: [Followed; TRANSACTION_PLACES],
 }
 
 // Who is down.
@@ -130,6 +152,8 @@ pub struct World {
     pub processes: [Process; PROCESS_PLACES],
     // By process: the replay of the last restore that it took.
     pub restored: [Replay; PROCESS_PLACES],
+    // By process: the follows that it took. Those of now are those that it has in `followed`.
+    pub follows: [Follows; PROCESS_PLACES],
     pub down: Down,
     // The first `sent` were sent, numbered from 0.
     pub messages: [Message; MESSAGE_PLACES],
@@ -164,6 +188,8 @@ pub struct Change {
     pub gives: bool,
     // Whether the process takes the replay of the message delivered.
     pub takes: bool,
+    // Whether the process takes the follow that is the message delivered.
+    pub follows: bool,
 }
 
 // Where in the world the parts of a step stand.

@@ -8,7 +8,7 @@ use Rattle.log_entry.specs.Limits.{transactions}
 use Rattle.model_steps.specs.declared.Role.{Role}
 use Rattle.model_steps.specs.declared.Role.the-variants.{Acceptor, Coord, Proc}
 use Rattle.model_steps.specs.declared.Step.{Step}
-use Rattle.model_steps.specs.declared.Step.the-variants.{Setup, Request, Open, Propose, Deliver, Tell, Restore, Crash}
+use Rattle.model_steps.specs.declared.Step.the-variants.{Setup, Request, Open, Propose, Deliver, Tell, Restore, Follow, Crash}
 
 -- coordinators are 0 to 2
 abbrev pub coordinators : ℕ
@@ -53,4 +53,5 @@ outsideStep acceptors (Propose c i b) = noCoordinator c || leb instances i || no
 outsideStep acceptors (Deliver m) = leb messages m
 outsideStep acceptors (Tell c p tx) = noCoordinator c || noProcess p || leb transactions tx
 outsideStep acceptors (Restore c p) = noCoordinator c || noProcess p
+outsideStep acceptors (Follow c p tx) = noCoordinator c || noProcess p || leb transactions tx
 outsideStep acceptors (Crash role id) = noParty acceptors role id

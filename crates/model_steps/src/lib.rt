@@ -18,6 +18,7 @@ pub enum Step {
     Deliver { msg: u8 },
     Tell { coord: u8, process: u8, tx: u8 },
     Restore { coord: u8, process: u8 },
+    Follow { coord: u8, process: u8, tx: u8 },
     Crash { role: Role, id: u8 },
 }
 

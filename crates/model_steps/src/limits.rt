@@ -86,6 +86,7 @@ pub fn outside(acceptors: u8, s: Step) -> bool
         Step::Deliver { msg } => MESSAGES <= msg,
         Step::Tell { coord, process, tx } => no_tell(coord, process, tx),
         Step::Restore { coord, process } => no_restore(coord, process),
+        Step::Follow { coord, process, tx } => no_tell(coord, process, tx),
         Step::Crash { role, id } => no_party(acceptors, role, id),
     }
 }

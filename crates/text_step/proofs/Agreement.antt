@@ -13,7 +13,7 @@ use Rattle.log_entry.specs.declared.Entry.{Entry}
 use Rattle.model_steps.specs.declared.Role.{Role}
 use Rattle.model_steps.specs.declared.Role.the-variants.{Acceptor, Coord, Proc}
 use Rattle.model_steps.specs.declared.Step.{Step}
-use Rattle.model_steps.specs.declared.Step.the-variants.{Setup, Request, Open, Propose, Deliver, Tell, Restore, Crash}
+use Rattle.model_steps.specs.declared.Step.the-variants.{Setup, Request, Open, Propose, Deliver, Tell, Restore, Follow, Crash}
 use Rattle.model_steps.specs.Limits.{outsideStep}
 use Rattle.text_entry.specs.Entry as entry
 use Rattle.text_entry.specs.Fields.{Field, lineText}
@@ -25,8 +25,8 @@ use Rattle.text_entry.proofs.TextReads.{WritableAll, apart, clashAll}
 use Rattle.text_entry.proofs.Votes.{vote-back, vote-values, vote-writable}
 use Rattle.text_step.specs.declared.Reading.the-variants.{Read, Outside, Unreadable}
 use Rattle.text_step.specs.Claims.{IsText, OutsideLineIsText, ReadIsText, ReadLineIsText, TextReadsBack, TextWithinLimitsRead, UnreadableIsNoText}
-use Rattle.text_step.specs.Kinds.{sentTake, sentVote, setupKind, openKind, proposeKind, deliverKind, tellKind, restoreKind, crashKind, to}
-use Rattle.text_step.specs.Step.{HasText, beyond, crashOf, deliverOf, openOf, proposeOf, readStep, readingOf, restoreOf, roleNumber, roleOf, setupOf, stepReaders, takeOf, tellOf, text, voteOf}
+use Rattle.text_step.specs.Kinds.{sentTake, sentVote, setupKind, openKind, proposeKind, deliverKind, tellKind, restoreKind, followKind, crashKind, to}
+use Rattle.text_step.specs.Step.{HasText, beyond, crashOf, deliverOf, followOf, openOf, proposeOf, readStep, readingOf, restoreOf, roleNumber, roleOf, setupOf, stepReaders, takeOf, tellOf, text, voteOf}
 use Rattle.text_step.proofs.Beyond.{beyond-is-outside}
 
 -- ---- what is written reads back
@@ -70,8 +70,9 @@ text-reads-back (Propose c i b) h = first-reads stepReaders 4 (reader proposeKin
 text-reads-back (Deliver m) h = first-reads stepReaders 5 (reader deliverKind deliverOf) (m ∷ []) refl refl (tt, tt)
 text-reads-back (Tell c p tx) h = first-reads stepReaders 6 (reader tellKind tellOf) (c ∷ p ∷ tx ∷ []) refl refl (tt, (tt, (tt, tt)))
 text-reads-back (Restore c p) h = first-reads stepReaders 7 (reader restoreKind restoreOf) (c ∷ p ∷ []) refl refl (tt, (tt, tt))
+text-reads-back (Follow c p tx) h = first-reads stepReaders 8 (reader followKind followOf) (c ∷ p ∷ tx ∷ []) refl refl (tt, (tt, (tt, tt)))
 text-reads-back (Crash r id) h =
-    first-reads stepReaders 8 (reader crashKind crashOf) (roleNumber r ∷ id ∷ []) refl refl ((role-fits r, refl), (tt, tt))
+    first-reads stepReaders 9 (reader crashKind crashOf) (roleNumber r ∷ id ∷ []) refl refl ((role-fits r, refl), (tt, tt))
     ∙ ap (λ (x : Role). some (Crash x id)) (role-back r)
 
 -- ---- what reads was written
@@ -128,7 +129,10 @@ read-is-text l s h =
                   kind-is-text (reader tellKind tellOf) (λ vs. refl) (λ vs. tt) l,
                   (
                     kind-is-text (reader restoreKind restoreOf) (λ vs. refl) (λ vs. tt) l,
-                    (crash-is-text l, tt),
+                    (
+                      kind-is-text (reader followKind followOf) (λ vs. refl) (λ vs. tt) l,
+                      (crash-is-text l, tt),
+                    ),
                   ),
                 ),
               ),

@@ -12,7 +12,7 @@ use Rattle.log_entry.specs.Limits.{transactions}
 use Rattle.model_steps.specs.declared.Role.{Role}
 use Rattle.model_steps.specs.declared.Role.the-variants.{Acceptor, Coord, Proc}
 use Rattle.model_steps.specs.declared.Step.{Step}
-use Rattle.model_steps.specs.declared.Step.the-variants.{Setup, Request, Open, Propose, Deliver, Tell, Restore, Crash}
+use Rattle.model_steps.specs.declared.Step.the-variants.{Setup, Request, Open, Propose, Deliver, Tell, Restore, Follow, Crash}
 use Rattle.model_steps.specs.Limits.{ballots, coordinators, instances, messages, mostAcceptors, noBallot, noCoordinator, noParty, outsideStep}
 use Rattle.text_entry.specs.Entry as entry
 use Rattle.text_ascii.specs.Decimal.{byteNumbers}
@@ -61,6 +61,17 @@ request-beyond e to t h = go (entry.beyond e) (noByte to) refl refl (sym (beyond
     go true c k m z = or-left (outside e) (noCoordinator to) (texts.beyond-is-outside e t k)
     go false c k m z = or-right (outside e) (noCoordinator to) (coordinator-beyond to (leb-true byteNumbers to (m ∙ z)))
 
+-- a coordinator, a process or a transaction
+tell-beyond : (c p tx : ℕ) → anyBeyond (c ∷ p ∷ tx ∷ []) ≡ true → (noCoordinator c || noProcess p || leb transactions tx) ≡ true
+tell-beyond c p tx =
+    let x = noCoordinator c in
+    let y = noProcess p in
+    let z = leb transactions tx in
+    beyond-cases ((x || y || z) ≡ true) (c ∷ p ∷ tx ∷ []) (
+      (λ h. first-of x y z (coordinator-beyond c h)),
+      ((λ h. second-of x y z (no-such-process p h)), ((λ h. third-of x y z (le-leb transactions tx (omega arith))), tt)),
+    )
+
 -- the step has a number outside its limits, whichever of the numbers of acceptors counts
 pub beyond-is-outside : (n : ℕ) → n ≤ byteNumbers → (s : Step) → HasText s → beyond s ≡ true → outsideStep n s ≡ true
 unfolding outsideStep
@@ -69,16 +80,10 @@ beyond-is-outside n k (Request e to) t = request-beyond e to t
 beyond-is-outside n k (Open c i b) t = round-beyond c i b
 beyond-is-outside n k (Propose c i b) t = round-beyond c i b
 beyond-is-outside n k (Deliver m) t = beyond-cases (leb messages m ≡ true) (m ∷ []) ((λ h. le-leb messages m (omega arith)), tt)
-beyond-is-outside n k (Tell c p tx) t =
-    let x = noCoordinator c in
-    let y = noProcess p in
-    let z = leb transactions tx in
-    beyond-cases ((x || y || z) ≡ true) (c ∷ p ∷ tx ∷ []) (
-      (λ h. first-of x y z (coordinator-beyond c h)),
-      ((λ h. second-of x y z (no-such-process p h)), ((λ h. third-of x y z (le-leb transactions tx (omega arith))), tt)),
-    )
+beyond-is-outside n k (Tell c p tx) t = tell-beyond c p tx
 beyond-is-outside n k (Restore c p) t =
     let x = noCoordinator c in
     let y = noProcess p in
     beyond-cases ((x || y) ≡ true) (c ∷ p ∷ []) ((λ h. or-left x y (coordinator-beyond c h)), ((λ h. or-right x y (no-such-process p h)), tt))
+beyond-is-outside n k (Follow c p tx) t = tell-beyond c p tx
 beyond-is-outside n k (Crash r id) t = beyond-cases (noParty n r id ≡ true) (id ∷ []) ((λ h. party-beyond n k r id h), tt)

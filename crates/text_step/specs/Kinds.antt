@@ -1,4 +1,5 @@
 -- The fields and kinds of the world's steps, as document 01 lists them beside those of an entry.
+-- Document 02 adds one kind.
 use mathlib.Core.List.{[], _∷_, _++_}
 use Rattle.text_ascii.specs.Bytes.{ascii}
 use Rattle.text_entry.specs.Decimals.{decimalField}
@@ -57,6 +58,10 @@ tellKind = kind (ascii "tell") (coord ∷ proc ∷ tx ∷ [])
 
 abbrev pub restoreKind : Kind
 restoreKind = kind (ascii "restore") (coord ∷ proc ∷ [])
+
+-- "A new step `follow coord proc tx`"
+abbrev pub followKind : Kind
+followKind = kind (ascii "follow") (coord ∷ proc ∷ tx ∷ [])
 
 abbrev pub crashKind : Kind
 crashKind = kind (ascii "crash") (role ∷ id ∷ [])

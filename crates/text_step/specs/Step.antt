@@ -8,13 +8,13 @@ use lib.ListN.{getD}
 use Rattle.model_steps.specs.declared.Role.{Role}
 use Rattle.model_steps.specs.declared.Role.the-variants.{Acceptor, Coord, Proc}
 use Rattle.model_steps.specs.declared.Step.{Step}
-use Rattle.model_steps.specs.declared.Step.the-variants.{Setup, Request, Open, Propose, Deliver, Tell, Restore, Crash}
+use Rattle.model_steps.specs.declared.Step.the-variants.{Setup, Request, Open, Propose, Deliver, Tell, Restore, Follow, Crash}
 use Rattle.text_entry.specs.Entry as entry
 use Rattle.text_entry.specs.Fields.{lineText}
 use Rattle.text_entry.specs.Table.{Reader, anyBeyond, answerOf, at, readFirst, reader}
 use Rattle.text_step.specs.declared.Reading.{Reading}
 use Rattle.text_step.specs.declared.Reading.the-variants.{Read, Outside, Unreadable}
-use Rattle.text_step.specs.Kinds.{sentTake, sentVote, setupKind, openKind, proposeKind, deliverKind, tellKind, restoreKind, crashKind}
+use Rattle.text_step.specs.Kinds.{sentTake, sentVote, setupKind, openKind, proposeKind, deliverKind, tellKind, restoreKind, followKind, crashKind}
 
 -- the index of a role's word
 abbrev pub roleNumber : Role → ℕ
@@ -34,6 +34,7 @@ text (Propose c i b) = lineText proposeKind (c ∷ i ∷ b ∷ [])
 text (Deliver m) = lineText deliverKind (m ∷ [])
 text (Tell c p tx) = lineText tellKind (c ∷ p ∷ tx ∷ [])
 text (Restore c p) = lineText restoreKind (c ∷ p ∷ [])
+text (Follow c p tx) = lineText followKind (c ∷ p ∷ tx ∷ [])
 text (Crash r id) = lineText crashKind (roleNumber r ∷ id ∷ [])
 
 -- a request has a text if its entry has one, and every other step has one
@@ -45,6 +46,7 @@ HasText (Propose c i b) = Unit {0}
 HasText (Deliver m) = Unit {0}
 HasText (Tell c p tx) = Unit {0}
 HasText (Restore c p) = Unit {0}
+HasText (Follow c p tx) = Unit {0}
 HasText (Crash r id) = Unit {0}
 
 -- the step of a line's values
@@ -72,6 +74,9 @@ tellOf vs = Tell (at vs 0) (at vs 1) (at vs 2)
 abbrev pub restoreOf : List ℕ → Step
 restoreOf vs = Restore (at vs 0) (at vs 1)
 
+abbrev pub followOf : List ℕ → Step
+followOf vs = Follow (at vs 0) (at vs 1) (at vs 2)
+
 abbrev pub crashOf : List ℕ → Step
 crashOf vs = Crash (roleOf (at vs 0)) (at vs 1)
 
@@ -85,6 +90,7 @@ stepReaders =
     ∷ reader deliverKind deliverOf
     ∷ reader tellKind tellOf
     ∷ reader restoreKind restoreOf
+    ∷ reader followKind followOf
     ∷ reader crashKind crashOf
     ∷ []
 
@@ -105,6 +111,7 @@ numbers (Propose c i b) = c ∷ i ∷ b ∷ []
 numbers (Deliver m) = m ∷ []
 numbers (Tell c p tx) = c ∷ p ∷ tx ∷ []
 numbers (Restore c p) = c ∷ p ∷ []
+numbers (Follow c p tx) = c ∷ p ∷ tx ∷ []
 numbers (Crash r id) = id ∷ []
 
 -- a number of the step is beyond a byte

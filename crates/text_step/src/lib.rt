@@ -1,4 +1,4 @@
-// The lines of the world's steps: document 01's "Step files".
+// The lines of the world's steps: document 01's "Step files", and document 02.
 ghost use Prim.Native.Nat.{_<_};
 ghost use mathlib.Core.Option.{some};
 ghost use mathlib.Core.Path.{_≡_};
@@ -10,8 +10,8 @@ ghost use Rattle.text_entry.specs.Seen.{seen};
 ghost use Rattle.text_entry.specs.Table.{made, readAs};
 ghost use Rattle.text_step.specs.declared.Reading.the-variants.{Read, Outside, Unreadable};
 ghost use Rattle.text_step.specs.Answers.{isRead, requestOf};
-ghost use Rattle.text_step.specs.Kinds.{role, sentTake, sentVote, setupKind, openKind, proposeKind, deliverKind, tellKind, restoreKind, crashKind};
-ghost use Rattle.text_step.specs.Step.{readerAt, reading, readingOf, roleOf, stepReaders, takeOf, voteOf, setupOf, openOf, proposeOf, deliverOf, tellOf, restoreOf, crashOf};
+ghost use Rattle.text_step.specs.Kinds.{role, sentTake, sentVote, setupKind, openKind, proposeKind, deliverKind, tellKind, restoreKind, followKind, crashKind};
+ghost use Rattle.text_step.specs.Step.{readerAt, reading, readingOf, roleOf, stepReaders, takeOf, voteOf, setupOf, openOf, proposeOf, deliverOf, tellOf, restoreOf, followOf, crashOf};
 use log_entry::Entry;
 use model_steps::Role;
 use model_steps::Step;
@@ -23,7 +23,7 @@ use text_entry::value;
 use text_entry::value::Value;
 
 // The kinds of lines: `stepReaders` of `specs/Step.antt` has them in their order.
-const KINDS: u8 = 9;
+const KINDS: u8 = 10;
 
 // What a line is: a step; the text of a step with a number beyond a byte; or no text of a step.
 pub enum Reading {
@@ -161,6 +161,20 @@ fn read_restore(line: &[u8]) -> Reading
     )
 }
 
+fn read_follow(line: &[u8]) -> Reading
+    ensures { λ r. ⌜ r ≡ readingOf (made followOf (readKind followKind (now (line .entry)))) ⌝ }
+{
+    let d = decimals::three(line, b"follow", b"coord", b"proc", b"tx");
+    answer(
+        d,
+        Step::Follow {
+            coord: d.first,
+            process: d.second,
+            tx: d.third,
+        },
+    )
+}
+
 // Behind a value: the word of a role, by its index.
 fn role_word(line: &[u8], before: Value) -> Value
     ensures { λ r. ⌜ seen (now (line .entry)) r ≡ valueAfter (role .form) (seen (now (line .entry)) before) ⌝ }
@@ -231,6 +245,7 @@ fn read_kind(line: &[u8], kind: u8) -> Reading
         5 => read_deliver(line),
         6 => read_tell(line),
         7 => read_restore(line),
+        8 => read_follow(line),
         _ => read_crash(line),
     }
 }

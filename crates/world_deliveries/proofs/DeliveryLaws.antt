@@ -8,7 +8,7 @@ use lib.Dec.{ltb}
 use Rattle.model_steps.specs.Limits.{mostAcceptors}
 use Rattle.model_protocol.specs.declared.AcceptorSlot.{AcceptorSlot}
 use Rattle.model_protocol.specs.declared.Coordinator.{Coordinator}
-use Rattle.model_protocol.specs.declared.Kind.the-variants.{Request, Prepare, Accept, Promise, Accepted, Tell, Restore}
+use Rattle.model_protocol.specs.declared.Kind.the-variants.{Request, Prepare, Accept, Promise, Accepted, Tell, Restore, Follow}
 use Rattle.model_protocol.specs.declared.Message.{Message}
 use Rattle.model_protocol.specs.declared.Process.{Process}
 use Rattle.model_protocol.specs.declared.Queue.{Queue}
@@ -17,13 +17,13 @@ use Rattle.model_paxos.specs.Ballot.{majority}
 use Rattle.model_protocol.specs.Acceptor.{accepting, accepts, promises, promising}
 use Rattle.model_protocol.specs.Coordinator.{counting, isCurrent, isHeard, learning, promiseHeard, withQueue, withRound}
 use Rattle.model_protocol.specs.Message.{acceptedFrom, promiseFrom}
-use Rattle.model_protocol.specs.Process.{hearingOutcome, taking}
+use Rattle.model_protocol.specs.Process.{following, hearingOutcome, taking, takesFollow}
 use Rattle.model_protocol.specs.Queue.{joining}
 use Rattle.world_coordinator.specs.Limits.{setPlaces}
 use Rattle.world_coordinator.proofs.RoundLaws.{heard-inside}
 use Rattle.model_protocol.specs.declared.Parts.{Parts}
 use Rattle.model_protocol.specs.Change.{slotNow, coordinatorNow, processNow, sending}
-use Rattle.model_protocol.specs.Change.{done, learns, takesReplay}
+use Rattle.model_protocol.specs.Change.{done, keepsFollow, learns, takesReplay}
 use Rattle.model_protocol.specs.Deliver.{deliveryChange}
 
 -- ---- a promise or an acceptance that is heard
@@ -77,11 +77,22 @@ module _ (p : Parts) where
   restore-passed h = rw (le-ltb (p .process .position) (p .message .position) h)
 
   pub restore-taken : (h : Process)
-      → h ≡ taking (p .process) (p .message .store) (p .message .position)
+      → h ≡ taking (p .process) (p .message .store) (p .message .position) (p .message .running)
       → p .process .position < p .message .position
       → takesReplay (processNow p h) ≡ deliveryChange p Restore
   unfolding deliveryChange
   restore-taken h is above = rw (lt-ltb (p .process .position) (p .message .position) above, is)
+
+  pub follow-passed : takesFollow (p .process) (p .message .store) (p .message .tx) ≡ false → done p ≡ deliveryChange p Follow
+  unfolding deliveryChange
+  follow-passed h = rw h
+
+  pub follow-kept : (h : Process)
+      → h ≡ following (p .process) (p .message .tx)
+      → takesFollow (p .process) (p .message .store) (p .message .tx) ≡ true
+      → keepsFollow (processNow p h) ≡ deliveryChange p Follow
+  unfolding deliveryChange
+  follow-kept h is takes = rw (takes, is)
 
   -- ---- a promise or an acceptance, by whether it is heard
 

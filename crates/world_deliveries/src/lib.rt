@@ -1,9 +1,12 @@
 // The step deliver: what a message of each kind does to its receiver.
 ghost use mathlib.Core.Bool.{_&&_, not};
 ghost use mathlib.Core.Path.{_≡_};
+ghost use Prim.Native.Nat.{_<_};
+ghost use Rattle.log_entry.specs.Limits.{transactions};
 ghost use Rattle.model_steps.specs.declared.Step.the-variants.{Deliver};
 ghost use Rattle.model_protocol.specs.declared.Kind.the-variants as kind;
 ghost use Rattle.model_protocol.specs.Coordinator.{isHeard};
+ghost use Rattle.model_protocol.specs.Process.{following};
 ghost use Rattle.model_protocol.specs.Queue.{isFull, isIn, queued};
 ghost use Rattle.model_protocol.specs.Deliver.{deliveryChange, noPlaceFor};
 ghost use Rattle.world_parts.specs.Plan.{planOf};
@@ -14,6 +17,7 @@ use model_protocol::Coordinator;
 use model_protocol::Kind;
 use model_protocol::Message;
 use model_protocol::Parts;
+use model_protocol::Process;
 use model_protocol::Queue;
 use model_steps::limits::MOST_ACCEPTORS;
 use world_coordinator::learn;
@@ -148,8 +152,29 @@ fn restore(mut p: Parts) -> Change
     if m.position <= h.position {
         return changes::without_messages(p, 0);
     }
-    p.process = world_process::taking(h, m.store, m.position);
+    p.process = world_process::taking(h, m.store, m.position, m.running);
     changes::takes_replay(p)
+}
+
+// The process took a follow of the transaction.
+fn following(mut h: Process, tx: u8) -> Process
+    requires { ⌜ tx < transactions ⌝ }
+    ensures { λ r. ⌜ r ≡ following h tx ⌝ }
+{
+    h.followed = h.followed | (1 << tx);
+    h
+}
+
+fn follow(mut p: Parts) -> Change
+    ensures { λ r. ⌜ r ≡ deliveryChange p kind.Follow ⌝ }
+{
+    let m = p.message;
+    let h = p.process;
+    if !world_process::takes_follow(h, m.store, m.tx) {
+        return changes::without_messages(p, 0);
+    }
+    p.process = following(h, m.tx);
+    changes::keeps_follow(p)
 }
 
 // The message is handed to its receiver.
@@ -166,6 +191,7 @@ fn hand(p: Parts) -> Change
         Kind::Accepted => accepted(p),
         Kind::Tell => tell(p),
         Kind::Restore => restore(p),
+        Kind::Follow => follow(p),
     }
 }
 

@@ -18,12 +18,13 @@ use Rattle.log_core.specs.Enter.{feed}
 use Rattle.log_core.specs.Log.{emptyLog}
 use Rattle.log_core.specs.Replay.{replayOf}
 use Rattle.model_steps.specs.declared.Step.{Step}
-use Rattle.model_steps.specs.declared.Step.the-variants.{Setup, Request, Open, Propose, Deliver, Tell, Restore, Crash}
+use Rattle.model_steps.specs.declared.Step.the-variants.{Setup, Request, Open, Propose, Deliver, Tell, Restore, Follow, Crash}
 use Rattle.model_steps.specs.Limits.{coordinators, instances, messages}
 use Rattle.model_protocol.proofs.World.{the-type as world-type}
 use Rattle.model_protocol.specs.declared.AcceptorSlot.{AcceptorSlot}
 use Rattle.model_protocol.specs.declared.Change.{Change}
 use Rattle.model_protocol.specs.declared.Coordinator.{Coordinator}
+use Rattle.model_protocol.specs.declared.Follows.{Follows}
 use Rattle.model_protocol.specs.declared.Message.{Message}
 use Rattle.model_protocol.specs.declared.Parts.{Parts}
 use Rattle.model_protocol.specs.declared.Places.{Places}
@@ -37,9 +38,10 @@ use Rattle.model_protocol.specs.declared.Kind.{Kind}
 use Rattle.model_protocol.specs.declared.Kind.the-variants as kind
 use Rattle.model_protocol.specs.Limits.{slotPlaces, processPlaces}
 use Rattle.model_protocol.specs.Places.{deliveryPlaces, messageAt, placesOf}
+use Rattle.model_protocol.specs.Process.{withFollow}
 use Rattle.model_protocol.specs.Send.{addressed, copyOf, sendToAll}
 use Rattle.model_protocol.specs.Step.{answered, deliveredIn, messageFor, partsAt, putBack, replayIn, stepOf}
-use Rattle.model_protocol.specs.World.{coordinatorOf, emptySlot, freshCoordinator, freshProcess, logOf, withMessage}
+use Rattle.model_protocol.specs.World.{coordinatorOf, emptySlot, freshCoordinator, freshProcess, logOf, noFollows, withMessage}
 use Rattle.world_coordinator.proofs.FrontLaws.{front-end, front-step}
 use Rattle.world_parts.specs.Asks.{asksLog}
 use Rattle.world_engine.specs.Changed.{changeIn}
@@ -60,6 +62,7 @@ pub record Lengths (w : World) : Type 0 where
   pub log-row : length (w .logs) ≡ coordinators
   pub process-row : length (w .processes) ≡ processPlaces
   pub restored-row : length (w .restored) ≡ processPlaces
+  pub follows-row : length (w .follows) ≡ processPlaces
   pub message-row : length (w .messages) ≡ messages
   pub replay-row : length (w .replays) ≡ messages
 
@@ -70,8 +73,9 @@ world-lengths w vs g = record {
   log-row = simp length-map at (g .1 .1 .1 .1 .1 .0 .1 .0 .1);
   process-row = simp length-map at (g .1 .1 .1 .1 .1 .1 .0 .1 .0 .1);
   restored-row = simp length-map at (g .1 .1 .1 .1 .1 .1 .1 .0 .1 .0 .1);
-  message-row = simp length-map at (g .1 .1 .1 .1 .1 .1 .1 .1 .1 .0 .1 .0 .1);
-  replay-row = simp length-map at (g .1 .1 .1 .1 .1 .1 .1 .1 .1 .1 .0 .1 .0 .1);
+  follows-row = simp length-map at (g .1 .1 .1 .1 .1 .1 .1 .1 .0 .1 .0 .1);
+  message-row = simp length-map at (g .1 .1 .1 .1 .1 .1 .1 .1 .1 .1 .0 .1 .0 .1);
+  replay-row = simp length-map at (g .1 .1 .1 .1 .1 .1 .1 .1 .1 .1 .1 .0 .1 .0 .1);
 }
 
 message-inside : (s : Step) → messageAt s < messages
@@ -82,6 +86,7 @@ message-inside (Propose c i b) = omega arith
 message-inside (Deliver m) = mod-lt m (omega arith)
 message-inside (Tell c p tx) = omega arith
 message-inside (Restore c p) = omega arith
+message-inside (Follow c p tx) = omega arith
 message-inside (Crash role id) = omega arith
 
 -- the world has every place of a step
@@ -99,6 +104,7 @@ delivery-there m kind.Promise = there (owner (m .ballot)) 0 0
 delivery-there m kind.Accepted = there (owner (m .ballot)) 0 0
 delivery-there m kind.Tell = there 0 0 (m .to)
 delivery-there m kind.Restore = there 0 0 (m .to)
+delivery-there m kind.Follow = there 0 0 (m .to)
 
 step-there : (s : Step) (m : Message) → There (placesOf s m)
 unfolding placesOf
@@ -109,6 +115,7 @@ step-there (Propose c i b) m = there c 0 0
 step-there (Deliver k) m = delivery-there m (m .kind)
 step-there (Tell c p tx) m = there c 0 0
 step-there (Restore c p) m = there c 0 0
+step-there (Follow c p tx) m = there c 0 0
 step-there (Crash role id) m = there 0 0 0
 
 pub places-there : (at : Places) (s : Step) (m : Message) → at ≡ placesOf s m → There at
@@ -161,9 +168,10 @@ not-asked (Propose c i b) d l n h = refl
 not-asked (Deliver m) d l n h = refl
 not-asked (Tell c p tx) d l n h = absurd (true≢false h)
 not-asked (Restore c p) d l n h = absurd (true≢false h)
+not-asked (Follow c p tx) d l n h = absurd (true≢false h)
 not-asked (Crash role id) d l n h = refl
 
--- ---- the world with the parts stored, and these replays and logs
+-- ---- the world with the parts stored, and these replays, follows and logs
 
 abbrev withReplays : World → List Replay → World
 withReplays w rs = record {
@@ -173,9 +181,25 @@ withReplays w rs = record {
   logs = w .logs;
   processes = w .processes;
   restored = w .restored;
+  follows = w .follows;
   down = w .down;
   messages = w .messages;
   replays = rs;
+  sent = w .sent;
+}
+
+abbrev withFollows : World → List Follows → World
+withFollows w fs = record {
+  acceptors = w .acceptors;
+  slots = w .slots;
+  coordinators = w .coordinators;
+  logs = w .logs;
+  processes = w .processes;
+  restored = w .restored;
+  follows = fs;
+  down = w .down;
+  messages = w .messages;
+  replays = w .replays;
   sent = w .sent;
 }
 
@@ -187,20 +211,22 @@ withLogs w ls = record {
   logs = ls;
   processes = w .processes;
   restored = w .restored;
+  follows = w .follows;
   down = w .down;
   messages = w .messages;
   replays = w .replays;
   sent = w .sent;
 }
 
-abbrev pub storedWith : World → Places → Parts → List Replay → List Replay → List Log → World
-storedWith w at p restored replays logs = record {
+abbrev pub storedWith : World → Places → Parts → List Replay → List Follows → List Replay → List Log → World
+storedWith w at p restored follows replays logs = record {
   acceptors = p .acceptors;
   slots = set (w .slots) (at .slot) (p .slot);
   coordinators = set (w .coordinators) (at .coordinator) (p .coordinator);
   logs = logs;
   processes = set (w .processes) (at .process) (p .process);
   restored = restored;
+  follows = follows;
   down = p .down;
   messages = w .messages;
   replays = replays;
@@ -209,21 +235,36 @@ storedWith w at p restored replays logs = record {
 
 -- first the process takes the replay
 abbrev pub takenIn : World → Places → Replay → Change → World
-takenIn w at r ch = storedWith w at (ch .parts) (putBack w at r ch .restored) (w .replays) (w .logs)
+takenIn w at r ch = storedWith w at (ch .parts) (putBack w at r ch .restored) (w .follows) (w .replays) (w .logs)
+
+-- then it takes the follow
+abbrev pub followedIn : World → Places → Replay → Change → World
+followedIn w at r ch = storedWith w at (ch .parts) (putBack w at r ch .restored) (putBack w at r ch .follows) (w .replays) (w .logs)
 
 -- then the replay goes with the message that is sent
 abbrev pub givenIn : World → Places → Replay → Change → World
-givenIn w at r ch = storedWith w at (ch .parts) (putBack w at r ch .restored) (putBack w at r ch .replays) (w .logs)
+givenIn w at r ch =
+    storedWith w at (ch .parts) (putBack w at r ch .restored) (putBack w at r ch .follows) (putBack w at r ch .replays) (w .logs)
 
 module _ (w : World) (at : Places) (r : Replay) (ch : Change) where
-  pub takes-none : ch .takes ≡ false → storedWith w at (ch .parts) (w .restored) (w .replays) (w .logs) ≡ takenIn w at r ch
+  pub takes-none : ch .takes ≡ false → storedWith w at (ch .parts) (w .restored) (w .follows) (w .replays) (w .logs) ≡ takenIn w at r ch
   takes-none h = rw h
 
   pub takes-it : (x : Replay) → ch .takes ≡ true → x ≡ r
-      → storedWith w at (ch .parts) (set (w .restored) (at .process) x) (w .replays) (w .logs) ≡ takenIn w at r ch
+      → storedWith w at (ch .parts) (set (w .restored) (at .process) x) (w .follows) (w .replays) (w .logs) ≡ takenIn w at r ch
   takes-it x h is = rw (h, is)
 
   module _ (v : World) (before : v ≡ takenIn w at r ch) where
+    pub follows-none : ch .follows ≡ false → v ≡ followedIn w at r ch
+    follows-none h = rw (h, before)
+
+    -- x is what v has there with the follow
+    pub follows-it : (x f : Follows) → Lengths w → There at → ch .follows ≡ true
+        → x ≡ withFollow (getD (v .follows) (at .process) f) (ch .parts .message)
+        → withFollows v (set (v .follows) (at .process) x) ≡ followedIn w at r ch
+    follows-it x f long here h is = rw (h, is, before, in-list (w .follows) (at .process) f noFollows (omega (arith, long .follows-row, here .2)))
+
+  module _ (v : World) (before : v ≡ followedIn w at r ch) where
     pub gives-none : ch .gives ≡ false → v ≡ givenIn w at r ch
     gives-none h = rw (h, before)
 
@@ -332,6 +373,7 @@ put-lengths w at r ch long = record {
   log-row = rw length-set (long .log-row);
   process-row = rw length-set (long .process-row);
   restored-row = same-length (ch .takes) (w .restored) (at .process) r ∙ long .restored-row;
+  follows-row = same-length (ch .follows) (w .follows) (at .process) _ ∙ long .follows-row;
   message-row = long .message-row;
   replay-row = same-length (ch .gives) (w .replays) (w .sent) _ ∙ long .replay-row;
 }
@@ -343,6 +385,7 @@ sent-lengths w m long = record {
   log-row = long .log-row;
   process-row = long .process-row;
   restored-row = long .restored-row;
+  follows-row = long .follows-row;
   message-row = rw length-set (long .message-row);
   replay-row = long .replay-row;
 }

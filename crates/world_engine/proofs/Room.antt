@@ -12,7 +12,7 @@ use Rattle.log_entry.specs.Entry.{illFormed}
 use Rattle.log_votes.specs.Outcome.{isOpen}
 use Rattle.model_steps.specs.declared.Role.the-variants.{Coord, Proc}
 use Rattle.model_steps.specs.declared.Step.{Step}
-use Rattle.model_steps.specs.declared.Step.the-variants.{Setup, Request, Open, Propose, Deliver, Tell, Restore, Crash}
+use Rattle.model_steps.specs.declared.Step.the-variants.{Setup, Request, Open, Propose, Deliver, Tell, Restore, Follow, Crash}
 use Rattle.model_steps.specs.Limits.{messages, outsideStep}
 use Rattle.model_protocol.specs.declared.Kind.{Kind}
 use Rattle.model_protocol.specs.declared.Kind.the-variants as kind
@@ -22,6 +22,7 @@ use Rattle.model_protocol.specs.Coordinator.{counting, isHeard}
 use Rattle.model_protocol.specs.declared.Change.{Change}
 use Rattle.model_protocol.specs.declared.Parts.{Parts}
 use Rattle.model_protocol.specs.Deliver.{deliveryChange, noPlaceFor, receiverDown}
+use Rattle.model_protocol.specs.Process.{takesFollow}
 use Rattle.model_protocol.specs.Send.{lacksNumbers}
 use Rattle.model_protocol.specs.Step.{acceptorsCounted, cannotOpen, cannotPropose, changeOf, notSetUp, stepChecks, stepRefusal, voterNotHolder}
 use Rattle.model_protocol.specs.World.{isDown}
@@ -63,6 +64,8 @@ delivery-change-fits p kind.Accepted room =
 delivery-change-fits p kind.Tell room = omega arith
 delivery-change-fits p kind.Restore room =
     either-fits (ltb (p .process .position) (p .message .position)) _ _ (messages - p .sent) (λ _. omega arith) (omega arith)
+delivery-change-fits p kind.Follow room =
+    either-fits (takesFollow (p .process) (p .message .store) (p .message .tx)) _ _ (messages - p .sent) (λ _. omega arith) (omega arith)
 
 change-fits : (p : Parts) (s : Step) → refusalIn p s ≡ 0 → changeOf p s .count ≤ messages - p .sent
 unfolding changeOf stepChecks firstRefusal
@@ -85,6 +88,9 @@ change-fits p (Tell c process tx) h =
 change-fits p (Restore c process) h =
     ltb-false (messages - p .sent) 1
     (first-roomy false (isDown (p .down) Coord c || isDown (p .down) Proc process) (notSetUp p || leb stores (p .message .store)) (lacksNumbers (p .sent) 1) false h)
+change-fits p (Follow c process tx) h =
+    ltb-false (messages - p .sent) 1
+    (first-roomy false (isDown (p .down) Coord c || isDown (p .down) Proc process) (notSetUp p || isOpen (p .message .outcome) || leb stores (p .message .store)) (lacksNumbers (p .sent) 1) false h)
 change-fits p (Crash role id) h = omega arith
 
 -- so does a command
@@ -129,6 +135,7 @@ delivery-sends p kind.Accepted =
     none
 delivery-sends p kind.Tell = none
 delivery-sends p kind.Restore = either-sends (ltb (p .process .position) (p .message .position)) _ _ none none
+delivery-sends p kind.Follow = either-sends (takesFollow (p .process) (p .message .store) (p .message .tx)) _ _ none none
 
 change-sends : (p : Parts) (s : Step) → Sends (changeOf p s)
 unfolding changeOf
@@ -139,6 +146,7 @@ change-sends p (Propose c i b) = none
 change-sends p (Deliver m) = delivery-sends p (p .message .kind)
 change-sends p (Tell c process tx) = none
 change-sends p (Restore c process) = λ _. omega arith
+change-sends p (Follow c process tx) = none
 change-sends p (Crash role id) = none
 
 pub command-sends : (o : Command) (p : Parts) → Sends (changeIn o p)

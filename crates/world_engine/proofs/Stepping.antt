@@ -6,7 +6,7 @@ use lib.Dec.{eqb, ltb}
 use Rattle.log_entry.specs.Refusal.{accepted}
 use Rattle.log_core.specs.declared.Replay.{Replay}
 use Rattle.model_steps.specs.declared.Step.{Step}
-use Rattle.model_steps.specs.declared.Step.the-variants.{Setup, Request, Open, Propose, Deliver, Tell, Restore, Crash}
+use Rattle.model_steps.specs.declared.Step.the-variants.{Setup, Request, Open, Propose, Deliver, Tell, Restore, Follow, Crash}
 use Rattle.model_protocol.specs.declared.Change.{Change}
 use Rattle.model_protocol.specs.declared.Kind.{Kind}
 use Rattle.model_protocol.specs.declared.Kind.the-variants as kind
@@ -19,6 +19,7 @@ use Rattle.model_protocol.specs.Change.{withoutMessages}
 use Rattle.model_paxos.specs.Ballot.{majority}
 use Rattle.model_protocol.specs.Coordinator.{counting, isHeard}
 use Rattle.model_protocol.specs.Deliver.{deliveryChange}
+use Rattle.model_protocol.specs.Process.{takesFollow}
 use Rattle.model_protocol.specs.Step.{answered, changed, changeOf, messageIn, partsOf, placesIn, replayIn, stepOf, stepRefusal}
 use Rattle.model_protocol.proofs.PutBack.{nothing-changed}
 use Rattle.world_parts.specs.Plan.{decided}
@@ -44,6 +45,7 @@ delivery-change-accepted p kind.Accepted =
     refl
 delivery-change-accepted p kind.Tell = refl
 delivery-change-accepted p kind.Restore = either-accepted (ltb (p .process .position) (p .message .position)) _ _ refl refl
+delivery-change-accepted p kind.Follow = either-accepted (takesFollow (p .process) (p .message .store) (p .message .tx)) _ _ refl refl
 
 change-accepted : (p : Parts) (s : Step) → changeOf p s .answer ≡ accepted
 unfolding changeOf
@@ -54,6 +56,7 @@ change-accepted p (Propose c i b) = refl
 change-accepted p (Deliver m) = delivery-change-accepted p (p .message .kind)
 change-accepted p (Tell c process tx) = refl
 change-accepted p (Restore c process) = refl
+change-accepted p (Follow c process tx) = refl
 change-accepted p (Crash role id) = refl
 
 -- ---- the command

@@ -70,6 +70,10 @@ pub fn advance(mut w: World, commands: Commands) -> Advanced
             let replay = w.replays[from];
             w.restored[h] = replay;
         }
+        if change.follows {
+            let kept = w.follows[h];
+            w.follows[h] = world_process::with_follow(kept, change.parts.message);
+        }
         let mut m = change.message;
         if change.gives {
             let next = w.sent as usize;

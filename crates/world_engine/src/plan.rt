@@ -31,6 +31,7 @@ fn plan(p: Parts, s: Step) -> Change
         Step::Deliver { msg } => world_deliveries::deliver(p, msg),
         Step::Tell { coord, process, tx } => world_requests::tell(p, coord, process, tx),
         Step::Restore { coord, process } => world_requests::restore(p, coord, process),
+        Step::Follow { coord, process, tx } => world_requests::follow(p, coord, process, tx),
         Step::Crash { role, id } => world_requests::crash(p, role, id),
     }
 }

@@ -4,7 +4,7 @@ ghost use mathlib.Core.Path.{_≡_};
 ghost use Rattle.model_protocol.specs.Batch.{noBatch, noEntry};
 ghost use Rattle.model_protocol.specs.Message.{noMessage};
 ghost use Rattle.model_protocol.specs.Queue.{queueOf};
-ghost use Rattle.model_protocol.specs.World.{allUp, emptySlot, freshCoordinator, freshProcess, freshWorld, newRound};
+ghost use Rattle.model_protocol.specs.World.{allUp, emptySlot, freshCoordinator, freshProcess, freshWorld, newRound, noFollows};
 use log_core::Log;
 use log_core::Replay;
 use log_entry::Entry;
@@ -14,6 +14,8 @@ use model_protocol::AcceptorSlot;
 use model_protocol::Batch;
 use model_protocol::Coordinator;
 use model_protocol::Down;
+use model_protocol::Followed;
+use model_protocol::Follows;
 use model_protocol::Heard;
 use model_protocol::Kind;
 use model_protocol::Message;
@@ -106,6 +108,8 @@ pub fn no_message() -> Message
         outcome: Outcome::Open,
         store: 0,
         position: 0,
+        running: 0,
+        update: 0,
     }
 }
 
@@ -129,6 +133,20 @@ pub fn fresh_process() -> Process
         heard: [nothing; TRANSACTION_PLACES],
         store: 0,
         position: 0,
+        running: 0,
+        followed: 0,
+    }
+}
+
+fn no_follows() -> Follows
+    ensures { λ r. ⌜ r ≡ noFollows ⌝ }
+{
+    let none = Followed {
+        outcome: Outcome::Open,
+        update: 0,
+    };
+    Follows {
+        of: [none; TRANSACTION_PLACES],
     }
 }
 
@@ -151,6 +169,7 @@ pub fn fresh_world() -> World
     let process = fresh_process();
     let none = no_message();
     let replay = Replay::none();
+    let follows = no_follows();
     World {
         acceptors: 0,
         slots: [slot; SLOT_PLACES],
@@ -158,6 +177,7 @@ pub fn fresh_world() -> World
         logs: [log; COORDINATOR_PLACES],
         processes: [process; PROCESS_PLACES],
         restored: [replay; PROCESS_PLACES],
+        follows: [follows; PROCESS_PLACES],
         down: all_up(),
         messages: [none; MESSAGE_PLACES],
         replays: [replay; MESSAGE_PLACES],

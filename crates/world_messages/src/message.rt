@@ -1,6 +1,6 @@
 // The messages of each kind. What a kind does not use is 0.
 ghost use mathlib.Core.Path.{_≡_};
-ghost use Rattle.model_protocol.specs.Message.{acceptTo, acceptedFrom, ballotMessage, directMessage, prepareTo, promiseFrom, requestTo, restoreTo, tellTo};
+ghost use Rattle.model_protocol.specs.Message.{acceptTo, acceptedFrom, ballotMessage, directMessage, followTo, prepareTo, promiseFrom, requestTo, restoreTo, tellTo};
 use log_entry::Entry;
 use log_votes::Outcome;
 use model_protocol::Batch;
@@ -32,6 +32,8 @@ fn ballot_message(
         outcome: Outcome::Open,
         store: 0,
         position: 0,
+        running: 0,
+        update: 0,
     }
 }
 
@@ -43,8 +45,10 @@ fn direct_message(
     outcome: Outcome,
     store: u8,
     position: u8,
+    running: u32,
+    update: u32,
 ) -> Message
-    ensures { λ r. ⌜ r ≡ directMessage kind to entry tx outcome store position ⌝ }
+    ensures { λ r. ⌜ r ≡ directMessage kind to entry tx outcome store position running update ⌝ }
 {
     Message {
         kind: kind,
@@ -59,6 +63,8 @@ fn direct_message(
         outcome: outcome,
         store: store,
         position: position,
+        running: running,
+        update: update,
     }
 }
 
@@ -89,17 +95,17 @@ pub fn accepted_from(inst: u8, ballot: u8, acceptor: u8) -> Message
 pub fn request_to(coord: u8, entry: Entry) -> Message
     ensures { λ r. ⌜ r ≡ requestTo coord entry ⌝ }
 {
-    direct_message(Kind::Request, coord, entry, 0, Outcome::Open, 0, 0)
+    direct_message(Kind::Request, coord, entry, 0, Outcome::Open, 0, 0, 0, 0)
 }
 
 pub fn tell_to(process: u8, tx: u8, outcome: Outcome) -> Message
     ensures { λ r. ⌜ r ≡ tellTo process tx outcome ⌝ }
 {
-    direct_message(Kind::Tell, process, no_entry(), tx, outcome, 0, 0)
+    direct_message(Kind::Tell, process, no_entry(), tx, outcome, 0, 0, 0, 0)
 }
 
-pub fn restore_to(process: u8, store: u8, position: u8) -> Message
-    ensures { λ r. ⌜ r ≡ restoreTo process store position ⌝ }
+pub fn restore_to(process: u8, store: u8, position: u8, running: u32) -> Message
+    ensures { λ r. ⌜ r ≡ restoreTo process store position running ⌝ }
 {
     direct_message(
         Kind::Restore,
@@ -109,5 +115,23 @@ pub fn restore_to(process: u8, store: u8, position: u8) -> Message
         Outcome::Open,
         store,
         position,
+        running,
+        0,
+    )
+}
+
+pub fn follow_to(process: u8, store: u8, tx: u8, outcome: Outcome, update: u32) -> Message
+    ensures { λ r. ⌜ r ≡ followTo process store tx outcome update ⌝ }
+{
+    direct_message(
+        Kind::Follow,
+        process,
+        no_entry(),
+        tx,
+        outcome,
+        store,
+        0,
+        0,
+        update,
     )
 }

@@ -41,7 +41,7 @@ pub fn receiver_down(d: Down, m: Message) -> bool
         Kind::Request => is_down(d, Role::Coord, m.to),
         Kind::Prepare | Kind::Accept => is_down(d, Role::Acceptor, m.acceptor),
         Kind::Promise | Kind::Accepted => is_down(d, Role::Coord, owner(m.ballot)),
-        Kind::Tell | Kind::Restore => is_down(d, Role::Proc, m.to),
+        Kind::Tell | Kind::Restore | Kind::Follow => is_down(d, Role::Proc, m.to),
     }
 }
 

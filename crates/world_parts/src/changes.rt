@@ -1,6 +1,6 @@
 // Changes of the parts.
 ghost use mathlib.Core.Path.{_≡_};
-ghost use Rattle.model_protocol.specs.Change.{givesReplay, learns, sending, takesReplay, withoutMessages};
+ghost use Rattle.model_protocol.specs.Change.{givesReplay, keepsFollow, learns, sending, takesReplay, withoutMessages};
 use model_protocol::Batch;
 use model_protocol::Change;
 use model_protocol::Message;
@@ -20,6 +20,7 @@ pub fn without_messages(p: Parts, answer: u8) -> Change
         learned: no_batch(),
         gives: false,
         takes: false,
+        follows: false,
     }
 }
 
@@ -27,58 +28,44 @@ pub fn without_messages(p: Parts, answer: u8) -> Change
 pub fn sending(p: Parts, count: u8, m: Message) -> Change
     ensures { λ r. ⌜ r ≡ sending p count m ⌝ }
 {
-    Change {
-        answer: 0,
-        parts: p,
-        count: count,
-        message: m,
-        learned: no_batch(),
-        gives: false,
-        takes: false,
-    }
+    let mut change = without_messages(p, 0);
+    change.count = count;
+    change.message = m;
+    change
 }
 
 // The parts are these now, and the coordinator's log is to be fed the batch.
 pub fn learns(p: Parts, batch: Batch) -> Change
     ensures { λ r. ⌜ r ≡ learns p batch ⌝ }
 {
-    Change {
-        answer: 0,
-        parts: p,
-        count: 0,
-        message: no_message(),
-        learned: batch,
-        gives: false,
-        takes: false,
-    }
+    let mut change = without_messages(p, 0);
+    change.learned = batch;
+    change
 }
 
 // The parts are these now, and a restore is sent, with its store's replay.
 pub fn gives_replay(p: Parts, m: Message) -> Change
     ensures { λ r. ⌜ r ≡ givesReplay p m ⌝ }
 {
-    Change {
-        answer: 0,
-        parts: p,
-        count: 1,
-        message: m,
-        learned: no_batch(),
-        gives: true,
-        takes: false,
-    }
+    let mut change = sending(p, 1, m);
+    change.gives = true;
+    change
 }
 
 // The parts are these now, and the process takes the replay of the message delivered.
 pub fn takes_replay(p: Parts) -> Change
     ensures { λ r. ⌜ r ≡ takesReplay p ⌝ }
 {
-    Change {
-        answer: 0,
-        parts: p,
-        count: 0,
-        message: no_message(),
-        learned: no_batch(),
-        gives: false,
-        takes: true,
-    }
+    let mut change = without_messages(p, 0);
+    change.takes = true;
+    change
+}
+
+// The parts are these now, and the process takes the follow delivered.
+pub fn keeps_follow(p: Parts) -> Change
+    ensures { λ r. ⌜ r ≡ keepsFollow p ⌝ }
+{
+    let mut change = without_messages(p, 0);
+    change.follows = true;
+    change
 }

@@ -30,6 +30,7 @@ pub fn asks_log(s: Step) -> bool
     match s {
         Step::Tell { .. } => true,
         Step::Restore { .. } => true,
+        Step::Follow { .. } => true,
         _ => false,
     }
 }
@@ -73,7 +74,7 @@ fn delivery_places(m: Message) -> Places
         Kind::Request => only_coordinator(m.to),
         Kind::Prepare | Kind::Accept => only_slot(m.acceptor, m.inst),
         Kind::Promise | Kind::Accepted => only_coordinator(parties::owner(m.ballot)),
-        Kind::Tell | Kind::Restore => only_process(m.to),
+        Kind::Tell | Kind::Restore | Kind::Follow => only_process(m.to),
     }
 }
 
@@ -89,6 +90,7 @@ pub fn places(s: Step, m: Message) -> Places
         Step::Deliver { .. } => delivery_places(m),
         Step::Tell { coord, .. } => only_coordinator(coord),
         Step::Restore { coord, .. } => only_coordinator(coord),
+        Step::Follow { coord, .. } => only_coordinator(coord),
         Step::Crash { .. } => only_coordinator(0),
     }
 }

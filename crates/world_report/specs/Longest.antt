@@ -12,10 +12,18 @@ longestCoordinator = longestLine + longestLog
 abbrev pub longestHeard : ℕ
 longestHeard = transactions * longestLine
 
--- its line and the replay
-abbrev pub longestRestore : ℕ
-longestRestore = longestLine + longestReplay
+-- a line for each transaction
+abbrev pub longestRunning : ℕ
+longestRunning = transactions * longestLine
 
--- no world prints as more: 74,640 bytes
+-- a line for each transaction
+abbrev pub longestFollows : ℕ
+longestFollows = transactions * longestLine
+
+-- its line, the replay, what it listed as running and the follows
+abbrev pub longestRestore : ℕ
+longestRestore = longestLine + longestReplay + longestRunning + longestFollows
+
+-- no world prints as more: 113,040 bytes
 abbrev pub longestWorld : ℕ
 longestWorld = coordinators * longestCoordinator + processes * longestHeard + processes * longestRestore

@@ -1,19 +1,22 @@
--- What is printed of processes: what each heard, and the restore that it took.
+-- What is printed of processes: what each heard, the restore that it took, and the follows since.
 use Prim.Native.Nat.{ℕ, suc}
 use mathlib.Core.Bool.{cond}
 use mathlib.Core.List.{List, [], _++_}
 use lib.Dec.{eqb}
 use lib.ListN.{getD}
 use Rattle.text_ascii.specs.Bytes.{ascii}
+use Rattle.log_entry.specs.Bits.{has}
 use Rattle.log_entry.specs.Limits.{processes, transactions}
 use Rattle.log_votes.specs.declared.Outcome.{Outcome}
 use Rattle.log_votes.specs.declared.Outcome.the-variants.{Open}
 use Rattle.log_votes.specs.Outcome.{isOpen}
 use Rattle.log_core.specs.declared.Replay.{Replay}
+use Rattle.model_protocol.specs.declared.Followed.{Followed}
+use Rattle.model_protocol.specs.declared.Follows.{Follows}
 use Rattle.model_protocol.specs.declared.Process.{Process}
 use Rattle.log_core.specs.Replay.{noReplay}
-use Rattle.model_protocol.specs.World.{freshProcess}
-use Rattle.text_report.specs.Report.{each, end, field, outcomeField, replayText, rowsOf}
+use Rattle.model_protocol.specs.World.{freshProcess, noFollowed, noFollows}
+use Rattle.text_report.specs.Report.{each, end, field, outcomeField, replayText, rowsOf, updateField}
 
 -- the texts of the processes, by number: they are numbered from 1
 abbrev pub byProcess : (ℕ → Process → List ℕ) → List Process → List ℕ
@@ -35,11 +38,39 @@ heardText proc p = each (λ tx. outcomeText proc tx (getD (p .heard) tx (record 
 abbrev pub restoreLine : ℕ → ℕ → ℕ → List ℕ
 restoreLine proc store position = field (ascii "proc=") proc ++ field (ascii " store=") store ++ field (ascii " position=") position ++ end
 
--- of the last restore that the process took, and its replay; position 0 if it took none
-abbrev pub restoreText : ℕ → Process → Replay → List ℕ
-restoreText proc p replay =
-    cond (eqb (p .position) 0) [] (restoreLine proc (p .store) (p .position) ++ replayText (p .store) (rowsOf replay))
+-- "`world` prints `running=4` lines, then `follow=4 outcome=commit upd=0000000a` lines, each by tx,
+-- behind the replay lines."
+abbrev pub runningLine : ℕ → List ℕ
+runningLine tx = field (ascii "running=") tx ++ end
 
--- where these are the replays, by process
-abbrev pub restoresText : List Process → List Replay → List ℕ
-restoresText ps replays = byProcess (λ proc p. restoreText proc p (getD replays proc noReplay)) ps
+-- of a transaction in the set
+abbrev pub listedText : ℕ → ℕ → List ℕ
+listedText running tx = cond (has running tx) (runningLine tx) []
+
+-- of what the restore listed as running, whether a follow of it was taken or not
+abbrev pub runningText : ℕ → List ℕ
+runningText running = each (listedText running) transactions
+
+-- "then `follow=4 outcome=commit upd=0000000a` lines"
+abbrev pub followLine : ℕ → Followed → List ℕ
+followLine tx f = field (ascii "follow=") tx ++ outcomeField (ascii " outcome=") (f .outcome) ++ updateField (ascii " upd=") (f .update) ++ end
+
+-- of a transaction in the set
+abbrev pub followText : ℕ → ℕ → Followed → List ℕ
+followText followed tx f = cond (has followed tx) (followLine tx f) []
+
+-- of the follows that were taken since the restore
+abbrev pub followsText : ℕ → Follows → List ℕ
+followsText followed follows = each (λ tx. followText followed tx (getD (follows .of) tx noFollowed)) transactions
+
+-- of the last restore that the process took, its replay, and the follows since; position 0 if it
+-- took none
+abbrev pub restoreText : ℕ → Process → Replay → Follows → List ℕ
+restoreText proc p replay follows =
+    cond (eqb (p .position) 0) []
+    (restoreLine proc (p .store) (p .position) ++ replayText (p .store) (rowsOf replay) ++ runningText (p .running) ++ followsText (p .followed) follows)
+
+-- where these are the replays and the follows, by process
+abbrev pub restoresText : List Process → List Replay → List Follows → List ℕ
+restoresText ps replays follows =
+    byProcess (λ proc p. restoreText proc p (getD replays proc noReplay) (getD follows proc noFollows)) ps

@@ -13,10 +13,11 @@ pub mod coordinators;
 pub mod processes;
 
 // No world has more lines: a coordinator's line and its log; for each process a line for each
-// transaction; and a restore's line with its replay.
+// transaction that it heard of; a restore's line with its replay; and for each transaction a line
+// if the restore listed it, and a line of its follow.
 pub const WORLD_LINES: usize = COORDINATORS as usize * (1 + LOG_LINES)
     + PROCESSES as usize * TRANSACTION_PLACES
-    + PROCESSES as usize * (1 + TRANSACTION_PLACES);
+    + PROCESSES as usize * (1 + TRANSACTION_PLACES * 3);
 
 // A world as it is printed.
 pub fn put_world(out: &mut [u8], at: usize, w: World) -> usize
@@ -26,7 +27,8 @@ pub fn put_world(out: &mut [u8], at: usize, w: World) -> usize
     let logs = w.logs;
     let ps = w.processes;
     let replays = w.restored;
+    let follows = w.follows;
     let at = coordinators::put_coordinators(out, at, cs, logs);
     let at = processes::put_all_heard(out, at, ps);
-    processes::put_restores(out, at, ps, replays)
+    processes::put_restores(out, at, ps, replays, follows)
 }

@@ -1,13 +1,16 @@
-// Processes as they are printed: what each heard, and the restore that it took.
+// Processes as they are printed: what each heard, the restore that it took, and the follows since.
 ghost use Prim.Native.Nat.{_*_};
 ghost use Rattle.log_entry.specs.Limits.{processes};
 ghost use Rattle.text_report.specs.Within.{Within, longestLine};
-ghost use Rattle.world_report.specs.Longest.{longestHeard, longestRestore};
-ghost use Rattle.world_report.specs.Processes.{byProcess, heardLine, heardText, outcomeText, restoreLine, restoreText, restoresText};
+ghost use Rattle.world_report.specs.Longest.{longestFollows, longestHeard, longestRestore, longestRunning};
+ghost use Rattle.world_report.specs.Processes.{byProcess, followLine, followText, followsText, heardLine, heardText, listedText, outcomeText, restoreLine, restoreText, restoresText, runningLine, runningText};
 use log_core::Replay;
 use log_entry::limits::PROCESSES;
 use log_entry::limits::TRANSACTIONS;
+use log_entry::sets;
 use log_votes::Outcome;
+use model_protocol::Followed;
+use model_protocol::Follows;
 use model_protocol::Process;
 use model_protocol::limits::PROCESS_PLACES;
 
@@ -64,32 +67,105 @@ pub fn restore_line(out: &mut [u8], at: usize, proc: u8, store: u8, position: u8
     text_report::end(out, at)
 }
 
-// The restore that the process took, if it took one.
-pub fn put_restore(out: &mut [u8], at: usize, proc: u8, p: Process, replay: Replay) -> usize
-    ensures { λ r. ⌜ Within longestRestore (now (out .entry)) at (restoreText proc p replay) (now (out .exit)) r ⌝ }
+pub fn running_line(out: &mut [u8], at: usize, tx: u8) -> usize
+    ensures { λ r. ⌜ Within longestLine (now (out .entry)) at (runningLine tx) (now (out .exit)) r ⌝ }
+{
+    let at = text_report::byte_field(out, at, b"running=", tx);
+    text_report::end(out, at)
+}
+
+// The transaction's line, if the set of those listed as running has it.
+pub fn put_listed(out: &mut [u8], at: usize, running: u32, tx: u8) -> usize
+    ensures { λ r. ⌜ Within longestLine (now (out .entry)) at (listedText running tx) (now (out .exit)) r ⌝ }
+{
+    if !sets::has32(running, tx) {
+        return at;
+    }
+    running_line(out, at, tx)
+}
+
+// What the restore listed as running.
+pub fn put_running(out: &mut [u8], mut at: usize, running: u32) -> usize
+    ensures { λ r. ⌜ Within longestRunning (now (out .entry)) at (runningText running) (now (out .exit)) r ⌝ }
+{
+    let mut i: u8 = 0;
+    while i < TRANSACTIONS {
+        at = put_listed(out, at, running, i);
+        i += 1;
+    }
+    at
+}
+
+pub fn follow_line(out: &mut [u8], at: usize, tx: u8, f: Followed) -> usize
+    ensures { λ r. ⌜ Within longestLine (now (out .entry)) at (followLine tx f) (now (out .exit)) r ⌝ }
+{
+    let outcome = f.outcome;
+    let at = text_report::byte_field(out, at, b"follow=", tx);
+    let at = text_report::outcome_field(out, at, b" outcome=", outcome);
+    let at = text_report::update_field(out, at, b" upd=", f.update);
+    text_report::end(out, at)
+}
+
+// The transaction's line, if the set of those followed has it.
+pub fn put_follow(out: &mut [u8], at: usize, followed: u32, tx: u8, f: Followed) -> usize
+    ensures { λ r. ⌜ Within longestLine (now (out .entry)) at (followText followed tx f) (now (out .exit)) r ⌝ }
+{
+    if !sets::has32(followed, tx) {
+        return at;
+    }
+    follow_line(out, at, tx, f)
+}
+
+// The follows that were taken since the restore.
+pub fn put_follows(out: &mut [u8], mut at: usize, followed: u32, follows: Follows) -> usize
+    ensures { λ r. ⌜ Within longestFollows (now (out .entry)) at (followsText followed follows) (now (out .exit)) r ⌝ }
+{
+    let mut i: u8 = 0;
+    while i < TRANSACTIONS {
+        let f = follows.of[i as usize];
+        at = put_follow(out, at, followed, i, f);
+        i += 1;
+    }
+    at
+}
+
+// The restore that the process took, if it took one, and the follows since.
+pub fn put_restore(
+    out: &mut [u8],
+    at: usize,
+    proc: u8,
+    p: Process,
+    replay: Replay,
+    follows: Follows,
+) -> usize
+    ensures { λ r. ⌜ Within longestRestore (now (out .entry)) at (restoreText proc p replay follows) (now (out .exit)) r ⌝ }
 {
     if p.position == 0 {
         return at;
     }
     let at = restore_line(out, at, proc, p.store, p.position);
-    text_report::put_replay(out, at, p.store, replay)
+    let at = text_report::put_replay(out, at, p.store, replay);
+    let at = put_running(out, at, p.running);
+    put_follows(out, at, p.followed, follows)
 }
 
-// The restores of all processes.
+// The restores of all processes, and the follows since.
 pub fn put_restores(
     out: &mut [u8],
     mut at: usize,
     ps: [Process; PROCESS_PLACES],
     replays: [Replay; PROCESS_PLACES],
+    follows: [Follows; PROCESS_PLACES],
 ) -> usize
-    ensures { λ r. ⌜ Within (processes * longestRestore) (now (out .entry)) at (restoresText ps replays) (now (out .exit)) r ⌝ }
+    ensures { λ r. ⌜ Within (processes * longestRestore) (now (out .entry)) at (restoresText ps replays follows) (now (out .exit)) r ⌝ }
 {
     let mut i: u8 = 0;
     while i < PROCESSES {
         i += 1;
         let p = ps[i as usize];
         let replay = replays[i as usize];
-        at = put_restore(out, at, i, p, replay);
+        let taken = follows[i as usize];
+        at = put_restore(out, at, i, p, replay, taken);
     }
     at
 }

@@ -1,14 +1,16 @@
-// The steps that need no ballot: setup, take and vote, tell, restore, crash.
+// The steps that need no ballot: setup, take and vote, tell, restore, follow, crash.
 ghost use mathlib.Core.Path.{_≡_};
 ghost use mathlib.Core.Bool.{false, _&&_, _||_, not};
 ghost use lib.Dec.{eqb, leb};
 ghost use Rattle.log_entry.specs.Entry.{illFormed};
 ghost use Rattle.log_entry.specs.Limits.{stores};
 ghost use Rattle.log_votes.specs.Outcome.{isOpen};
+ghost use Rattle.log_core.specs.Follow.{awaitedOf};
+ghost use Rattle.log_core.specs.Log.{outcomeOf};
 ghost use Rattle.model_steps.specs.declared.Role.the-variants.{Coord, Proc};
-ghost use Rattle.model_steps.specs.declared.Step.the-variants.{Crash, Request, Restore, Setup, Tell};
-ghost use Rattle.model_protocol.specs.Message.{restoreTo};
-ghost use Rattle.model_protocol.specs.Step.{heldFrom, heldStore, messageFor, voterNotHolder};
+ghost use Rattle.model_steps.specs.declared.Step.the-variants.{Crash, Follow, Request, Restore, Setup, Tell};
+ghost use Rattle.model_protocol.specs.Message.{followTo, restoreTo};
+ghost use Rattle.model_protocol.specs.Step.{heldFrom, heldStore, messageFor, updateOf, voterNotHolder, votingStore};
 ghost use Rattle.model_protocol.specs.World.{isDown};
 ghost use Rattle.model_protocol.specs.Send.{lacksNumbers};
 ghost use Rattle.world_parts.specs.Refusal.{firstOf, tests};
@@ -129,6 +131,17 @@ pub fn restore(p: Parts, coord: u8, process: u8) -> Change
     changes::gives_replay(p, p.message)
 }
 
+pub fn follow(p: Parts, coord: u8, process: u8, tx: u8) -> Change
+    ensures { λ r. ⌜ r ≡ planOf p (Follow coord process tx) ⌝ }
+{
+    let barred = undecided(p.message) | (STORES <= p.message.store);
+    let answer = refusal_to(p.acceptors, p.sent, p.down, coord, process, barred);
+    if answer != 0 {
+        return changes::without_messages(p, answer);
+    }
+    changes::sending(p, 1, p.message)
+}
+
 // The store that the process holds; one past the last store if it holds none.
 fn held_store(holders: [u8; STORE_PLACES], process: u8) -> u8
     ensures { λ r. ⌜ r ≡ heldFrom process 0 holders ⌝ }
@@ -144,21 +157,58 @@ fn held_store(holders: [u8; STORE_PLACES], process: u8) -> u8
 }
 
 fn restored(log: Log, applied: u8, process: u8) -> Message
-    ensures { λ r. ⌜ r ≡ restoreTo process (heldStore log process) applied ⌝ }
+    ensures { λ r. ⌜ r ≡ restoreTo process (heldStore log process) applied (awaitedOf log (heldStore log process)) ⌝ }
 {
     let holders = log.holders;
     let store = held_store(holders, process);
-    message::restore_to(process, store, applied)
+    message::restore_to(process, store, applied, log.awaited(store))
 }
 
-// The message of a step, where `delivered` is the one that it delivers: a tell or a restore sends
-// what the log of a coordinator that applied n instances says.
+// The store that the process holds, if it has a kept commit vote on the transaction; one past the
+// last store if not.
+fn voting_store(log: Log, process: u8, tx: u8) -> u8
+    ensures { λ r. ⌜ r ≡ votingStore log process tx ⌝ }
+{
+    let holders = log.holders;
+    let store = held_store(holders, process);
+    if log.vote_on(tx, store).is_commit() {
+        return store;
+    }
+    STORES
+}
+
+// The update of the store's vote on the transaction; 0 unless the transaction is committed.
+fn update_of(log: Log, tx: u8, store: u8) -> u32
+    ensures { λ r. ⌜ r ≡ updateOf log tx store ⌝ }
+{
+    if log.outcome(tx).is_commit() {
+        return log.vote_on(tx, store).update;
+    }
+    0
+}
+
+fn followed(log: Log, process: u8, tx: u8) -> Message
+    ensures { λ r. ⌜ r ≡ followTo process (votingStore log process tx) tx (outcomeOf log tx) (updateOf log tx (votingStore log process tx)) ⌝ }
+{
+    let store = voting_store(log, process, tx);
+    message::follow_to(
+        process,
+        store,
+        tx,
+        log.outcome(tx),
+        update_of(log, tx, store),
+    )
+}
+
+// The message of a step, where `delivered` is the one that it delivers: a tell, a restore or a
+// follow sends what the log of a coordinator that applied n instances says.
 pub fn said(s: Step, delivered: Message, log: Log, applied: u8) -> Message
     ensures { λ r. ⌜ r ≡ messageFor s delivered log applied ⌝ }
 {
     match s {
         Step::Tell { process, tx, .. } => message::tell_to(process, tx, log.outcome(tx)),
         Step::Restore { process, .. } => restored(log, applied, process),
+        Step::Follow { process, tx, .. } => followed(log, process, tx),
         _ => delivered,
     }
 }

@@ -19,7 +19,7 @@ use Rattle.model_protocol.specs.declared.World.{World}
 use Rattle.model_protocol.specs.Step.{acceptorsCounted, answered, changed, changeOf, partsOf, placesIn, replayIn, run, stepChecks, stepOf, stepRefusal}
 use Rattle.model_protocol.specs.World.{freshWorld}
 use Rattle.model_steps.specs.declared.Step.{Step}
-use Rattle.model_steps.specs.declared.Step.the-variants.{Setup, Request, Open, Propose, Deliver, Tell, Restore, Crash}
+use Rattle.model_steps.specs.declared.Step.the-variants.{Setup, Request, Open, Propose, Deliver, Tell, Restore, Follow, Crash}
 use Rattle.model_steps.specs.Limits.{mostAcceptors, outsideStep}
 use Rattle.text_ascii.specs.Decimal.{byteNumbers}
 use Rattle.text_step.specs.declared.Reading.{Reading}
@@ -84,6 +84,7 @@ none-is-2 p (Propose c i b) = refl
 none-is-2 p (Deliver m) = refl
 none-is-2 p (Tell c q tx) = refl
 none-is-2 p (Restore c q) = refl
+none-is-2 p (Follow c q tx) = refl
 none-is-2 p (Crash role id) = refl
 
 refused-2 : (p : Parts) (s : Step) → stepRefusal p s ≡ outsideLimits → outsideStep (acceptorsCounted (p .acceptors)) s ≡ true

@@ -26,6 +26,9 @@ returns-6 c = c .tell .ensures ∙ ap (λ (k : Kind). deliveryChange (c .before 
 returns-7 : tie.Need-returns-7
 returns-7 c = c .restore .ensures ∙ ap (λ (k : Kind). deliveryChange (c .before .before .before .before .args .p) k) (sym (c .before .enum-told7 .given .1))
 
+returns-8 : tie.Need-returns-8
+returns-8 c = c .follow .ensures ∙ ap (λ (k : Kind). deliveryChange (c .before .before .before .before .args .p) k) (sym (c .before .enum-told8 .given .1))
+
 pub hand-spec : {M : Type 1} → statement M
 hand-spec =
     tie.close
@@ -33,5 +36,5 @@ hand-spec =
     (λ c. search needs) (λ c κs. search needs) (λ c. search needs) (λ c κs. search needs)
     (λ c. search needs) (λ c κs. search needs) (λ c. search needs) (λ c κs. search needs)
     (λ c. search needs) (λ c κs. search needs) (λ c. search needs) (λ c κs. search needs)
-    (λ c. search needs) (λ c κs. search needs) returns returns-2 returns-3 returns-4 returns-5
-    returns-6 returns-7)
+    (λ c. search needs) (λ c κs. search needs) (λ c. search needs) (λ c κs. search needs) returns
+    returns-2 returns-3 returns-4 returns-5 returns-6 returns-7 returns-8)

@@ -23,11 +23,18 @@ returns-2 c =
     c .restored .ensures ∙ ap (λ (s : Step). messageFor s (a .delivered) (a .log) (a .applied)) (sym (c .before .before .s2 .given .1))
 
 returns-3 : tie.Need-returns-3
-returns-3 c = let a = c .before .args in nothing-said (a .s) (a .delivered) (a .log) (a .applied) (c .match .keys3)
+unfolding messageFor
+returns-3 c =
+    let a = c .before .before .before .before .args in
+    c .followed .ensures ∙ ap (λ (s : Step). messageFor s (a .delivered) (a .log) (a .applied)) (sym (c .before .before .s3 .given .1))
+
+returns-4 : tie.Need-returns-4
+returns-4 c = let a = c .before .args in nothing-said (a .s) (a .delivered) (a .log) (a .applied) (c .match .keys4)
 
 pub said-spec : {M : Type 1} → statement M
 said-spec =
     tie.close
     (tie.spec
     (λ c. search needs) (λ c κs. search needs) (λ c κs. search needs) (λ c. search needs)
-    (λ c κs. search needs) returns returns-2 returns-3)
+    (λ c κs. search needs) (λ c. search needs) (λ c κs. search needs) returns returns-2 returns-3
+    returns-4)

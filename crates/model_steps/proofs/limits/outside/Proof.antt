@@ -34,7 +34,11 @@ returns-7 c = c .no-restore .ensures ∙ ap (outsideStep (c .before .before .bef
 
 returns-8 : tie.Need-returns-8
 unfolding outsideStep
-returns-8 c = c .no-party .ensures ∙ ap (outsideStep (c .before .before .before .before .args .acceptors)) (sym (c .before .before .s8 .given .1))
+returns-8 c = c .no-tell2 .ensures ∙ ap (outsideStep (c .before .before .before .before .args .acceptors)) (sym (c .before .before .s8 .given .1))
+
+returns-9 : tie.Need-returns-9
+unfolding outsideStep
+returns-9 c = c .no-party .ensures ∙ ap (outsideStep (c .before .before .before .before .args .acceptors)) (sym (c .before .before .s9 .given .1))
 
 pub outside-spec : {M : Type 1} → statement M
 outside-spec =
@@ -43,5 +47,6 @@ outside-spec =
     (λ c. search needs) (λ c κs. search needs) (λ c. search needs) (λ c κs. search needs)
     (λ c. search needs) (λ c κs. search needs) (λ c. search needs) (λ c κs. search needs)
     (λ c. search needs) (λ c. search needs) (λ c κs. search needs) (λ c. search needs)
-    (λ c κs. search needs) (λ c. search needs) (λ c κs. search needs) returns returns-2 returns-3
-    returns-4 returns-5 returns-6 returns-7 returns-8)
+    (λ c κs. search needs) (λ c. search needs) (λ c κs. search needs) (λ c. search needs)
+    (λ c κs. search needs) returns returns-2 returns-3 returns-4 returns-5 returns-6 returns-7
+    returns-8 returns-9)

@@ -17,7 +17,7 @@ use Rattle.model_protocol.specs.Send.{copyOf, sendToAll}
 use Rattle.model_protocol.specs.Step.{putBack, replayIn}
 use Rattle.world_engine.specs.Commands.{answersTo, worldAfter}
 use Rattle.model_steps.specs.Commands.{commandsIn}
-use Rattle.world_engine.proofs.AdvanceLaws.{Lengths, There, commands-done, copies-next, copies-none, count-fits, delivered-is, first-copy, givenIn, gives-it, gives-none, log-fed, message-small, next-copy, none-fed, not-asked, number-left, command-taken, parts-are, places-there, put-lengths, replay-is, said-is, sent-lengths, stored-turn, takenIn, takes-it, takes-none, world-lengths, world-turn}
+use Rattle.world_engine.proofs.AdvanceLaws.{Lengths, There, commands-done, copies-next, copies-none, count-fits, delivered-is, first-copy, followedIn, follows-it, follows-none, givenIn, gives-it, gives-none, log-fed, message-small, next-copy, none-fed, not-asked, number-left, command-taken, parts-are, places-there, put-lengths, replay-is, said-is, sent-lengths, stored-turn, takenIn, takes-it, takes-none, world-lengths, world-turn}
 use Rattle.world_engine.proofs.advance.advance.Statement.{statement}
 use Rattle.world_engine.proofs.advance.advance.Tie as tie
 
@@ -76,10 +76,29 @@ Planned = tie.After-change Inv-loop2 μ-loop2 Inv-loop μ-loop
 abbrev placed : Planned → Placed
 placed c = c .before .before .before .before .before .before .before .before .before
 
--- the world after the process took the replay, after the replay was given, and after the log was
--- fed
+-- the change, from the places behind it: where the process took the replay, where it took the
+-- follow, where the replay was given, where the log was fed, and at the end of a turn
+abbrev planned2 : tie.Joined2 Inv-loop2 μ-loop2 Inv-loop μ-loop → Planned
+planned2 c = c .before .before .before .before .before
+
+abbrev planned3 : tie.Joined3 Inv-loop2 μ-loop2 Inv-loop μ-loop → Planned
+planned3 c = planned2 (c .before)
+
+abbrev planned4 : tie.Joined4 Inv-loop2 μ-loop2 Inv-loop μ-loop → Planned
+planned4 c = planned3 (c .before .before)
+
+abbrev planned5 : tie.Joined5 Inv-loop2 μ-loop2 Inv-loop μ-loop → Planned
+planned5 c = planned4 (c .before .before .before)
+
+abbrev ended : tie.Else6 Inv-loop2 μ-loop2 Inv-loop μ-loop → Planned
+ended c = planned5 (c .before .before .before)
+
+-- the world at the first four of these
 abbrev Taken : Planned → World
 Taken c = takenIn (worldOf (placed c)) (placed c .places .result) (replayOf (placed c)) (c .change .result)
+
+abbrev Followed : Planned → World
+Followed c = followedIn (worldOf (placed c)) (placed c .places .result) (replayOf (placed c)) (c .change .result)
 
 abbrev Given : Planned → World
 Given c = givenIn (worldOf (placed c)) (placed c .places .result) (replayOf (placed c)) (c .change .result)
@@ -143,17 +162,17 @@ element-copy-out-log c = here (c .before .before .before .before .before) .0
 said-requires : tie.Need-said-requires Inv-loop2 μ-loop2 Inv-loop μ-loop
 said-requires c κs = search needs
 
-mul-t34 : tie.Need-mul-t34 Inv-loop2 μ-loop2 Inv-loop μ-loop
-mul-t34 c = let h = here (c .before .before .before .before .before .before) .1 in omega (arith, h)
-
-element-copy-out-t55 : tie.Need-element-copy-out-t55 Inv-loop2 μ-loop2 Inv-loop μ-loop
-element-copy-out-t55 c = here (c .before .before .before .before .before .before) .1
-
 mul-t35 : tie.Need-mul-t35 Inv-loop2 μ-loop2 Inv-loop μ-loop
-mul-t35 c = omega arith
+mul-t35 c = let h = here (c .before .before .before .before .before .before) .1 in omega (arith, h)
 
-element-copy-out-t58 : tie.Need-element-copy-out-t58 Inv-loop2 μ-loop2 Inv-loop μ-loop
-element-copy-out-t58 c = here (c .before .before .before .before .before .before .before) .2
+element-copy-out-t56 : tie.Need-element-copy-out-t56 Inv-loop2 μ-loop2 Inv-loop μ-loop
+element-copy-out-t56 c = here (c .before .before .before .before .before .before) .1
+
+mul-t36 : tie.Need-mul-t36 Inv-loop2 μ-loop2 Inv-loop μ-loop
+mul-t36 c = omega arith
+
+element-copy-out-t59 : tie.Need-element-copy-out-t59 Inv-loop2 μ-loop2 Inv-loop μ-loop
+element-copy-out-t59 c = here (c .before .before .before .before .before .before .before) .2
 
 change-requires : tie.Need-change-requires Inv-loop2 μ-loop2 Inv-loop μ-loop
 change-requires c κs = search needs
@@ -183,27 +202,54 @@ element-copy-out-replay : tie.Need-element-copy-out-replay Inv-loop2 μ-loop2 In
 element-copy-out-replay c = from-inside (c .before .before .before .before .before .before .before .before .before .before .before .before .before .before)
 
 mul-replay-2 : tie.Need-mul-replay-2 Inv-loop2 μ-loop2 Inv-loop μ-loop
-mul-replay-2 c = omega arith
+mul-replay-2 c = let h = here (c .before .before .before .before .before .before .before .before .before .before .before .before .before .before .before) .2 in omega (arith, h)
 
 element-set-from-replay : tie.Need-element-set-from-replay Inv-loop2 μ-loop2 Inv-loop μ-loop
 element-set-from-replay c = here (c .before .before .before .before .before .before .before .before .before .before .before .before .before .before .before) .2
 
-taken-is : (c : tie.Joined2 Inv-loop2 μ-loop2 Inv-loop μ-loop) → c .if2 .w ≡ Taken (c .before .before .before .before .before)
+taken-is : (c : tie.Joined2 Inv-loop2 μ-loop2 Inv-loop μ-loop) → c .if2 .w ≡ Taken (planned2 c)
 taken-is c =
-    let b = c .before .before .before .before .before .before .before .before .before .before .before .before .before .before in
+    let b = placed (planned2 c) in
     let w = worldOf b in
     let at = b .places .result in
-    let ch = c .before .before .before .before .before .change .result in
+    let ch = planned2 c .change .result in
     ⊎-elim
     (λ t. t .2 ∙ takes-it w at (replayOf b) ch _ (t .0 .taken) (replay-is w (long b) (commandOf b .step) _ _ (b .before .before .message-at .ensures)))
     (λ t. t .1 ∙ takes-none w at (replayOf b) ch (t .0 .left))
     (c .if2 .came)
 
+mul-kept : tie.Need-mul-kept Inv-loop2 μ-loop2 Inv-loop μ-loop
+mul-kept c = let h = here (placed (planned2 (c .before))) .2 in omega (arith, h)
+
+element-copy-out-kept : tie.Need-element-copy-out-kept Inv-loop2 μ-loop2 Inv-loop μ-loop
+element-copy-out-kept c = here (placed (planned2 (c .before))) .2
+
+with-follow-requires : tie.Need-with-follow-requires Inv-loop2 μ-loop2 Inv-loop μ-loop
+with-follow-requires c κs = search needs
+
+mul-t72 : tie.Need-mul-t72 Inv-loop2 μ-loop2 Inv-loop μ-loop
+mul-t72 c = let h = here (placed (planned2 (c .before .before .before))) .2 in omega (arith, h)
+
+element-set-from-w : tie.Need-element-set-from-w Inv-loop2 μ-loop2 Inv-loop μ-loop
+element-set-from-w c = here (placed (planned2 (c .before .before .before))) .2
+
+followed-is : (c : tie.Joined3 Inv-loop2 μ-loop2 Inv-loop μ-loop) → c .if3 .w ≡ Followed (planned3 c)
+followed-is c =
+    let b = placed (planned3 c) in
+    let w = worldOf b in
+    let at = b .places .result in
+    let ch = planned3 c .change .result in
+    let before = taken-is (c .before) in
+    ⊎-elim
+    (λ t. t .3 ∙ follows-it w at (replayOf b) ch _ before _ _ (long b) (here b) (t .0 .taken) (t .2 .ensures))
+    (λ t. t .1 ∙ follows-none w at (replayOf b) ch _ before (t .0 .left))
+    (c .if3 .came)
+
 -- the message with which a replay goes has a number
-number : (c : tie.Then3 Inv-loop2 μ-loop2 Inv-loop μ-loop) → c .before .before .if2 .w .sent < messages
+number : (c : tie.Then4 Inv-loop2 μ-loop2 Inv-loop μ-loop) → c .before .before .if3 .w .sent < messages
 number c =
-    let n = number-left _ _ _ (c .before .before .before .before .before .before .before .change .ensures) (c .if3 .taken) in
-    subst (λ (v : World). v .sent < messages) (sym (taken-is (c .before .before))) n
+    let n = number-left _ _ _ (planned3 (c .before .before) .change .ensures) (c .if4 .taken) in
+    subst (λ (v : World). v .sent < messages) (sym (followed-is (c .before .before))) n
 
 cast-next : tie.Need-cast-next Inv-loop2 μ-loop2 Inv-loop μ-loop
 cast-next c = let h = number c in omega (arith, h)
@@ -212,66 +258,66 @@ mul-log-2 : tie.Need-mul-log-2 Inv-loop2 μ-loop2 Inv-loop μ-loop
 mul-log-2 c = omega arith
 
 element-copy-out-log-2 : tie.Need-element-copy-out-log-2 Inv-loop2 μ-loop2 Inv-loop μ-loop
-element-copy-out-log-2 c = here (c .before .before .before .before .before .before .before .before .before .before .before .before .before .before .before .before) .0
+element-copy-out-log-2 c = here (placed (planned3 (c .before .before))) .0
 
 replay-requires : tie.Need-replay-requires Inv-loop2 μ-loop2 Inv-loop μ-loop
 replay-requires c κs = search needs
 
-mul-t72 : tie.Need-mul-t72 Inv-loop2 μ-loop2 Inv-loop μ-loop
-mul-t72 c = let h = number (c .before .before) in omega (arith, h)
+mul-t79 : tie.Need-mul-t79 Inv-loop2 μ-loop2 Inv-loop μ-loop
+mul-t79 c = let h = number (c .before .before) in omega (arith, h)
 
-element-set-from-w : tie.Need-element-set-from-w Inv-loop2 μ-loop2 Inv-loop μ-loop
-element-set-from-w c = let h = number (c .before .before) in omega (arith, h)
+element-set-from-w-2 : tie.Need-element-set-from-w-2 Inv-loop2 μ-loop2 Inv-loop μ-loop
+element-set-from-w-2 c = let h = number (c .before .before) in omega (arith, h)
 
-given-is : (c : tie.Joined3 Inv-loop2 μ-loop2 Inv-loop μ-loop) → c .if3 .w ≡ Given (c .before .before .before .before .before .before .before)
+given-is : (c : tie.Joined4 Inv-loop2 μ-loop2 Inv-loop μ-loop) → c .if4 .w ≡ Given (planned4 c)
 given-is c =
-    let b = c .before .before .before .before .before .before .before .before .before .before .before .before .before .before .before .before in
+    let b = placed (planned4 c) in
     let w = worldOf b in
     let at = b .places .result in
-    let ch = c .before .before .before .before .before .before .before .change .result in
-    let before = taken-is (c .before .before) in
+    let ch = planned4 c .change .result in
+    let before = followed-is (c .before .before) in
     ⊎-elim
     (λ t. t .3 ∙ gives-it w at (replayOf b) ch _ before _ _ (long b) (here b) (t .0 .taken) (t .2 .ensures))
     (λ t. t .1 ∙ gives-none w at (replayOf b) ch _ before (t .0 .left))
-    (c .if3 .came)
+    (c .if4 .came)
 
 mul-log-3 : tie.Need-mul-log-3 Inv-loop2 μ-loop2 Inv-loop μ-loop
 mul-log-3 c = omega arith
 
 element-copy-out-log-3 : tie.Need-element-copy-out-log-3 Inv-loop2 μ-loop2 Inv-loop μ-loop
-element-copy-out-log-3 c = here (c .before .before .before .before .before .before .before .before .before .before .before .before .before .before .before .before .before .before .before) .0
+element-copy-out-log-3 c = here (placed (planned4 (c .before .before .before))) .0
 
 fed-requires : tie.Need-fed-requires Inv-loop2 μ-loop2 Inv-loop μ-loop
 fed-requires c κs = search needs
 
-mul-t79 : tie.Need-mul-t79 Inv-loop2 μ-loop2 Inv-loop μ-loop
-mul-t79 c = let h = here (c .before .before .before .before .before .before .before .before .before .before .before .before .before .before .before .before .before .before .before .before .before) .0 in omega (arith, h)
+mul-t86 : tie.Need-mul-t86 Inv-loop2 μ-loop2 Inv-loop μ-loop
+mul-t86 c = let h = here (placed (planned4 (c .before .before .before .before .before))) .0 in omega (arith, h)
 
-element-set-from-w-2 : tie.Need-element-set-from-w-2 Inv-loop2 μ-loop2 Inv-loop μ-loop
-element-set-from-w-2 c = here (c .before .before .before .before .before .before .before .before .before .before .before .before .before .before .before .before .before .before .before .before .before) .0
+element-set-from-w-3 : tie.Need-element-set-from-w-3 Inv-loop2 μ-loop2 Inv-loop μ-loop
+element-set-from-w-3 c = here (placed (planned4 (c .before .before .before .before .before))) .0
 
-stored-is : (c : tie.Joined4 Inv-loop2 μ-loop2 Inv-loop μ-loop) → c .if4 .w ≡ Stored (c .before .before .before .before .before .before .before .before .before .before)
+stored-is : (c : tie.Joined5 Inv-loop2 μ-loop2 Inv-loop μ-loop) → c .if5 .w ≡ Stored (planned5 c)
 stored-is c =
-    let b = c .before .before .before .before .before .before .before .before .before .before .before .before .before .before .before .before .before .before .before in
+    let b = placed (planned5 c) in
     let w = worldOf b in
     let at = b .places .result in
-    let ch = c .before .before .before .before .before .before .before .before .before .before .change .result in
+    let ch = planned5 c .change .result in
     let before = given-is (c .before .before .before) in
     ⊎-elim
     (λ t. t .3 ∙ log-fed w at (replayOf b) ch _ before _ _ (long b) (here b) (t .2 .ensures))
     (λ t. t .1 ∙ none-fed w at (replayOf b) ch _ before (t .0 .left))
-    (c .if4 .came)
+    (c .if5 .came)
 
 loop2-holds : tie.Need-loop2-holds Inv-loop2 μ-loop2 Inv-loop μ-loop
 loop2-holds c =
-    let b = c .before .before .before .before .before .before .before .before .before .before .before .before .before .before .before .before .before .before .before in
-    let ch = c .before .before .before .before .before .before .before .before .before .before .change .result in
+    let b = placed (planned5 c) in
+    let ch = planned5 c .change .result in
     let is = stored-is c in (
       omega arith,
       copies-none _ _,
       omega arith,
       first-copy (ch .message),
-      subst (λ (v : World). ch .count ≤ messages - v .sent) (sym is) (count-fits _ _ _ (c .before .before .before .before .before .before .before .before .before .before .change .ensures)),
+      subst (λ (v : World). ch .count ≤ messages - v .sent) (sym is) (count-fits _ _ _ (planned5 c .change .ensures)),
       subst Lengths (sym is) (put-lengths (worldOf b) (b .places .result) (replayOf b) ch (long b)),
     )
 
@@ -305,35 +351,35 @@ loop2-again c =
     )
 
 cast-answers : tie.Need-cast-answers Inv-loop2 μ-loop2 Inv-loop μ-loop
-cast-answers c = let k = c .before .before .before .before .before .before .before .before .before .before .before .before .before .before .before .before .before .before .before .before .before .before .before .before .before .before .loop-test .taken in omega (arith, k, c .before .before .before .before .before .before .before .before .before .before .before .before .before .before .before .before .before .before .before .before .before .before .before .before .before .before .before .before .at-most .ensures)
+cast-answers c = let k = placed (ended c) .before .before .before .before .loop-test .taken in omega (arith, k, placed (ended c) .before .before .before .before .before .before .at-most .ensures)
 
 array-write-answers : tie.Need-array-write-answers Inv-loop2 μ-loop2 Inv-loop μ-loop
-array-write-answers c = let k = c .before .before .before .before .before .before .before .before .before .before .before .before .before .before .before .before .before .before .before .before .before .before .before .before .before .before .loop-test .taken in omega (arith, k, c .before .before .before .before .before .before .before .before .before .before .before .before .before .before .before .before .before .before .before .before .before .before .before .before .before .before .before .before .at-most .ensures)
+array-write-answers c = let k = placed (ended c) .before .before .before .before .loop-test .taken in omega (arith, k, placed (ended c) .before .before .before .before .before .before .at-most .ensures)
 
 add-k : tie.Need-add-k Inv-loop2 μ-loop2 Inv-loop μ-loop
-add-k c = let k = c .before .before .before .before .before .before .before .before .before .before .before .before .before .before .before .before .before .before .before .before .before .before .before .before .before .before .loop-test .taken in omega (arith, k, c .before .before .before .before .before .before .before .before .before .before .before .before .before .before .before .before .before .before .before .before .before .before .before .before .before .before .before .before .at-most .ensures)
+add-k c = let k = placed (ended c) .before .before .before .before .loop-test .taken in omega (arith, k, placed (ended c) .before .before .before .before .before .before .at-most .ensures)
 
 loop-less : tie.Need-loop-less Inv-loop2 μ-loop2 Inv-loop μ-loop
-loop-less c = let k = c .before .before .before .before .before .before .before .before .before .before .before .before .before .before .before .before .before .before .before .before .before .before .before .before .before .before .loop-test .taken in omega (arith, k)
+loop-less c = let k = placed (ended c) .before .before .before .before .loop-test .taken in omega (arith, k)
 
 loop-again : tie.Need-loop-again Inv-loop2 μ-loop2 Inv-loop μ-loop
 loop-again c =
     let z = c .before .before .loop2 in
-    let p = c .before .before .before .before .before .before .before .before .before .before .before .before .before .before .before .before .before .before .before .before .before .before in
-    let l = c .before .before .before .before .before .before .before .before .before .before .before .before .before .before .before .before .before .before .before .before .before .before .before .before .before .before .before .loop in
-    let k = c .before .before .before .before .before .before .before .before .before .before .before .before .before .before .before .before .before .before .before .before .before .before .before .before .before .before .loop-test .taken in
-    let n = c .before .before .before .before .before .before .before .before .before .before .before .before .before .before .before .before .before .before .before .before .before .before .before .before .before .before .before .before .at-most .ensures in
-    let b = c .before .before .before .before .before .before .before .before .before .before .before .before .before .before .before .before .before .before .before .before .before .before .before .before .before .before .before .before .before .args .t2 in
-    let hl = commands-length b _ (c .before .before .before .before .before .before .before .before .before .before .before .before .before .before .before .before .before .before .before .before .before .before .before .before .before .before .before .before .before .good .1 .0) in
+    let p = placed (ended c) in
+    let l = placed (ended c) .before .before .before .before .before .loop in
+    let k = placed (ended c) .before .before .before .before .loop-test .taken in
+    let n = placed (ended c) .before .before .before .before .before .before .at-most .ensures in
+    let b = placed (ended c) .before .before .before .before .before .before .before .args .t2 in
+    let hl = commands-length b _ (placed (ended c) .before .before .before .before .before .before .before .good .1 .0) in
     let o = commandOf p in
     let at = p .places .result in
     let from = p .before .before .message-at .ensures in
-    let ch = c .before .before .before .before .before .before .before .before .before .before .before .before .before .change .result in
+    let ch = ended c .change .result in
     let message =
     ⊎-elim
     (λ t. t .3 ∙ said-is (l .w) (long p) (o .step) at _ _ _ _ (here p) (t .2 .ensures))
-    (λ t. t .1 ∙ not-asked (o .step) _ _ _ (sym (c .before .before .before .before .before .before .before .before .before .before .before .before .before .before .before .before .before .before .asks-log .ensures) ∙ t .0 .left))
-    (c .before .before .before .before .before .before .before .before .before .before .before .before .before .before .before .before .before .if1 .came) in
+    (λ t. t .1 ∙ not-asked (o .step) _ _ _ (sym (ended c .before .before .before .before .before .asks-log .ensures) ∙ t .0 .left))
+    (ended c .before .before .before .before .if1 .came) in
     let is =
     command-taken
     (l .w)
@@ -351,8 +397,8 @@ loop-again c =
     message
     (parts-are (l .w) (long p) at _ _ _ _ (here p))
     refl
-    (c .before .before .before .before .before .before .before .before .before .before .before .before .before .change .ensures)
-    (omega (arith, z .inv .0, c .if5 .left))
+    (ended c .change .ensures)
+    (omega (arith, z .inv .0, c .if6 .left))
     (z .inv .1 ∙ ap (λ (v : World). sendToAll v (z .i) (copyOf (ch .message))) (stored-is (c .before .before .before)))
     in (
       omega (arith, k),
@@ -374,10 +420,11 @@ advance-spec =
     Inv-loop2 μ-loop2 Inv-loop μ-loop at-most-requires loop-holds cast-o mul-o element-copy-out-o
     message-at-requires cast-from mul-message element-copy-out-message places-requires cast-c cast-h
     mul-coordinator element-copy-out-coordinator asks-log-requires mul-log element-copy-out-log
-    said-requires mul-t34 element-copy-out-t55 mul-t35 element-copy-out-t58 change-requires
+    said-requires mul-t35 element-copy-out-t56 mul-t36 element-copy-out-t59 change-requires
     mul-coordinator-2 element-set-from-coordinator mul-slot element-set-from-slot mul-process
     element-set-from-process mul-replay element-copy-out-replay mul-replay-2 element-set-from-replay
-    cast-next mul-log-2 element-copy-out-log-2 replay-requires mul-t72 element-set-from-w mul-log-3
-    element-copy-out-log-3 fed-requires mul-t79 element-set-from-w-2 loop2-holds cast-m mul-m
+    mul-kept element-copy-out-kept with-follow-requires mul-t72 element-set-from-w
+    cast-next mul-log-2 element-copy-out-log-2 replay-requires mul-t79 element-set-from-w-2 mul-log-3
+    element-copy-out-log-3 fed-requires mul-t86 element-set-from-w-3 loop2-holds cast-m mul-m
     element-set-from-m add-w add-i loop2-less loop2-again cast-answers array-write-answers add-k
     loop-less loop-again returns)

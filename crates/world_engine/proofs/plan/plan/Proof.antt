@@ -27,7 +27,10 @@ returns-7 : tie.Need-returns-7
 returns-7 c = c .restore .ensures ∙ ap (λ (s : Step). planOf (c .before .before .before .before .args .p) s) (sym (c .before .before .s7 .given .1))
 
 returns-8 : tie.Need-returns-8
-returns-8 c = c .crash .ensures ∙ ap (λ (s : Step). planOf (c .before .before .before .before .args .p) s) (sym (c .before .before .s8 .given .1))
+returns-8 c = c .follow .ensures ∙ ap (λ (s : Step). planOf (c .before .before .before .before .args .p) s) (sym (c .before .before .s8 .given .1))
+
+returns-9 : tie.Need-returns-9
+returns-9 c = c .crash .ensures ∙ ap (λ (s : Step). planOf (c .before .before .before .before .args .p) s) (sym (c .before .before .s9 .given .1))
 
 pub plan-spec : {M : Type 1} → statement M
 plan-spec =
@@ -36,5 +39,6 @@ plan-spec =
     (λ c. search needs) (λ c κs. search needs) (λ c. search needs) (λ c κs. search needs)
     (λ c. search needs) (λ c κs. search needs) (λ c. search needs) (λ c κs. search needs)
     (λ c. search needs) (λ c κs. search needs) (λ c. search needs) (λ c κs. search needs)
-    (λ c. search needs) (λ c κs. search needs) (λ c. search needs) (λ c κs. search needs) returns
-    returns-2 returns-3 returns-4 returns-5 returns-6 returns-7 returns-8)
+    (λ c. search needs) (λ c κs. search needs) (λ c. search needs) (λ c κs. search needs)
+    (λ c. search needs) (λ c κs. search needs) returns returns-2 returns-3 returns-4 returns-5
+    returns-6 returns-7 returns-8 returns-9)

@@ -3,7 +3,7 @@ use mathlib.Core.Path.{ap, refl, sym, _∙_}
 use Rattle.model_steps.specs.declared.Role.the-variants.{Coord}
 use Rattle.model_protocol.specs.World.{isDown}
 use Rattle.model_protocol.specs.Deliver.{receiverDown}
-use Rattle.world_messages.proofs.KindLaws.{of-either}
+use Rattle.world_messages.proofs.KindLaws.{of-any, of-either}
 use Rattle.world_messages.proofs.parties.receiver_down.Statement.{statement}
 use Rattle.world_messages.proofs.parties.receiver_down.Tie as tie
 
@@ -19,7 +19,7 @@ returns-3 c =
     c .is-down3 .ensures ∙ ap (isDown (a .d) Coord) (c .before .owner .ensures) ∙ of-either (receiverDown (a .d) (a .m)) (a .m .kind) 3 4 refl (c .before .before .match .keys3)
 
 returns-4 : tie.Need-returns-4
-returns-4 c = let a = c .before .before .args in c .is-down4 .ensures ∙ of-either (receiverDown (a .d) (a .m)) (a .m .kind) 5 6 refl (c .before .match .keys4)
+returns-4 c = let a = c .before .before .args in c .is-down4 .ensures ∙ of-any (receiverDown (a .d) (a .m)) (a .m .kind) 5 6 7 refl refl (c .before .match .keys4)
 
 pub receiver-down-spec : {M : Type 1} → statement M
 receiver-down-spec =

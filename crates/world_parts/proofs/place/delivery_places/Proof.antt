@@ -1,7 +1,7 @@
 use borrow.Author.Needs.{needs}
 use mathlib.Core.Path.{ap, refl, sym, _∙_}
 use Rattle.model_protocol.specs.Places.{deliveryPlaces, onlyCoordinator}
-use Rattle.world_messages.proofs.KindLaws.{of-either}
+use Rattle.world_messages.proofs.KindLaws.{of-any, of-either}
 use Rattle.world_parts.proofs.place.delivery_places.Statement.{statement}
 use Rattle.world_parts.proofs.place.delivery_places.Tie as tie
 
@@ -17,7 +17,7 @@ returns-3 c =
     c .only-coordinator2 .ensures ∙ ap onlyCoordinator (c .before .owner .ensures) ∙ of-either (deliveryPlaces m) (m .kind) 3 4 refl (c .before .before .match .keys3)
 
 returns-4 : tie.Need-returns-4
-returns-4 c = let m = c .before .before .args .m in c .only-process .ensures ∙ of-either (deliveryPlaces m) (m .kind) 5 6 refl (c .before .match .keys4)
+returns-4 c = let m = c .before .before .args .m in c .only-process .ensures ∙ of-any (deliveryPlaces m) (m .kind) 5 6 7 refl refl (c .before .match .keys4)
 
 pub delivery-places-spec : {M : Type 1} → statement M
 delivery-places-spec =

@@ -35,7 +35,11 @@ returns-7 c = c .only-coordinator5 .ensures ∙ ap (λ (s : Step). placesOf s (c
 
 returns-8 : tie.Need-returns-8
 unfolding placesOf
-returns-8 c = c .only-coordinator6 .ensures ∙ ap (λ (s : Step). placesOf s (c .before .before .before .args .m)) (sym (c .before .enum-told3 .given .1))
+returns-8 c = c .only-coordinator6 .ensures ∙ ap (λ (s : Step). placesOf s (c .before .before .before .before .args .m)) (sym (c .before .before .s6 .given .1))
+
+returns-9 : tie.Need-returns-9
+unfolding placesOf
+returns-9 c = c .only-coordinator7 .ensures ∙ ap (λ (s : Step). placesOf s (c .before .before .before .args .m)) (sym (c .before .enum-told3 .given .1))
 
 pub places-spec : {M : Type 1} → statement M
 places-spec =
@@ -44,5 +48,6 @@ places-spec =
     (λ c. search needs) (λ c κs. search needs) (λ c. search needs) (λ c κs. search needs)
     (λ c. search needs) (λ c κs. search needs) (λ c. search needs) (λ c κs. search needs)
     (λ c. search needs) (λ c κs. search needs) (λ c. search needs) (λ c κs. search needs)
-    (λ c. search needs) (λ c κs. search needs) (λ c. search needs) (λ c κs. search needs) returns
-    returns-2 returns-3 returns-4 returns-5 returns-6 returns-7 returns-8)
+    (λ c. search needs) (λ c κs. search needs) (λ c. search needs) (λ c κs. search needs)
+    (λ c. search needs) (λ c κs. search needs) returns returns-2 returns-3 returns-4 returns-5
+    returns-6 returns-7 returns-8 returns-9)
