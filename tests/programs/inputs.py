@@ -4,7 +4,9 @@ import world_reference
 from plain_log import joined
 from world_script import Script
 
-LINES, BYTES, PIECE = 1000, 100, 65536
+LINES, BYTES = 1000, 100
+# A piece is as long as the buffer for the output.
+PIECES = {"plain": 51880, "world": 153080}
 
 
 def plain_vote(process, store, tx, stores="ff", update=0):
@@ -29,7 +31,7 @@ def short(name):
 
 def whole(name):
     """Inputs as they come: none, lines without bytes, lines that are too long, more than a piece."""
-    good = short(name) + b"\n"
+    good, piece = short(name) + b"\n", PIECES[name]
     junk = [b"%d" % n * (n + 1) for n in range(1, 400)]
     return [
         ("no bytes", b""),
@@ -37,11 +39,11 @@ def whole(name):
         ("one LF", b"\n"),
         *(("%d LFs" % n, b"\n" * n) for n in (LINES - 1, LINES, LINES + 1, LINES + 2)),
         *(("a line of %d bytes" % n, b"x" * n + b"\n" + good) for n in range(98, 104)),
-        *(("a line of %d bytes" % n, b"x" * n + b"\n" + good) for n in (PIECE - 1, PIECE, 10**6)),
+        *(("a line of %d bytes" % n, b"x" * n + b"\n" + good) for n in (piece - 1, piece, 10**6)),
         ("junk lines of several pieces", joined(junk) + good),
         ("steps between junk lines", b"".join(row + b"\n" + good for row in junk[::8])),
-        ("an LF at the end of a piece", b"x" * (PIECE - 1) + b"\n" + good),
-        ("an LF at the start of a piece", b"x" * PIECE + b"\n" + good),
+        ("an LF at the end of a piece", b"x" * (piece - 1) + b"\n" + good),
+        ("an LF at the start of a piece", b"x" * piece + b"\n" + good),
         ("a line after line 1,001", b"\n" * LINES + good + good),
     ]
 

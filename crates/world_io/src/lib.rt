@@ -20,13 +20,12 @@ pub struct Exchange {
     pub printed: usize,
 }
 
-// Fed one more piece.
-fn read_more(fd: i32, mut reading: Reading) -> Reading
+// Fed one more piece, read into the buffer.
+fn read_more(fd: i32, buffer: &mut [u8], mut reading: Reading) -> Reading
     requires { ⌜ reading .pieces < maxPieces ⌝ }
     ensures { λ r. ⌜ More reading r ⌝ }
 {
-    let mut buffer = io::large_buffer();
-    let got = text_io::read_piece(fd, &mut buffer);
+    let got = text_io::read_piece(fd, buffer);
     let input = reading.input;
     reading.input = input.feed(&buffer[..got]);
     reading.pieces += 1;
@@ -35,7 +34,7 @@ fn read_more(fd: i32, mut reading: Reading) -> Reading
 }
 
 // Fed all pieces, up to the end of the input or to line 1,001.
-fn read_all(fd: i32) -> Reading
+fn read_all(fd: i32, buffer: &mut [u8]) -> Reading
     ensures { λ r. ⌜ WasRead r ⌝ }
 {
     let input = Input::fresh();
@@ -45,7 +44,7 @@ fn read_all(fd: i32) -> Reading
         last: 0,
     };
     while reading.pieces < MAX_PIECES {
-        reading = read_more(fd, reading);
+        reading = read_more(fd, buffer, reading);
         let input = reading.input;
         if (reading.last == 0) | input.is_over() {
             return reading;
@@ -67,11 +66,12 @@ fn print(out: &[u8], count: usize)
     }
 }
 
-// The output stands in the buffer, which is lent: nothing of its size is copied.
+// The pieces are read into the buffer one after the other, and then the output stands there. It is
+// lent: nothing of its size is copied.
 pub fn run(fd: i32, out: &mut [u8; OUTPUT_BYTES]) -> Exchange
     ensures { λ r. ⌜ Answered r (now (out .exit)) ⌝ }
 {
-    let reading = read_all(fd);
+    let reading = read_all(fd, out);
     let read = reading.input;
     let printed = world_run::output_of(read, out);
     print(out, printed);
