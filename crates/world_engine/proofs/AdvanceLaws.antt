@@ -45,10 +45,9 @@ use Rattle.model_protocol.specs.World.{coordinatorOf, emptySlot, freshCoordinat
 use Rattle.world_coordinator.proofs.FrontLaws.{front-end, front-step}
 use Rattle.world_parts.specs.Asks.{asksLog}
 use Rattle.world_engine.specs.Changed.{changeIn}
-use Rattle.world_engine.specs.declared.Advanced.{Advanced}
 use Rattle.model_steps.specs.declared.Commands.{Commands}
 use Rattle.model_steps.specs.declared.Command.{Command}
-use Rattle.world_engine.specs.Commands.{advanced, answersTo, carriedOut, worldAfter}
+use Rattle.world_engine.specs.Commands.{answersIn, answersTo, carriedOut, worldAfter}
 use Rattle.model_steps.specs.Commands.{commandsIn, mostCommands}
 use Rattle.world_engine.proofs.Room.{Sends, command-fits, command-sends}
 use Rattle.world_engine.proofs.Stepping.{command-is, stored}
@@ -400,20 +399,22 @@ number-left ch o p e h =
     omega (arith, some, count-fits ch o p e)
 
 -- at the end of the loop all commands are carried out
-pub commands-done : (w₀ w : World) (b : Commands) (answers : List ℕ) (n k : ℕ) → length (b .commands) ≡ mostCommands → n ≡ min (b .count) mostCommands → n ≤ k
-    → worldAfter w (drop k (commandsIn b)) ≡ worldAfter w₀ (commandsIn b)
-    → sets answers k (answersTo w (drop k (commandsIn b))) ≡ sets (replicate mostCommands 0) 0 (answersTo w₀ (commandsIn b))
-    → _≡_ {A = Advanced} (record { world = w; answers = answers }) (advanced w₀ b)
-unfolding advanced worldAfter answersTo
-commands-done w₀ w b answers n k hl hn hk hw ha =
-    let rest : drop k (commandsIn b) ≡ [] = front-end (b .commands) (b .count) k (omega (arith, hl, hn, hk)) in
-    let world : w ≡ worldAfter w₀ (commandsIn b) = rw rest at hw in
-    let answered : answers ≡ sets (replicate mostCommands 0) 0 (answersTo w₀ (commandsIn b)) = rw rest at ha in
-    λ i. record { world = world i; answers = answered i }
+module _ (b : Commands) (n k : ℕ) (hl : length (b .commands) ≡ mostCommands) (hn : n ≡ min (b .count) mostCommands) (hk : n ≤ k) (w₀ w : World) where
+  none-left : drop k (commandsIn b) ≡ []
+  none-left = front-end (b .commands) (b .count) k (omega (arith, hl, hn, hk))
+
+  pub commands-done : worldAfter w (drop k (commandsIn b)) ≡ worldAfter w₀ (commandsIn b) → w ≡ worldAfter w₀ (commandsIn b)
+  unfolding worldAfter
+  commands-done hw = rw none-left at hw
+
+  pub answers-stored : (answers all : List ℕ) → sets answers k (answersTo w (drop k (commandsIn b))) ≡ all → answers ≡ all
+  unfolding answersTo
+  answers-stored answers all ha = rw none-left at ha
 
 -- one command
-pub one-step : (w : World) (s : Step) (after : Advanced)
-    → after ≡ advanced w (record { count = 1; commands = replicate mostCommands (record { refused = 0; step = s }) })
-    → _≡_ {A = Stepped} (record { world = after .world; answer = getD (after .answers) 0 0 }) (stepOf w s)
-unfolding advanced worldAfter answersTo
-one-step w s after is = ap (λ (x : Advanced). answered (x .world) (getD (x .answers) 0 0)) is
+pub one-step : (w : World) (s : Step) (v : World) (answers : List ℕ)
+    → v ≡ worldAfter w (commandsIn (record { count = 1; commands = replicate mostCommands (record { refused = 0; step = s }) }))
+    → answers ≡ answersIn (replicate mostCommands 0) w (record { count = 1; commands = replicate mostCommands (record { refused = 0; step = s }) })
+    → _≡_ {A = Stepped} (record { world = v; answer = getD answers 0 0 }) (stepOf w s)
+unfolding worldAfter answersTo
+one-step w s v answers hw ha = λ i. answered (hw i) (getD (ha i) 0 0)

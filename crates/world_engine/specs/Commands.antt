@@ -3,16 +3,14 @@ use Prim.Native.Nat.{ℕ}
 use mathlib.Core.Bool.{cond}
 use mathlib.Core.List.{List, [], _∷_}
 use lib.Dec.{eqb}
-use lib.ListN.{replicate}
 use lib.Seq.{sets}
 use Rattle.log_entry.specs.Refusal.{accepted}
 use Rattle.model_protocol.specs.declared.Stepped.{Stepped}
 use Rattle.model_protocol.specs.declared.World.{World}
 use Rattle.model_protocol.specs.Step.{answered, stepOf}
-use Rattle.world_engine.specs.declared.Advanced.{Advanced}
 use Rattle.model_steps.specs.declared.Commands.{Commands}
 use Rattle.model_steps.specs.declared.Command.{Command}
-use Rattle.model_steps.specs.Commands.{commandsIn, mostCommands}
+use Rattle.model_steps.specs.Commands.{commandsIn}
 
 -- the step is taken, or what is none is answered
 abbrev pub carriedOut : World → Command → Stepped
@@ -26,5 +24,6 @@ unfoldable pub answersTo : World → List Command → List ℕ
 answersTo w [] = []
 answersTo w (o ∷ os) = carriedOut w o .answer ∷ answersTo (carriedOut w o .world) os
 
-unfoldable pub advanced : World → Commands → Advanced
-advanced w b = record { world = worldAfter w (commandsIn b); answers = sets (replicate mostCommands 0) 0 (answersTo w (commandsIn b)) }
+-- the buffer with the answers to the commands in front
+abbrev pub answersIn : List ℕ → World → Commands → List ℕ
+answersIn buffer w b = sets buffer 0 (answersTo w (commandsIn b))

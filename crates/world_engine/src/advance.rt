@@ -2,9 +2,8 @@
 ghost use mathlib.Core.Path.{_≡_};
 ghost use Rattle.model_protocol.specs.Step.{stepOf};
 ghost use Prim.Native.Nat.{min};
-ghost use Rattle.world_engine.specs.Commands.{advanced};
-ghost use Rattle.model_steps.specs.Commands.{mostCommands};
-use crate::Advanced;
+ghost use Rattle.world_engine.specs.Commands.{answersIn, worldAfter};
+ghost use Rattle.model_steps.specs.Commands.{commandsIn, mostCommands};
 use crate::plan;
 use model_protocol::Parts;
 use model_protocol::Stepped;
@@ -26,11 +25,11 @@ fn at_most(count: u16) -> u16
     COMMANDS
 }
 
-// The commands, one after the other.
-pub fn advance(mut w: World, commands: Commands) -> Advanced
-    ensures { λ r. ⌜ r ≡ advanced w commands ⌝ }
+// The world after the commands, one after the other. The answers to them are stored in the buffer.
+pub fn advance(mut w: World, commands: Commands, answers: &mut [u8; COMMAND_PLACES]) -> World
+    ensures { λ r. ⌜ r ≡ worldAfter w (commandsIn commands) ⌝ }
+    ensures { λ r. ⌜ now (answers .exit) ≡ answersIn (now (answers .entry)) w commands ⌝ }
 {
-    let mut answers = [0u8; COMMAND_PLACES];
     let count = at_most(commands.count);
     let mut k: u16 = 0;
     while k < count {
@@ -96,10 +95,7 @@ pub fn advance(mut w: World, commands: Commands) -> Advanced
         answers[k as usize] = change.answer;
         k += 1;
     }
-    Advanced {
-        world: w,
-        answers: answers,
-    }
+    w
 }
 
 // One step. The program takes all at once; this is for a host that takes them one by one.
@@ -114,9 +110,8 @@ pub fn step(w: World, s: Step) -> Stepped
         count: 1,
         commands: [o; COMMAND_PLACES],
     };
-    let after = advance(w, commands);
-    let answers = after.answers;
-    let world = after.world;
+    let mut answers = [0; COMMAND_PLACES];
+    let world = advance(w, commands, &mut answers);
     Stepped {
         world: world,
         answer: answers[0],

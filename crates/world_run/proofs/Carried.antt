@@ -2,7 +2,7 @@
 use Prim.Native.Nat.{ℕ, suc, _≤_, _+_, min}
 use native.Mathlib.Omega.{arith}
 use mathlib.Core.List.{List, [], _∷_}
-use mathlib.Core.Path.{_≡_, refl, sym, _∙_, ap, subst}
+use mathlib.Core.Path.{_≡_, refl, sym, _∙_, ap}
 use lib.ListN.{drop, length, length-take, replicate, take}
 use lib.Seq.{take-append-seam, sets, sets-eq}
 use Rattle.model_steps.specs.declared.Command.{Command}
@@ -10,8 +10,7 @@ use Rattle.model_steps.specs.declared.Commands.{Commands}
 use Rattle.model_steps.specs.Commands.{commandsIn, mostCommands}
 use Rattle.model_protocol.specs.declared.World.{World}
 use Rattle.model_protocol.specs.World.{freshWorld}
-use Rattle.world_engine.specs.declared.Advanced.{Advanced}
-use Rattle.world_engine.specs.Commands.{advanced, answersTo, carriedOut}
+use Rattle.world_engine.specs.Commands.{answersIn, answersTo, carriedOut, worldAfter}
 use Rattle.world_run.specs.Ran.{Ran}
 
 -- how many commands there are
@@ -29,11 +28,13 @@ told : (vs : List ℕ) (n : ℕ) → n ≡ length vs → length vs ≤ mostComma
 told vs n e h =
     (λ i. take (e i) (sets-eq vs (replicate mostCommands 0) 0 (omega arith) i)) ∙ take-append-seam vs (drop (0 + length vs) (replicate mostCommands 0))
 
-pub carried-ran : (c : Commands) (n : ℕ) (w : World) (after : Advanced) → length (c .commands) ≡ mostCommands → n ≡ min (c .count) mostCommands
-    → w ≡ freshWorld → after ≡ advanced w c → Ran (commandsIn c) (record { world = after .world; answers = record { count = n; answers = after .answers } })
-unfolding advanced
-carried-ran c n w after hl hn hw e =
+pub carried-ran : (c : Commands) (n : ℕ) (w v : World) (answers : List ℕ) → length (c .commands) ≡ mostCommands → n ≡ min (c .count) mostCommands
+    → w ≡ freshWorld → v ≡ worldAfter w (commandsIn c) → answers ≡ answersIn (replicate mostCommands 0) w c
+    → Ran (commandsIn c) (record { world = v; answers = record { count = n; answers = answers } })
+carried-ran c n w v answers hl hn hw hv ha =
     let vs = answersTo freshWorld (commandsIn c) in
     let counted : n ≡ length vs = hn ∙ sym (commands-count c hl) ∙ sym (answers-count freshWorld (commandsIn c)) in
-    subst (λ (x : Advanced). Ran (commandsIn c) (record { world = x .world; answers = record { count = n; answers = x .answers } }))
-    (sym (e ∙ ap (λ (v : World). advanced v c) hw)) (record { world = refl; answers = told vs n counted (omega (arith, counted, hn)) })
+    record {
+      world = hv ∙ ap (λ (x : World). worldAfter x (commandsIn c)) hw;
+      answers = ap (take n) (ha ∙ ap (λ (x : World). answersIn (replicate mostCommands 0) x c) hw) ∙ told vs n counted (omega (arith, counted, hn));
+    }

@@ -6,6 +6,7 @@ ghost use Rattle.model_steps.specs.Commands.{commandsIn};
 ghost use Rattle.world_run.specs.Ran.{AgreedOnFed, PrintsFed, Ran};
 use model_protocol::World;
 use model_steps::Commands;
+use model_steps::limits::COMMAND_PLACES;
 use text_lines::ANSWERED_LINES;
 use text_lines::Answers;
 use text_report::LINE_BYTES;
@@ -34,9 +35,8 @@ pub fn run(commands: Commands) -> Session
     ensures { λ r. ⌜ Ran (commandsIn commands) r ⌝ }
 {
     let count = at_most(commands.count);
-    let after = advance(fresh_world(), commands);
-    let world = after.world;
-    let numbers = after.answers;
+    let mut numbers = [0; COMMAND_PLACES];
+    let world = advance(fresh_world(), commands, &mut numbers);
     let answers = Answers {
         count: count,
         answers: numbers,

@@ -17,12 +17,12 @@ use Rattle.model_protocol.specs.Send.{copyOf, sendToAll}
 use Rattle.model_protocol.specs.Step.{putBack, replayIn}
 use Rattle.world_engine.specs.Commands.{answersTo, worldAfter}
 use Rattle.model_steps.specs.Commands.{commandsIn}
-use Rattle.world_engine.proofs.AdvanceLaws.{Lengths, There, commands-done, copies-next, copies-none, count-fits, delivered-is, first-copy, followedIn, follows-it, follows-none, givenIn, gives-it, gives-none, log-fed, message-small, next-copy, none-fed, not-asked, number-left, command-taken, parts-are, places-there, put-lengths, replay-is, said-is, sent-lengths, stored-turn, takenIn, takes-it, takes-none, world-lengths, world-turn}
+use Rattle.world_engine.proofs.AdvanceLaws.{Lengths, There, answers-stored, commands-done, copies-next, copies-none, count-fits, delivered-is, first-copy, followedIn, follows-it, follows-none, givenIn, gives-it, gives-none, log-fed, message-small, next-copy, none-fed, not-asked, number-left, command-taken, parts-are, places-there, put-lengths, replay-is, said-is, sent-lengths, stored-turn, takenIn, takes-it, takes-none, world-lengths, world-turn}
 use Rattle.world_engine.proofs.advance.advance.Statement.{statement}
 use Rattle.world_engine.proofs.advance.advance.Tie as tie
 
 abbrev Inv-loop2 : tie.InvT-loop2
-Inv-loop2 w₀ commands answers count k from c x h change m₀ i₀ w m i =
+Inv-loop2 answers w₀ commands count k from c x h change m₀ i₀ w m i =
     (i ≤ change .count)
     × (w ≡ sendToAll w₀ i (copyOf m₀))
     × (w .sent ≡ w₀ .sent + i)
@@ -31,10 +31,10 @@ Inv-loop2 w₀ commands answers count k from c x h change m₀ i₀ w m i =
     × Lengths w
 
 abbrev μ-loop2 : tie.MeasureT-loop2
-μ-loop2 w₀ commands answers count k from c x h change m₀ i₀ w m i = change .count - i
+μ-loop2 answers w₀ commands count k from c x h change m₀ i₀ w m i = change .count - i
 
 abbrev Inv-loop : tie.InvT-loop
-Inv-loop w₀ commands answers₀ count k₀ w answers k =
+Inv-loop answers₀ w₀ commands count k₀ answers w k =
     let os = commandsIn commands in
     (k ≤ count)
     × (worldAfter w (drop k os) ≡ worldAfter w₀ os)
@@ -42,7 +42,7 @@ Inv-loop w₀ commands answers₀ count k₀ w answers k =
     × Lengths w
 
 abbrev μ-loop : tie.MeasureT-loop
-μ-loop w₀ commands answers₀ count k₀ w answers k = count - k
+μ-loop answers₀ w₀ commands count k₀ answers w k = count - k
 
 -- ---- what is known once the places are, and once the change is
 
@@ -353,8 +353,8 @@ loop2-again c =
 cast-answers : tie.Need-cast-answers Inv-loop2 μ-loop2 Inv-loop μ-loop
 cast-answers c = let k = placed (ended c) .before .before .before .before .loop-test .taken in omega (arith, k, placed (ended c) .before .before .before .before .before .before .at-most .ensures)
 
-array-write-answers : tie.Need-array-write-answers Inv-loop2 μ-loop2 Inv-loop μ-loop
-array-write-answers c = let k = placed (ended c) .before .before .before .before .loop-test .taken in omega (arith, k, placed (ended c) .before .before .before .before .before .before .at-most .ensures)
+element-write-answers : tie.Need-element-write-answers Inv-loop2 μ-loop2 Inv-loop μ-loop
+element-write-answers c = let k = placed (ended c) .before .before .before .before .loop-test .taken in omega (arith, k, placed (ended c) .before .before .before .before .before .before .at-most .ensures)
 
 add-k : tie.Need-add-k Inv-loop2 μ-loop2 Inv-loop μ-loop
 add-k c = let k = placed (ended c) .before .before .before .before .loop-test .taken in omega (arith, k, placed (ended c) .before .before .before .before .before .before .at-most .ensures)
@@ -410,8 +410,13 @@ loop-again c =
 returns : tie.Need-returns Inv-loop2 μ-loop2 Inv-loop μ-loop
 returns c =
     let l = c .before .loop in
-    let b = c .before .before .before .args .t2 in
-    commands-done (c .before .before .before .args .t1) (l .w) b (l .answers) _ (l .k) (commands-length b _ (c .before .before .before .good .1 .0)) (c .before .before .at-most .ensures) (c .loop-test .left) (l .inv .1) (l .inv .2)
+    let a = c .before .before .before in
+    let b = a .args .t2 in
+    let hl = commands-length b _ (a .good .1 .0) in
+    let hn = c .before .before .at-most .ensures in (
+      commands-done b _ (l .k) hl hn (c .loop-test .left) (a .args .t1) (l .w) (l .inv .1),
+      answers-stored b _ (l .k) hl hn (c .loop-test .left) (a .args .t1) (l .w) (l .answers) _ (l .inv .2),
+    )
 
 pub advance-spec : {M : Type 1} → statement M
 advance-spec =
@@ -426,5 +431,5 @@ advance-spec =
     mul-kept element-copy-out-kept with-follow-requires mul-t72 element-set-from-w
     cast-next mul-log-2 element-copy-out-log-2 replay-requires mul-t79 element-set-from-w-2 mul-log-3
     element-copy-out-log-3 fed-requires mul-t86 element-set-from-w-3 loop2-holds cast-m mul-m
-    element-set-from-m add-w add-i loop2-less loop2-again cast-answers array-write-answers add-k
+    element-set-from-m add-w add-i loop2-less loop2-again cast-answers element-write-answers add-k
     loop-less loop-again returns)
