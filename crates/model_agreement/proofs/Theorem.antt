@@ -1,5 +1,5 @@
 -- Demand 3, from the invariants.
-use Prim.Native.Nat.{ℕ, _≤_, _<_}
+use Prim.Native.Nat.{ℕ, _≤_, _<_, min}
 use mathlib.Core.Path.{_≡_, refl, sym, ap, subst, _∙_}
 use mathlib.Core.Logic.{_⊎_, inl, inr, _≢_}
 use mathlib.Core.Bool.{Bool, true, false, _&&_, not, cond}
@@ -8,7 +8,7 @@ use native.Mathlib.Nat.{le-antisymm}
 use native.Mathlib.Omega.{arith}
 use lib.Count.{onesIn}
 use lib.Dec.{T, eqb, eqb→eq}
-use lib.ListN.{drop, length, take}
+use lib.ListN.{drop, length, length-take, take}
 use lib.Seq.{ext-getD, take-length, take-take}
 use Rattle.log_entry.specs.declared.Entry.{Entry}
 use Rattle.log_core.specs.declared.Replay.{Replay}
@@ -289,10 +289,13 @@ module _ {w : World} {h : List Event} (G : Good w h) where
       no-invention tx update t = rw is (invented-none es rest p r (sent .rows) (sent .running) (sent .holder) its-follows tx update t)
 
     list-is : {p store position running : ℕ} {y : Replay} → Got (restore p store position y running) h
-        → running ≡ awaitedOf (plainLog (take position s)) store
+        → (position ≤ length s) × (running ≡ awaitedOf (plainLog (take position s)) store)
     list-is {p} {store} g =
         let f = given-of (G .rest .sent (G .got .was g .at)) in
-        f .running ∙ ap (λ l. awaitedOf (plainLog l) store) (sym (begins-with (f .batches) (f .front)) ∙ ap (λ x. take x s) (f .size))
+        let longer : length sequence ≡ min (length sequence) (length s) = ap length b ∙ length-take (length sequence) s in (
+          omega (arith, longer, front (f .batches) (f .front) .0, f .size),
+          f .running ∙ ap (λ l. awaitedOf (plainLog l) store) (sym (begins-with (f .batches) (f .front)) ∙ ap (λ x. take x s) (f .size)),
+        )
 
     pub holds-over : TakenOver h s
     holds-over = record {

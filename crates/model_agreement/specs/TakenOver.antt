@@ -1,11 +1,11 @@
 -- Document 02: "The last restore plus the follows taken since then hold every update committed by the
 -- old holder's votes, once a follow of each listed transaction was taken."
-use Prim.Native.Nat.{ℕ, _<_}
+use Prim.Native.Nat.{ℕ, _≤_, _<_}
 use mathlib.Core.Path.{_≡_}
 use mathlib.Core.Bool.{true}
 use mathlib.Core.List.{List, List·Memᴰ}
 use mathlib.Core.Logic.{_⊎_, _≢_}
-use lib.ListN.{take}
+use lib.ListN.{length, take}
 use Rattle.log_entry.specs.Bits.{has}
 use Rattle.log_core.specs.declared.Log.{Log}
 use Rattle.log_core.specs.declared.Replay.{Replay}
@@ -53,9 +53,9 @@ pub record EarlierCommit (p : ℕ) (r : Restored) (s : List Batch) (tx : ℕ) : 
 -- after the history h, by the plain log fed s
 pub record TakenOver (h : List Event) (s : List Batch) : Type 0 where
   -- a delivered restore lists exactly "the running transactions in which the store has a kept commit
-  -- vote", by the plain log fed as many batches as its position says
+  -- vote", by the plain log fed as many batches as its position says; there are as many
   pub listed : {p store position running : ℕ} {r : Replay} → Got (restore p store position r running) h
-      → running ≡ awaitedOf (plainLog (take position s)) store
+      → (position ≤ length s) × (running ≡ awaitedOf (plainLog (take position s)) store)
   -- what a delivered follow says
   pub followed : {p store tx update : ℕ} {o : Outcome} → Got (follow p store tx o update) h → FollowedWell (plainLog s) store tx o update
   -- nothing is lost
