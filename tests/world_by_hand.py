@@ -809,12 +809,8 @@ deliver msg=4 -> 0
 ---
 """ + NOTHING
 
-# Process 3 takes store 0 over while 4 and 5 run with its commit votes: the restore lists both. A
-# follow is refused while they run, to who holds nothing, and where the store that the process holds
-# has no kept commit vote: none at all, an abort, or only another store's. Coordinator 1 has learned
-# nothing. A follow of 6, which no restore lists, is sent and not taken. The update of 5, aborted,
-# is 0.
-FOLLOW = """
+# Processes 1 and 2 hold stores 0 and 1 and are restored: instance 0, messages 0 to 13.
+TWO_HOLDERS = """
 setup acceptors=3 -> 0
 take proc=1 store=0 to=0 -> 0 # 0
 take proc=2 store=1 to=0 -> 0 # 1
@@ -825,6 +821,14 @@ restore coord=0 proc=1 -> 0 # 12
 restore coord=0 proc=2 -> 0 # 13
 deliver msg=12 -> 0
 deliver msg=13 -> 0
+"""
+
+# Process 3 takes store 0 over while 4 and 5 run with its commit votes: the restore lists both. A
+# follow is refused while they run, to who holds nothing, and where the store that the process holds
+# has no kept commit vote: none at all, an abort, or only another store's. Coordinator 1 has learned
+# nothing. A follow of 6, which no restore lists, is sent and not taken. The update of 5, aborted,
+# is 0.
+FOLLOW = TWO_HOLDERS + """
 vote proc=1 by=0 store=0 tx=4 list=03 say=commit upd=0000000a to=0 -> 0 # 14
 vote proc=1 by=0 store=0 tx=5 list=03 say=commit upd=0000000b to=0 -> 0 # 15
 take proc=3 store=0 to=0 -> 0 # 16
@@ -938,17 +942,7 @@ proc=1 store=0 position=1
 # A follow that comes before the restore does nothing; delivered again after it, it is taken, and a
 # third time it does nothing. The restore of position 3 has the update in its rows: it empties the
 # follows and lists 2 alone, so the follow of 1 does nothing from then on.
-FOLLOW_BEFORE_RESTORE = """
-setup acceptors=3 -> 0
-take proc=1 store=0 to=0 -> 0 # 0
-take proc=2 store=1 to=0 -> 0 # 1
-deliver msg=0 -> 0
-deliver msg=1 -> 0
-""" + learn(0, 0, 3, 2) + """
-restore coord=0 proc=1 -> 0 # 12
-restore coord=0 proc=2 -> 0 # 13
-deliver msg=12 -> 0
-deliver msg=13 -> 0
+FOLLOW_BEFORE_RESTORE = TWO_HOLDERS + """
 vote proc=1 by=0 store=0 tx=1 list=03 say=commit upd=0000000a to=0 -> 0 # 14
 vote proc=1 by=0 store=0 tx=2 list=03 say=commit upd=0000000b to=0 -> 0 # 15
 take proc=3 store=0 to=0 -> 0 # 16
@@ -998,17 +992,7 @@ follow=2 outcome=abort upd=00000000
 # Restores of positions 2 and 3 both list 1, which store 2's vote commits afterwards. Processes 3
 # and 4 take the first restore and their follow. The second restore empties both. Process 3 then
 # takes its follow once more, process 4 gets none.
-FOLLOW_NEWER_RESTORE = """
-setup acceptors=3 -> 0
-take proc=1 store=0 to=0 -> 0 # 0
-take proc=2 store=1 to=0 -> 0 # 1
-deliver msg=0 -> 0
-deliver msg=1 -> 0
-""" + learn(0, 0, 3, 2) + """
-restore coord=0 proc=1 -> 0 # 12
-restore coord=0 proc=2 -> 0 # 13
-deliver msg=12 -> 0
-deliver msg=13 -> 0
+FOLLOW_NEWER_RESTORE = TWO_HOLDERS + """
 vote proc=1 by=0 store=0 tx=1 list=07 say=commit upd=0000000a to=0 -> 0 # 14
 vote proc=2 by=1 store=1 tx=1 list=07 say=commit upd=0000000b to=0 -> 0 # 15
 take proc=3 store=0 to=0 -> 0 # 16
@@ -1063,17 +1047,7 @@ proc=5 store=2 position=3
 # Process 3 holds store 1, loses it and holds store 0, while 1 runs with commit votes of both. Its
 # follow is of store 0. After the restore of store 1, which lists 1 too, it does nothing; after that
 # of store 0 it is taken, with store 0's update.
-FOLLOW_OTHER_STORE = """
-setup acceptors=3 -> 0
-take proc=1 store=0 to=0 -> 0 # 0
-take proc=2 store=1 to=0 -> 0 # 1
-deliver msg=0 -> 0
-deliver msg=1 -> 0
-""" + learn(0, 0, 3, 2) + """
-restore coord=0 proc=1 -> 0 # 12
-restore coord=0 proc=2 -> 0 # 13
-deliver msg=12 -> 0
-deliver msg=13 -> 0
+FOLLOW_OTHER_STORE = TWO_HOLDERS + """
 vote proc=1 by=0 store=0 tx=1 list=07 say=commit upd=0000000a to=0 -> 0 # 14
 vote proc=2 by=1 store=1 tx=1 list=07 say=commit upd=0000000b to=0 -> 0 # 15
 take proc=3 store=1 to=0 -> 0 # 16
@@ -1124,17 +1098,7 @@ proc=5 store=2 position=3
 # Process 3 takes store 0 over while 1 and 2 run, and loses it to process 4 before 2 is decided. Its
 # follow of 1 was sent before, and is taken all the same. One of 2 is not sent to it: its list stays
 # incomplete. Coordinator 1 learns three instances: in its log 3 is still the holder and 2 runs.
-FOLLOW_REPLACED = """
-setup acceptors=3 -> 0
-take proc=1 store=0 to=0 -> 0 # 0
-take proc=2 store=1 to=0 -> 0 # 1
-deliver msg=0 -> 0
-deliver msg=1 -> 0
-""" + learn(0, 0, 3, 2) + """
-restore coord=0 proc=1 -> 0 # 12
-restore coord=0 proc=2 -> 0 # 13
-deliver msg=12 -> 0
-deliver msg=13 -> 0
+FOLLOW_REPLACED = TWO_HOLDERS + """
 vote proc=1 by=0 store=0 tx=1 list=03 say=commit upd=0000000a to=0 -> 0 # 14
 vote proc=1 by=0 store=0 tx=2 list=03 say=commit upd=0000000b to=0 -> 0 # 15
 take proc=3 store=0 to=0 -> 0 # 16

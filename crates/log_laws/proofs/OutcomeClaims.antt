@@ -25,7 +25,7 @@ abort-iff l tx = (
       aborted-by (rowOf l tx .votes) (a .0) (both (v .kept) (not (v .commit)) (a .1 .0) (ap not (a .1 .1))),
 )
 
-is-open : (o : Outcome) → isOpen o ≡ true → o ≡ Open
+pub is-open : (o : Outcome) → isOpen o ≡ true → o ≡ Open
 is-open Open h = refl
 is-open Commit h = absurd (false≢true h)
 is-open Abort h = absurd (false≢true h)

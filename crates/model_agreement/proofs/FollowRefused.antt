@@ -3,10 +3,10 @@ use Prim.Native.Nat.{ℕ, zero, suc, _+_, _-_, _%_, _≤_, _<_}
 use mathlib.Core.Path.{_≡_, refl, sym, ap, subst, _∙_}
 use mathlib.Core.Bool.{Bool, true, false, _||_, cond}
 use mathlib.Core.List.{List, [], _∷_}
-use mathlib.Core.Logic.{_↔_, _≢_, ⊎-elim}
+use mathlib.Core.Logic.{⊎-elim}
 use native.Mathlib.Nat.{mod-eq-of-lt}
 use native.Mathlib.Omega.{arith}
-use borrow.Author.Tests.{eq-eqb, eqb-false, eqb-true, le-ltb, leb-false, lt-leb, ne-eqb}
+use borrow.Author.Tests.{eq-eqb, eqb-false, le-ltb, leb-false, lt-leb, ne-eqb}
 use lib.Dec.{eqb, leb, ltb}
 use lib.ListN.{List·getD-eq-default, getD, length, take}
 use Rattle.log_entry.specs.declared.Entry.{Entry}
@@ -15,13 +15,11 @@ use Rattle.log_entry.specs.Limits.{processes, stores, transactions}
 use Rattle.log_entry.specs.Refusal.{accepted, check, firstRefusal, noPlace, notMet, outsideLimits, partyDown}
 use Rattle.log_entry.proofs.Tests.{and-left, and-right, below-or-not, both, is-false, neither, neither-left, neither-right, opposed}
 use Rattle.log_core.specs.declared.Log.{Log}
-use Rattle.log_votes.specs.declared.Outcome.{Outcome}
-use Rattle.log_votes.specs.declared.Outcome.the-variants.{Abort, Commit, Open}
-use Rattle.log_votes.specs.declared.Vote.{Vote}
 use Rattle.log_votes.specs.Outcome.{isCommit, isKept, isOpen, running}
 use Rattle.log_votes.specs.Scan.{anyFrom}
-use Rattle.log_core.specs.Log.{holderOf, outcomeOf, rowOf, voteAt}
+use Rattle.log_core.specs.Log.{outcomeOf, rowOf, voteAt}
 use Rattle.log_laws.specs.Reached.{reached}
+use Rattle.log_laws.proofs.OutcomeClaims.{is-open}
 use Rattle.log_laws.proofs.Replicated.{holders-length}
 use Rattle.log_laws.proofs.Theorems.{holds-at-most-one-store, running-exactly}
 use Rattle.model_steps.specs.declared.Step.{Step}
@@ -29,10 +27,10 @@ use Rattle.model_steps.specs.declared.Step.the-variants.{Follow}
 use Rattle.model_steps.specs.Limits.{coordinators, messages, noCoordinator, outsideStep}
 use Rattle.model_protocol.specs.declared.World.{World}
 use Rattle.model_protocol.specs.Places.{placesOf}
-use Rattle.model_protocol.specs.Send.{lacksNumbers}
-use Rattle.model_protocol.specs.Step.{acceptorsCounted, heldFrom, heldStore, messageFor, partsOf, run, stepChecks, stepOf, stepRefusal, votingStore}
+use Rattle.model_protocol.specs.Step.{heldFrom, heldStore, messageFor, partsOf, run, stepChecks, stepOf, stepRefusal, votingStore}
 use Rattle.model_protocol.specs.World.{coordinatorOf, freshWorld, logOf}
-use Rattle.model_agreement.specs.FollowRefused.{FollowAnswers, FollowRefusedExactly, Followable, OtherwiseFine}
+use Rattle.model_protocol.proofs.Unchanged.{answer-is-refusal}
+use Rattle.model_agreement.specs.FollowRefused.{FollowRefusedExactly, Followable, OtherwiseFine}
 use Rattle.model_agreement.specs.Plain.{allEntries, plainLog}
 use Rattle.model_agreement.proofs.Plain.{held-holder}
 use Rattle.model_agreement.proofs.Theorem.{demand-3}
@@ -49,11 +47,6 @@ held-first p s (h ∷ hs) (suc j) l e = go (eqb h p) (held-first p (suc s) hs j 
     go : (b : Bool) → heldFrom p (suc s) hs ≤ suc s + j → cond b s (heldFrom p (suc s) hs) ≤ s + suc j
     go true r = omega arith
     go false r = omega arith
-
-is-open : (o : Outcome) → isOpen o ≡ true → o ≡ Open
-is-open Open h = refl
-is-open Commit h = absurd (opposed h refl)
-is-open Abort h = absurd (opposed h refl)
 
 module _ (es : List Entry) (p tx : ℕ) (from : 1 ≤ p) where
   abbrev l : Log
@@ -106,14 +99,6 @@ module _ (es : List Entry) (p tx : ℕ) (from : 1 ≤ p) where
       found = rw voted (lt-leb stores (heldStore l p) (omega (arith, same, in-row, holders-length es)))
 
 -- ---- the answer
-
-answer-is : (w : World) (s : Step) → stepOf w s .answer ≡ stepRefusal (partsOf w s) s
-unfolding stepOf
-answer-is w s = go (eqb (stepRefusal (partsOf w s) s) accepted) refl
-  where
-    go : (b : Bool) → eqb (stepRefusal (partsOf w s) s) accepted ≡ b → stepOf w s .answer ≡ stepRefusal (partsOf w s) s
-    go true e = rw e (sym (eqb-true (stepRefusal (partsOf w s) s) accepted e))
-    go false e = rw e
 
 -- the refusals of a follow by their tests
 refused-by : (outside down down′ unset runs far lacks : Bool) → outside ≡ false → down ≡ false → down′ ≡ false → unset ≡ false → lacks ≡ false
@@ -193,7 +178,7 @@ follow-refused-exactly steps c p tx o =
     cannot f = same ∙ not-barred es p tx (process-from w c p tx o) (subst (λ (l : Log). Followable l p tx) is f)
 
     answer : stepOf w (Follow c p tx) .answer ≡ cond barred′ notMet accepted
-    answer = answer-is w (Follow c p tx) ∙ refusal-is w c p tx o
+    answer = answer-is-refusal w (Follow c p tx) ∙ refusal-is w c p tx o
 
     five : (b : Bool) → barred′ ≡ b → (Followable (logOf w c) p tx → ⊥) → cond b notMet accepted ≡ notMet
     five true e n = refl

@@ -34,7 +34,7 @@ use Rattle.model_agreement.specs.Plain.{allEntries, plainLog}
 use Rattle.model_agreement.specs.TakenOver.{AllFollowed, EarlierCommit, Holds}
 use Rattle.model_agreement.proofs.FollowsKept.{followed-is}
 use Rattle.model_agreement.proofs.Plain.{plain-reached}
-use Rattle.model_agreement.proofs.Theorem.{demand-3}
+use Rattle.model_agreement.proofs.Theorem.{demand-3, not-open}
 
 -- process 2 took store 0 over while transaction 4 ran, with a commit vote of process 1; it is
 -- committed since, and process 2 took its restore
@@ -160,14 +160,11 @@ vote-stays =
 outcome-stays : outcomeOf (plainLog sequence) 4 ≡ outcome.Commit
 outcome-stays =
     ap (λ (l : Log). outcomeOf l 4) (plain-reached 4 sequence)
-    ∙ outcome-never-changes (allEntries (take 4 sequence)) (allEntries (drop 4 sequence)) 4 (λ e. not-open (sym committed ∙ e))
+    ∙ outcome-never-changes (allEntries (take 4 sequence)) (allEntries (drop 4 sequence)) 4 (λ e. not-open outcome.Commit tt (sym committed ∙ e))
     ∙ committed
   where
     committed : outcomeOf (reached (allEntries (take 4 sequence))) 4 ≡ outcome.Commit
     committed = ap (λ (l : Log). outcomeOf l 4) (sym last) ∙ old-vote .2
-
-    not-open : outcome.Commit ≡ outcome.Open → ⊥
-    not-open e = let z : _≡_ {A = ℕ} 0 1 = cc in omega arith
 
 took : Took (allEntries (take 3 sequence)) 1 0
 unfolding plainLog

@@ -1,7 +1,7 @@
 -- What a process keeps of the follows that it took: those of the list, and no others.
 use Prim.Native.Nat.{ℕ, _<_}
 use mathlib.Core.Path.{_≡_, refl, sym, ap, subst, _∙_}
-use mathlib.Core.Bool.{Bool, true, false, _||_}
+use mathlib.Core.Bool.{Bool, true, false}
 use mathlib.Core.List.{List, [], _∷_, List·Memᴰ, List·Memᴰ·cases-cons, List·Memᴰ·head, List·Memᴰ·not-nil, List·Memᴰ·tail}
 use mathlib.Core.Logic.{_↔_, _⊎_, inl, inr, _≢_, ⊎-elim}
 use native.Mathlib.Decide.{ℕ-discrete}
@@ -10,22 +10,19 @@ use lib.Dec.{eqb}
 use lib.ListN.{getD, length, set}
 use lib.Seq.{getD-set-other, getD-set-same}
 use Rattle.log_entry.specs.Bits.{has, with}
-use Rattle.log_entry.proofs.Tests.{either, opposed, or-cases, or-left, or-right}
+use Rattle.log_entry.proofs.Tests.{opposed, or-cases, or-left, or-right}
 use Rattle.log_laws.proofs.Sets.{empty-has, in-with, with-has, with-keeps}
 use Rattle.model_protocol.specs.declared.Followed.{Followed}
 use Rattle.model_protocol.specs.declared.Follows.{Follows}
 use Rattle.model_protocol.specs.declared.Process.{Process}
 use Rattle.model_protocol.specs.Process.{following, taking}
 use Rattle.model_protocol.specs.World.{noFollowed}
+use Rattle.model_agreement.specs.Claim.{KeepsFollow}
 use Rattle.model_agreement.specs.History.{Follow, isFollowed}
 
--- the process x with the follows fs keeps f
-abbrev pub Has : Process → Follows → Follow → Type 0
-Has x fs f = (has (x .followed) (f .tx) ≡ true) × (getD (fs .of) (f .tx) noFollowed ≡ record { outcome = f .outcome; update = f .update })
-
--- it keeps those of the list, and no others
+-- the process x with the follows fs keeps those of the list, and no others
 abbrev pub KeepsAll : Process → Follows → List Follow → Type 0
-KeepsAll x fs l = (f : Follow) → Has x fs f ↔ List·Memᴰ f l
+KeepsAll x fs l = (f : Follow) → KeepsFollow x fs f ↔ List·Memᴰ f l
 
 -- ---- the list
 
@@ -82,7 +79,7 @@ keeps-one x fs l f room free k g = (λ h. mine h (ℕ-discrete (g .tx) (f .tx)),
     there : g .tx ≢ f .tx → getD (set (fs .of) (f .tx) value) (g .tx) noFollowed ≡ getD (fs .of) (g .tx) noFollowed
     there d = getD-set-other (fs .of) (f .tx) (g .tx) value noFollowed d
 
-    mine : Has (following x (f .tx)) (record { of = set (fs .of) (f .tx) value }) g → Dec (g .tx ≡ f .tx) → List·Memᴰ g (f ∷ l)
+    mine : KeepsFollow (following x (f .tx)) (record { of = set (fs .of) (f .tx) value }) g → Dec (g .tx ≡ f .tx) → List·Memᴰ g (f ∷ l)
     mine h (yes e) = List·Memᴰ·head same
       where
         values : record { outcome = g .outcome; update = g .update } ≡ value
@@ -94,10 +91,10 @@ keeps-one x fs l f room free k g = (λ h. mine h (ℕ-discrete (g .tx) (f .tx)),
         List·Memᴰ·tail
         (k g .0 (⊎-elim (λ (e : g .tx ≡ f .tx). absurd (d e)) (λ y. y) (in-with (x .followed) (f .tx) (g .tx) (h .0)), sym (there d) ∙ h .1))
 
-    new : g ≡ f → Has (following x (f .tx)) (record { of = set (fs .of) (f .tx) value }) g
-    new e = subst (λ (y : Follow). Has (following x (f .tx)) (record { of = set (fs .of) (f .tx) value }) y) (sym e) (with-has (x .followed) (f .tx), here)
+    new : g ≡ f → KeepsFollow (following x (f .tx)) (record { of = set (fs .of) (f .tx) value }) g
+    new e = subst (λ (y : Follow). KeepsFollow (following x (f .tx)) (record { of = set (fs .of) (f .tx) value }) y) (sym e) (with-has (x .followed) (f .tx), here)
 
-    old : List·Memᴰ g l → Has (following x (f .tx)) (record { of = set (fs .of) (f .tx) value }) g
+    old : List·Memᴰ g l → KeepsFollow (following x (f .tx)) (record { of = set (fs .of) (f .tx) value }) g
     old t =
         let h = k g .1 t in
         let d : g .tx ≢ f .tx = λ e. opposed (subst (λ (i : ℕ). has (x .followed) i ≡ true) e (h .0)) free in

@@ -112,7 +112,7 @@ stays : (bs : List Batch) (es : List Entry) (tx : ℕ) → outcomeOf (plainLog b
 unfolding plainLog
 stays bs es tx d = decided-stays (allEntries bs) es tx d
 
-not-open : (o : Outcome) → T (not (isOpen o)) → o ≢ Open
+pub not-open : (o : Outcome) → T (not (isOpen o)) → o ≢ Open
 not-open Open t e = t
 not-open Commit t e = let z : _≡_ {A = ℕ} 0 1 = cc in omega arith
 not-open Abort t e = let z : _≡_ {A = ℕ} 0 1 = cc in omega arith

@@ -15,6 +15,8 @@ use Rattle.log_core.specs.Log.{holderOf, outcomeOf}
 use Rattle.log_core.specs.Replay.{replayOf}
 use Rattle.model_steps.specs.declared.Step.{Step}
 use Rattle.model_protocol.specs.declared.Batch.{Batch}
+use Rattle.model_protocol.specs.declared.Follows.{Follows}
+use Rattle.model_protocol.specs.declared.Process.{Process}
 use Rattle.model_protocol.specs.declared.World.{World}
 use Rattle.model_protocol.specs.Batch.{entriesOf, noBatch}
 use Rattle.model_protocol.specs.Step.{run}
@@ -39,11 +41,11 @@ pub record IsSequence (h : List Event) (s : List Batch) : Type 0 where
 abbrev pub keptOf : World → ℕ → ℕ → Outcome
 keptOf w p tx = getD (processOf w p .heard) tx (record { outcome = Open }) .outcome
 
--- process p keeps the follow
-abbrev pub KeepsFollow : World → ℕ → Follow → Type 0
-KeepsFollow w p f =
-    (has (processOf w p .followed) (f .tx) ≡ true)
-    × (getD (followsOf w p .of) (f .tx) noFollowed ≡ record { outcome = f .outcome; update = f .update })
+-- the process, with the follows that the world has beside it, keeps the follow
+abbrev pub KeepsFollow : Process → Follows → Follow → Type 0
+KeepsFollow p fs f =
+    (has (p .followed) (f .tx) ≡ true)
+    × (getD (fs .of) (f .tx) noFollowed ≡ record { outcome = f .outcome; update = f .update })
 
 -- the restore r that p took last, after the history h with the sequence s
 pub record RestoredWell (p : ℕ) (r : Restored) (h : List Event) (s : List Batch) : Type 0 where
@@ -94,7 +96,7 @@ pub record Claim (steps : List Step) (h : List Event) (w : World) : Type 0 where
   pub restored-replay : (p : ℕ) → restoredTo w p ≡ restoredOf p h .replay
   pub restored-running : (p : ℕ) → processOf w p .running ≡ restoredOf p h .running
   -- and the follows that it took since, and no others
-  pub restored-follows : (p : ℕ) (f : Follow) → KeepsFollow w p f ↔ List·Memᴰ f (restoredOf p h .follows)
+  pub restored-follows : (p : ℕ) (f : Follow) → KeepsFollow (processOf w p) (followsOf w p) f ↔ List·Memᴰ f (restoredOf p h .follows)
   -- "The last restore plus the follows taken since then hold every update committed by the old
   -- holder's votes, once a follow of each listed transaction was taken"
   pub taken-over : TakenOver h sequence

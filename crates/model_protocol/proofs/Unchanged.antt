@@ -4,6 +4,7 @@ use mathlib.Core.Path.{_≡_, refl, subst, sym}
 use mathlib.Core.Bool.{Bool, true, false, cond}
 use mathlib.Core.List.{List, [], _∷_}
 use mathlib.Core.Logic.{_≢_}
+use borrow.Author.Tests.{eqb-true}
 use lib.Dec.{eqb, ltb}
 use lib.ListN.{getD, set}
 use Rattle.log_entry.specs.Refusal.{accepted}
@@ -41,6 +42,15 @@ either-arm P false a b f g = g
 step-cases : (P : World → Type 0) (w : World) (s : Step) → P (changed w (placesIn w s) (replayIn w s) (changeOf (partsOf w s) s)) → P w → P (stepOf w s .world)
 unfolding stepOf
 step-cases P w s new old = either-arm (λ (x : Stepped). P (x .world)) (eqb (stepRefusal (partsOf w s) s) accepted) _ _ new old
+
+-- the answer is the first refusal, accepted if there is none
+pub answer-is-refusal : (w : World) (s : Step) → stepOf w s .answer ≡ stepRefusal (partsOf w s) s
+unfolding stepOf
+answer-is-refusal w s = go (eqb (stepRefusal (partsOf w s) s) accepted) refl
+  where
+    go : (b : Bool) → eqb (stepRefusal (partsOf w s) s) accepted ≡ b → stepOf w s .answer ≡ stepRefusal (partsOf w s) s
+    go true e = rw e (sym (eqb-true (stepRefusal (partsOf w s) s) accepted e))
+    go false e = rw e
 
 pub refused-same : RefusedStepChangesNothing
 unfolding stepOf

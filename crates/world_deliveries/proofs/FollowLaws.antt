@@ -14,6 +14,7 @@ use mir.Val.{Val}
 use Rattle.log_entry.specs.Bits.{has, with}
 use Rattle.log_entry.specs.Limits.{transactions}
 use Rattle.log_entry.proofs.SetLaws.{beyond}
+use Rattle.log_entry.proofs.Tests.{and-left, and-right}
 use Rattle.model_protocol.proofs.Parts.{the-type as parts-type}
 use Rattle.model_protocol.specs.declared.Parts.{Parts}
 use Rattle.model_protocol.specs.declared.Process.{Process}
@@ -27,16 +28,12 @@ inside width set k small h = by (ltb k width) refl
     by true e = ltb-true k width e
     by false e = absurd (true≢false (sym h ∙ sym (beyond width set k small (ltb-false k width e))))
 
-second : (a b c : Bool) → (a && b && c) ≡ true → b ≡ true
-second true true c h = refl
-second true false c h = absurd (true≢false (sym h))
-second false b c h = absurd (true≢false (sym h))
-
 running-small : (p : Parts) (vs : List Val) → Is (row parts-type) p vs → p .process .running < 2 ^ transactions
 running-small p vs g = g .1 .1 .1 .1 .1 .1 .1 .0 .1 .1 .1 .1 .1 .0 .1
 
 pub taken-inside : (p : Parts) (vs : List Val) → Is (row parts-type) p vs → (store tx : ℕ) → takesFollow (p .process) store tx ≡ true → tx < transactions
-taken-inside p vs g store tx h = inside transactions (p .process .running) tx (running-small p vs g) (second (believes (p .process) store) (has (p .process .running) tx) (not (has (p .process .followed) tx)) h)
+taken-inside p vs g store tx h = inside transactions (p .process .running) tx (running-small p vs g) (and-right (believes (p .process) store) (has (p .process .running) tx)
+    (and-left (believes (p .process) store && has (p .process .running) tx) (not (has (p .process .followed) tx)) h))
 
 -- the shifted one is the power, since it fits
 set-with : (set tx : ℕ) → tx < transactions → bitOr set (1 * 2 ^ tx % 2 ^ transactions) ≡ with set tx

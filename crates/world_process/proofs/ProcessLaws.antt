@@ -8,6 +8,7 @@ use denote.Struct.Declared.{row}
 use lib.ListN.{length, length-map, set}
 use lib.Seq.{set-out}
 use mir.Val.{Val}
+use Rattle.log_entry.specs.Limits.{transactions}
 use Rattle.log_votes.specs.declared.Outcome.{Outcome}
 use Rattle.model_protocol.proofs.Process.{the-type}
 use Rattle.model_protocol.proofs.Follows.{the-type as follows-type}
@@ -16,14 +17,14 @@ use Rattle.model_protocol.specs.declared.Message.{Message}
 use Rattle.model_protocol.specs.declared.Process.{Process}
 use Rattle.model_protocol.specs.Process.{hearingOutcome, withFollow}
 
-pub heard-length : (p : Process) (vs : List Val) → Is (row the-type) p vs → length (p .heard) ≡ 32
+pub heard-length : (p : Process) (vs : List Val) → Is (row the-type) p vs → length (p .heard) ≡ transactions
 heard-length p vs g = simp length-map at (g .1 .1 .0 .1 .0 .1)
 
 pub not-heard : (p : Process) (tx : ℕ) (outcome : Outcome) → length (p .heard) ≤ tx → p ≡ hearingOutcome p tx outcome
 not-heard p tx outcome h =
     λ i. record { heard = sym (set-out (p .heard) tx (record { outcome = outcome }) h) i; store = p .store; position = p .position; running = p .running; followed = p .followed }
 
-pub follows-length : (fs : Follows) (vs : List Val) → Is (row follows-type) fs vs → length (fs .of) ≡ 32
+pub follows-length : (fs : Follows) (vs : List Val) → Is (row follows-type) fs vs → length (fs .of) ≡ transactions
 follows-length fs vs g = simp length-map at (g .1 .1 .0 .1 .0 .1)
 
 pub not-followed : (fs : Follows) (m : Message) → length (fs .of) ≤ m .tx → fs ≡ withFollow fs m

@@ -9,21 +9,13 @@ abbrev pub longestCoordinator : ℕ
 longestCoordinator = longestLine + longestLog
 
 -- a line for each transaction
-abbrev pub longestHeard : ℕ
-longestHeard = transactions * longestLine
-
--- a line for each transaction
-abbrev pub longestRunning : ℕ
-longestRunning = transactions * longestLine
-
--- a line for each transaction
-abbrev pub longestFollows : ℕ
-longestFollows = transactions * longestLine
+abbrev pub longestForEach : ℕ
+longestForEach = transactions * longestLine
 
 -- its line, the replay, what it listed as running and the follows
 abbrev pub longestRestore : ℕ
-longestRestore = longestLine + longestReplay + longestRunning + longestFollows
+longestRestore = longestLine + longestReplay + longestForEach + longestForEach
 
 -- no world prints as more: 113,040 bytes
 abbrev pub longestWorld : ℕ
-longestWorld = coordinators * longestCoordinator + processes * longestHeard + processes * longestRestore
+longestWorld = coordinators * longestCoordinator + processes * longestForEach + processes * longestRestore

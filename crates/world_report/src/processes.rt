@@ -2,7 +2,7 @@
 ghost use Prim.Native.Nat.{_*_};
 ghost use Rattle.log_entry.specs.Limits.{processes};
 ghost use Rattle.text_report.specs.Within.{Within, longestLine};
-ghost use Rattle.world_report.specs.Longest.{longestFollows, longestHeard, longestRestore, longestRunning};
+ghost use Rattle.world_report.specs.Longest.{longestForEach, longestRestore};
 ghost use Rattle.world_report.specs.Processes.{byProcess, followLine, followText, followsText, heardLine, heardText, listedText, outcomeText, restoreLine, restoreText, restoresText, runningLine, runningText};
 use log_core::Replay;
 use log_entry::limits::PROCESSES;
@@ -34,7 +34,7 @@ pub fn put_outcome(out: &mut [u8], at: usize, proc: u8, tx: u8, outcome: Outcome
 
 // What the process heard.
 pub fn put_heard(out: &mut [u8], mut at: usize, proc: u8, p: Process) -> usize
-    ensures { λ r. ⌜ Within longestHeard (now (out .entry)) at (heardText proc p) (now (out .exit)) r ⌝ }
+    ensures { λ r. ⌜ Within longestForEach (now (out .entry)) at (heardText proc p) (now (out .exit)) r ⌝ }
 {
     let mut i: u8 = 0;
     while i < TRANSACTIONS {
@@ -48,7 +48,7 @@ pub fn put_heard(out: &mut [u8], mut at: usize, proc: u8, p: Process) -> usize
 
 // What all processes heard.
 pub fn put_all_heard(out: &mut [u8], mut at: usize, ps: [Process; PROCESS_PLACES]) -> usize
-    ensures { λ r. ⌜ Within (processes * longestHeard) (now (out .entry)) at (byProcess heardText ps) (now (out .exit)) r ⌝ }
+    ensures { λ r. ⌜ Within (processes * longestForEach) (now (out .entry)) at (byProcess heardText ps) (now (out .exit)) r ⌝ }
 {
     let mut i: u8 = 0;
     while i < PROCESSES {
@@ -86,7 +86,7 @@ pub fn put_listed(out: &mut [u8], at: usize, running: u32, tx: u8) -> usize
 
 // What the restore listed as running.
 pub fn put_running(out: &mut [u8], mut at: usize, running: u32) -> usize
-    ensures { λ r. ⌜ Within longestRunning (now (out .entry)) at (runningText running) (now (out .exit)) r ⌝ }
+    ensures { λ r. ⌜ Within longestForEach (now (out .entry)) at (runningText running) (now (out .exit)) r ⌝ }
 {
     let mut i: u8 = 0;
     while i < TRANSACTIONS {
@@ -118,7 +118,7 @@ pub fn put_follow(out: &mut [u8], at: usize, followed: u32, tx: u8, f: Followed)
 
 // The follows that were taken since the restore.
 pub fn put_follows(out: &mut [u8], mut at: usize, followed: u32, follows: Follows) -> usize
-    ensures { λ r. ⌜ Within longestFollows (now (out .entry)) at (followsText followed follows) (now (out .exit)) r ⌝ }
+    ensures { λ r. ⌜ Within longestForEach (now (out .entry)) at (followsText followed follows) (now (out .exit)) r ⌝ }
 {
     let mut i: u8 = 0;
     while i < TRANSACTIONS {

@@ -8,16 +8,17 @@ use mathlib.Core.Option.{Option}
 use mathlib.Core.Path.{_≡_, refl, sym, _∙_, ap}
 use lib.Dec.{eqb, ltb}
 use lib.ListN.{length}
-use borrow.Author.Tests.{eqb-true, le-ltb, lt-ltb}
-use Rattle.log_entry.specs.Refusal.{accepted, firstRefusal, outsideLimits, unreadable}
+use borrow.Author.Tests.{le-ltb, lt-ltb}
+use Rattle.log_entry.specs.Refusal.{firstRefusal, outsideLimits, unreadable}
 use Rattle.model_agreement.proofs.Limits.{in-bounds}
 use Rattle.world_engine.specs.Commands.{carriedOut}
 use Rattle.text_lines.specs.Lines.{maxLineBytes}
 use Rattle.log_laws.proofs.Answers.{fresh, not-given}
 use Rattle.model_protocol.specs.declared.Parts.{Parts}
 use Rattle.model_protocol.specs.declared.World.{World}
-use Rattle.model_protocol.specs.Step.{acceptorsCounted, answered, changed, changeOf, partsOf, placesIn, replayIn, run, stepChecks, stepOf, stepRefusal}
+use Rattle.model_protocol.specs.Step.{acceptorsCounted, answered, partsOf, run, stepChecks, stepOf, stepRefusal}
 use Rattle.model_protocol.specs.World.{freshWorld}
+use Rattle.model_protocol.proofs.Unchanged.{answer-is-refusal}
 use Rattle.model_steps.specs.declared.Step.{Step}
 use Rattle.model_steps.specs.declared.Step.the-variants.{Setup, Request, Open, Propose, Deliver, Tell, Restore, Follow, Crash}
 use Rattle.model_steps.specs.Limits.{mostAcceptors, outsideStep}
@@ -94,18 +95,6 @@ refused-2 p s h = go (outsideStep (acceptorsCounted (p .acceptors)) s) h
     go : (b : Bool) → cond b outsideLimits (firstRefusal (stepChecks p s)) ≡ outsideLimits → b ≡ true
     go true k = refl
     go false k = absurd (not-given outsideLimits (stepChecks p s) (λ e. omega arith) (none-is-2 p s) k)
-
-answer-is-refusal : (w : World) (s : Step) → stepOf w s .answer ≡ stepRefusal (partsOf w s) s
-unfolding stepOf
-answer-is-refusal w s = go (eqb (stepRefusal p s) accepted) refl
-  where
-    p : Parts
-    p = partsOf w s
-
-    go : (b : Bool) → eqb (stepRefusal p s) accepted ≡ b
-        → cond b (answered (changed w (placesIn w s) (replayIn w s) (changeOf p s)) accepted) (answered w (stepRefusal p s)) .answer ≡ stepRefusal p s
-    go true k = sym (eqb-true (stepRefusal p s) accepted k)
-    go false k = refl
 
 pub answered-2-is-outside : Answered2IsOutside
 unfolding commandOf

@@ -10,8 +10,6 @@ use Rattle.model_steps.specs.declared.Command.{Command}
 use Rattle.model_steps.specs.declared.Step.the-variants.{Setup}
 use Rattle.model_steps.specs.Limits.{messages}
 use Rattle.model_steps.proofs.Lengths.{commands-length}
-use Rattle.model_protocol.specs.declared.Change.{Change}
-use Rattle.model_protocol.specs.declared.Places.{Places}
 use Rattle.model_protocol.specs.declared.World.{World}
 use Rattle.model_protocol.specs.Send.{copyOf, sendToAll}
 use Rattle.model_protocol.specs.Step.{putBack, replayIn}
