@@ -52,22 +52,22 @@ request-reads : (e : Entry) (to : ℕ) → entry.HasText e → readStep (text (R
 unfolding text readStep namesApart clash
 request-reads e to (inl h) =
     ap (λ (x : Entry). readStep (text (Request x to))) h
-    ∙ first-reads stepReaders 0 (reader sentTake takeOf) (entry.takeValues e ++ to ∷ []) refl refl (tt, (tt, (tt, tt)))
+    ∙ first-reads stepReaders 1 (reader sentTake takeOf) (entry.takeValues e ++ to ∷ []) refl refl (tt, (tt, (tt, tt)))
     ∙ ap (λ (x : Entry). some (Request x to)) (sym h)
 request-reads e to (inr h) =
     let written : text (Request e to) ≡ lineText sentVote (entry.voteValues e ++ to ∷ []) = rw (h .0) in
     ap readStep written
-    ∙ first-reads stepReaders 1 (reader sentVote voteOf) (entry.voteValues e ++ to ∷ []) refl refl
+    ∙ first-reads stepReaders 2 (reader sentVote voteOf) (entry.voteValues e ++ to ∷ []) refl refl
     (writable-then (voteKind .fields) (entry.voteValues e) to (vote-writable e (h .1) (h .2)))
     ∙ ap (λ (x : Entry). some (Request x to)) (vote-back e (h .0))
 
 pub text-reads-back : TextReadsBack
 unfolding text readStep namesApart clash apart clashAll
-text-reads-back (Setup n) h = first-reads stepReaders 2 (reader setupKind setupOf) (n ∷ []) refl refl (tt, tt)
+text-reads-back (Setup n) h = first-reads stepReaders 3 (reader setupKind setupOf) (n ∷ []) refl refl (tt, tt)
 text-reads-back (Request e to) h = request-reads e to h
-text-reads-back (Open c i b) h = first-reads stepReaders 3 (reader openKind openOf) (c ∷ i ∷ b ∷ []) refl refl (tt, (tt, (tt, tt)))
-text-reads-back (Propose c i b) h = first-reads stepReaders 4 (reader proposeKind proposeOf) (c ∷ i ∷ b ∷ []) refl refl (tt, (tt, (tt, tt)))
-text-reads-back (Deliver m) h = first-reads stepReaders 5 (reader deliverKind deliverOf) (m ∷ []) refl refl (tt, tt)
+text-reads-back (Open c i b) h = first-reads stepReaders 4 (reader openKind openOf) (c ∷ i ∷ b ∷ []) refl refl (tt, (tt, (tt, tt)))
+text-reads-back (Propose c i b) h = first-reads stepReaders 5 (reader proposeKind proposeOf) (c ∷ i ∷ b ∷ []) refl refl (tt, (tt, (tt, tt)))
+text-reads-back (Deliver m) h = first-reads stepReaders 0 (reader deliverKind deliverOf) (m ∷ []) refl refl (tt, tt)
 text-reads-back (Tell c p tx) h = first-reads stepReaders 6 (reader tellKind tellOf) (c ∷ p ∷ tx ∷ []) refl refl (tt, (tt, (tt, tt)))
 text-reads-back (Restore c p) h = first-reads stepReaders 7 (reader restoreKind restoreOf) (c ∷ p ∷ []) refl refl (tt, (tt, tt))
 text-reads-back (Follow c p tx) h = first-reads stepReaders 8 (reader followKind followOf) (c ∷ p ∷ tx ∷ []) refl refl (tt, (tt, (tt, tt)))
@@ -114,17 +114,17 @@ pub read-is-text : ReadIsText
 unfolding readStep text
 read-is-text l s h =
     first-written (IsText l) stepReaders l (
-      kind-is-text (reader sentTake takeOf) (λ vs. refl) (λ vs. inl refl) l,
+      kind-is-text (reader deliverKind deliverOf) (λ vs. refl) (λ vs. tt) l,
       (
-        vote-is-text l,
+        kind-is-text (reader sentTake takeOf) (λ vs. refl) (λ vs. inl refl) l,
         (
-          kind-is-text (reader setupKind setupOf) (λ vs. refl) (λ vs. tt) l,
+          vote-is-text l,
           (
-            kind-is-text (reader openKind openOf) (λ vs. refl) (λ vs. tt) l,
+            kind-is-text (reader setupKind setupOf) (λ vs. refl) (λ vs. tt) l,
             (
-              kind-is-text (reader proposeKind proposeOf) (λ vs. refl) (λ vs. tt) l,
+              kind-is-text (reader openKind openOf) (λ vs. refl) (λ vs. tt) l,
               (
-                kind-is-text (reader deliverKind deliverOf) (λ vs. refl) (λ vs. tt) l,
+                kind-is-text (reader proposeKind proposeOf) (λ vs. refl) (λ vs. tt) l,
                 (
                   kind-is-text (reader tellKind tellOf) (λ vs. refl) (λ vs. tt) l,
                   (

@@ -80,14 +80,16 @@ followOf vs = Follow (at vs 0) (at vs 1) (at vs 2)
 abbrev pub crashOf : List ℕ → Step
 crashOf vs = Crash (roleOf (at vs 0)) (at vs 1)
 
+-- The kinds of lines, in the order in which a line is tried. No line is of two kinds, so the order is
+-- free: most lines of a trace deliver a message.
 abbrev pub stepReaders : List (Reader Step)
 stepReaders =
-    reader sentTake takeOf
+    reader deliverKind deliverOf
+    ∷ reader sentTake takeOf
     ∷ reader sentVote voteOf
     ∷ reader setupKind setupOf
     ∷ reader openKind openOf
     ∷ reader proposeKind proposeOf
-    ∷ reader deliverKind deliverOf
     ∷ reader tellKind tellOf
     ∷ reader restoreKind restoreOf
     ∷ reader followKind followOf

@@ -237,12 +237,12 @@ fn read_kind(line: &[u8], kind: u8) -> Reading
     ensures { λ r. ⌜ r ≡ readingOf (readAs (readerAt kind) (now (line .entry))) ⌝ }
 {
     match kind {
-        0 => read_take(line),
-        1 => read_vote(line),
-        2 => read_setup(line),
-        3 => read_open(line),
-        4 => read_propose(line),
-        5 => read_deliver(line),
+        0 => read_deliver(line),
+        1 => read_take(line),
+        2 => read_vote(line),
+        3 => read_setup(line),
+        4 => read_open(line),
+        5 => read_propose(line),
         6 => read_tell(line),
         7 => read_restore(line),
         8 => read_follow(line),
