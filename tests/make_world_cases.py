@@ -291,6 +291,35 @@ def outbid():
     yield "outbid", script.data()
 
 
+def every_ballot():
+    script = Script()
+    for ballot in range(1, reference.BALLOTS + 1):
+        for c in range(3):
+            script.open(c, 0, ballot)
+    yield "every-ballot-opened", script.data()
+    most = 13  # with the takes, of which there are three, all the message numbers
+    for first in range(1, reference.BALLOTS + 1, most):
+        ballots = range(first, min(first + most, reference.BALLOTS + 1))
+        yield "replies-from-ballot-%d" % first, replies_to(ballots).data()
+
+
+def replies_to(ballots):
+    """Replies to prepares and accepts, delivered with one coordinator more down each time."""
+    script = Script()
+    script.queue(*(script.take(c + 1, c, c) for c in range(3)))
+    replies = []
+    for ballot in ballots:
+        c = ballot % 3
+        promises = script.deliver(*script.open(c, 0, ballot)[:2])
+        script.deliver(*promises)
+        accepts = script.propose(c, 0, ballot)
+        replies += promises + script.deliver(accepts[0])
+    for c in range(3):
+        script.crash("coord", c)
+        script.deliver(*replies)
+    return script
+
+
 def learned_by_three_and_all_again():
     script = Script()
     script.queue(*(script.take(c + 1, c, c) for c in range(3)))
@@ -459,7 +488,7 @@ def full_queues():
 
 
 TRAFFIC = (
-    most_instances, eight_stores_two_down, outbid, learned_by_three_and_all_again,
+    most_instances, eight_stores_two_down, outbid, every_ballot, learned_by_three_and_all_again,
     everything_thrice, everything_backwards, takeovers, restores_of_three_stores, groups,
     every_transaction_running, many_follows, sender_down, equal_entries, batch_of_another, entries_that_differ_in_one_value, full_queues,
 )
