@@ -9,7 +9,8 @@ use native.Mathlib.Omega.{arith}
 use lib.Dec.{T, eqb, eqb→eq}
 use lib.ListN.{getD, length, set}
 use Rattle.model_steps.specs.Limits.{coordinators, instances, mostAcceptors}
-use Rattle.model_paxos.specs.Ballot.{Majority, owner}
+use Rattle.model_owners.specs.Owners.{owner}
+use Rattle.model_paxos.specs.Ballot.{Majority}
 use Rattle.model_paxos.specs.Messages.{Paxos, accept, accepted, promise}
 use Rattle.model_paxos.specs.Rules.{Core}
 use Rattle.model_paxos.proofs.Grow.{AccOk, Attempt, Best, CoOk, Holding, New, NewAll, acc-up, co-up, core-accepted, core-open, core-promise, core-propose, kind, new, newAt}
@@ -28,7 +29,7 @@ use Rattle.model_agreement.specs.Content.{Content, follow, paxos, reques
 use Rattle.model_agreement.specs.History.{Event}
 use Rattle.model_agreement.proofs.Arrays.{slot-ind, set-ind}
 use Rattle.model_agreement.proofs.Range.{Range}
-use Rattle.model_agreement.proofs.Shape.{Shape}
+use Rattle.model_agreement.proofs.Shape.{Shape, co-in, owner-in}
 use Rattle.model_agreement.proofs.StepEffects.{Higher, Move, asks, counts, crashes, follows, hears, is-told, joins, learns, opens, ours, passes-accept, passes-accepted, passes-follow, passes-prepare, passes-promise, passes-request, passes-restore, promises, proposes, restores, takes, takes-follow, tells, theirs, votes}
 use Rattle.model_agreement.proofs.SentMessages.{AllNew, At, OneNew, Outbox, Posts, Sent, outboxOf}
 
@@ -195,12 +196,6 @@ module _ {w : World} (s : Shape w) (few : w .acceptors ≤ mostAcceptors) (R : R
   abbrev S : Paxos Batch → Type 0
   S = Said (outboxOf w) (w .sent)
 
-  owner-in : (b : ℕ) → owner b < length (w .coordinators)
-  owner-in b = rw (s .co-row) (omega arith)
-
-  co-in : {k : ℕ} → k < coordinators → k < length (w .coordinators)
-  co-in h = rw (s .co-row) h
-
   -- the ballot of an acceptance is that of a proposal
   pub accepted-positive : {j i b a : ℕ} → At (outboxOf w) (w .sent) j (paxos (accepted i b a)) → 0 < b
   accepted-positive t = I .core .positive (I .core .asked (said-at t) .1)
@@ -309,7 +304,7 @@ module _ {w : World} (s : Shape w) (few : w .acceptors ≤ mostAcceptors) (R : R
         core = core-open (said-up p) (I .core) old;
         acc = λ a i′ g′. acc-up (said-up p) (I .acc a i′ g′) (λ b d v. old _ (omega arith)) (λ b. old _ (omega arith));
         co =
-            set-ind (λ j c. CoAt (w .acceptors) (Said ms c₀) j c) (w .coordinators) freshCoordinator k _ (co-in h)
+            set-ind (λ j c. CoAt (w .acceptors) (Said ms c₀) j c) (w .coordinators) freshCoordinator k _ (co-in s h)
             (co-up (said-up p) (co-open (I .co k) b noBatch f u (rw e at g)) (λ i b a v _. old _ (omega arith)))
             (λ j _. co-up (said-up p) (I .co j) (λ i b a v _. old _ (omega arith)));
       }
@@ -324,7 +319,7 @@ module _ {w : World} (s : Shape w) (few : w .acceptors ≤ mostAcceptors) (R : R
         core = core-propose (said-up p) (I .core) k x.applied r v (I .co k) (rw e at z) f most (rw u (proposal-is x)) dn old;
         acc = λ a i′ g′. acc-up (said-up p) (I .acc a i′ g′) (λ b d v. old _ (omega arith)) (λ b. old _ (omega arith));
         co =
-            set-ind (λ j y. CoAt (w .acceptors) (Said ms c) j y) (w .coordinators) freshCoordinator k _ (co-in h)
+            set-ind (λ j y. CoAt (w .acceptors) (Said ms c) j y) (w .coordinators) freshCoordinator k _ (co-in s h)
             (co-propose (said-up p) v (I .co k) f dn)
             (λ j g. co-others (said-up p) v (I .co k) f dn (rw e at z) g (I .co j));
       }
@@ -355,15 +350,15 @@ module _ {w : World} (s : Shape w) (few : w .acceptors ≤ mostAcceptors) (R : R
   inv-move (passes-prepare j i b a _ _) = I
   inv-move (votes j i b a v ms c t g p _) = inv-vote i b a v ms c (R .sent t .inst) (R .sent t .acceptor) (said-at t) g p
   inv-move (passes-accept j i b a v _ _) = I
-  inv-move (hears j i b a d v d′ v′ t e f g) = inv-co (owner b) _ (owner-in b) I (inv-hear a d v b (rw (f, e) at (said-at t)) g)
+  inv-move (hears j i b a d v d′ v′ t e f g) = inv-co (owner b) _ (owner-in s b) I (inv-hear a d v b (rw (f, e) at (said-at t)) g)
   inv-move (passes-promise j i b a d v _) = I
-  inv-move (counts j i b a t e f _) = inv-co (owner b) _ (owner-in b) I (co-count (I .co (owner b)) a (rw (f, e) at (said-at t)))
+  inv-move (counts j i b a t e f _) = inv-co (owner b) _ (owner-in s b) I (co-count (I .co (owner b)) a (rw (f, e) at (said-at t)))
   inv-move (learns j i b a t e f q) =
-      inv-co (owner b) _ (owner-in b) I
+      inv-co (owner b) _ (owner-in s b) I
       (inv-learn b a (rw (f, e) at (said-at t))
       (majority→ (w .acceptors) _ (with-lt _ a _ (R .sent t .acceptor) (R .cos (owner b) .acceptances)) q))
   inv-move (passes-accepted j i b a _ _) = I
-  inv-move (joins j k e t _) = inv-co k _ (co-in (R .sent t)) I (I .co k)
+  inv-move (joins j k e t _) = inv-co k _ (co-in s (R .sent t)) I (I .co k)
   inv-move (passes-request j k e _) = I
   inv-move (is-told j p tx o _) = I
   inv-move (takes j p z i r n _ _) = I

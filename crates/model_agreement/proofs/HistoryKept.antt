@@ -10,7 +10,8 @@ use lib.ListN.{getD, length, set}
 use Rattle.log_entry.specs.declared.Entry.{Entry}
 use Rattle.log_entry.specs.Bits.{with}
 use Rattle.model_steps.specs.Limits.{coordinators, instances, mostAcceptors}
-use Rattle.model_paxos.specs.Ballot.{Majority, majority, owner}
+use Rattle.model_owners.specs.Owners.{owner}
+use Rattle.model_paxos.specs.Ballot.{Majority, majority}
 use Rattle.model_paxos.specs.Messages.{Paxos, accept, accepted, prepare, promise}
 use Rattle.model_paxos.proofs.Grow.{New, kind, new}
 use Rattle.model_paxos.proofs.Sets.{majority←, majority→, with-lt}
@@ -26,7 +27,7 @@ use Rattle.model_agreement.proofs.Arrays.{slot-cases, slot-ind, each-ca
 use Rattle.model_agreement.proofs.BallotInvariant.{Inv, Mail, Said, accepted-positive, is-follow, is-request, is-restore, is-tell, said-at, said-direct-message, said-one, said-other, said-others, said-up}
 use Rattle.model_agreement.proofs.Range.{Range}
 use Rattle.model_agreement.proofs.Recorded.{AccHist, CoHist, acc-frame, acc-passes, acc-prepares, acc-sent, acc-votes, co-counts, co-frame, co-learns, co-opens}
-use Rattle.model_agreement.proofs.Shape.{Shape}
+use Rattle.model_agreement.proofs.Shape.{Shape, co-in, owner-in}
 use Rattle.model_agreement.proofs.StepEffects.{Move, asks, counts, crashes, follows, hears, is-told, joins, learns, opens, passes-accept, passes-accepted, passes-follow, passes-prepare, passes-promise, passes-request, passes-restore, promises, proposes, restores, takes, takes-follow, tells, votes}
 use Rattle.model_agreement.proofs.SentMessages.{At, OneNew, Outbox, Posts, outboxOf}
 
@@ -150,12 +151,6 @@ module _ {w : World} {h : List Event} (s : Shape w) (few : w .acceptors ≤ most
   abbrev S : Paxos Batch → Type 0
   S = Said (outboxOf w) (w .sent)
 
-  co-in : {k : ℕ} → k < coordinators → k < length (w .coordinators)
-  co-in g = rw (s .co-row) g
-
-  owner-in : (b : ℕ) → owner b < length (w .coordinators)
-  owner-in b = rw (s .co-row) (omega arith)
-
   slot-in : {a i : ℕ} → a < w .acceptors → i < instances → a * instances + i < length (w .slots)
   slot-in g l = rw (s .slot-row) (omega arith)
 
@@ -276,7 +271,7 @@ module _ {w : World} {h : List Event} (s : Shape w) (few : w .acceptors ≤ most
         → HistOf (w .acceptors) after S (w .slots) (set (w .coordinators) (owner b) c)
     mine c o = record {
       acc = accs-kind H j (accepted i b a) (omega arith) (omega arith);
-      co = set-ind (λ k z. CoSays (w .acceptors) after k z) (w .coordinators) freshCoordinator (owner b) c (owner-in b) o others;
+      co = set-ind (λ k z. CoSays (w .acceptors) after k z) (w .coordinators) freshCoordinator (owner b) c (owner-in s b) o others;
     }
 
     pass : (i ≡ coordinatorOf w (owner b) .applied → b ≡ coordinatorOf w (owner b) .round .ballot → ⊥)
@@ -314,14 +309,14 @@ module _ {w : World} {h : List Event} (s : Shape w) (few : w .acceptors ≤ most
       record {
         acc = accs-aside H (opened-by k i b) (said-up p) (λ m d. said-others 0 (λ a. refl) p m (omega arith));
         co =
-            set-ind (λ j x. CoSays (w .acceptors) (opened k i b ∷ h) j x) (w .coordinators) freshCoordinator k _ (co-in g)
+            set-ind (λ j x. CoSays (w .acceptors) (opened k i b ∷ h) j x) (w .coordinators) freshCoordinator k _ (co-in s g)
             (rw e (co-opens b (H .co k)))
             (λ j d. co-frame (H .co j) (λ f. d (sym f)) (λ a y. since-aside (opened-by k i b) y) (λ i c y. last-other (λ f. d (sym f)) y));
       }
   hist-move (proposes k i b v ms c g _ _ _ _ _ _ _ p) =
       record {
         acc = accs-sent H (said-up p) (λ m d. said-others 2 (λ a. refl) p m (omega arith));
-        co = set-ind (λ j x. CoSays (w .acceptors) h j x) (w .coordinators) freshCoordinator k _ (co-in g) (H .co k) (λ j _. H .co j);
+        co = set-ind (λ j x. CoSays (w .acceptors) h j x) (w .coordinators) freshCoordinator k _ (co-in s g) (H .co k) (λ j _. H .co j);
       }
   hist-move (tells k q tx ms c _ _ _ p) = record { acc = accs-sent H (said-up p) (λ m _. said-direct-message (is-tell q tx _) p m); co = H .co }
   hist-move (restores k q ms c _ _ _ p) =
@@ -340,7 +335,7 @@ module _ {w : World} {h : List Event} (s : Shape w) (few : w .acceptors ≤ most
       record {
         acc = accs-kind H j (promise i b a d v) (omega arith) (omega arith);
         co =
-            set-ind (λ k x. CoSays (w .acceptors) (delivered j (paxos (promise i b a d v)) ∷ h) k x) (w .coordinators) freshCoordinator (owner b) _ (owner-in b)
+            set-ind (λ k x. CoSays (w .acceptors) (delivered j (paxos (promise i b a d v)) ∷ h) k x) (w .coordinators) freshCoordinator (owner b) _ (owner-in s b)
             (cos-kind H j (promise i b a d v) (omega arith) (owner b))
             (λ k _. cos-kind H j (promise i b a d v) (omega arith) k);
       }
@@ -361,7 +356,7 @@ module _ {w : World} {h : List Event} (s : Shape w) (few : w .acceptors ≤ most
       record {
         acc = directMessage j (is-request k e) .acc;
         co =
-            set-ind (λ x c. CoSays (w .acceptors) (delivered j (request k e) ∷ h) x c) (w .coordinators) freshCoordinator k _ (co-in (R .sent t))
+            set-ind (λ x c. CoSays (w .acceptors) (delivered j (request k e) ∷ h) x c) (w .coordinators) freshCoordinator k _ (co-in s (R .sent t))
             (directMessage j (is-request k e) .co k)
             (λ x _. directMessage j (is-request k e) .co x);
       }

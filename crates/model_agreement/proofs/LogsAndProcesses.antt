@@ -6,7 +6,6 @@ use mathlib.Core.Logic.{_⊎_, inl, inr, _≢_}
 use mathlib.Core.Bool.{Bool, true, false, _&&_, not, cond}
 use mathlib.Core.List.{List, [], _∷_, _++_, List·Memᴰ}
 use native.Mathlib.Decide.{decLe}
-use native.Mathlib.Nat.{mod-lt}
 use native.Mathlib.Omega.{arith}
 use lib.Dec.{T, eqb}
 use lib.ListN.{List·getD-append, getD, length, length-append, length-take, set, take}
@@ -23,7 +22,9 @@ use Rattle.log_votes.specs.Outcome.{isCommit, isOpen}
 use Rattle.log_core.specs.Replay.{replayOf}
 use Rattle.model_steps.specs.Limits.{coordinators, instances}
 use Rattle.log_laws.proofs.Replicated.{holders-length}
-use Rattle.model_paxos.specs.Ballot.{Majority, owner}
+use Rattle.model_owners.specs.Owners.{owner}
+use Rattle.model_owners.proofs.Owners.{owner-is-coordinator}
+use Rattle.model_paxos.specs.Ballot.{Majority}
 use Rattle.model_paxos.specs.Messages.{Paxos, accept, accepted}
 use Rattle.model_paxos.specs.Rules.{Chosen}
 use Rattle.model_paxos.proofs.Grow.{Best, New, NewAll, chosen-up, kind, new, newAt}
@@ -48,7 +49,7 @@ use Rattle.model_agreement.proofs.BallotInvariant.{Inv, Said, attempt, 
 use Rattle.model_agreement.proofs.Plain.{held-holder, plain-more}
 use Rattle.model_agreement.proofs.Queue.{front-of, in-joined, in-take, in-without, without-shorter}
 use Rattle.model_agreement.proofs.Range.{Range}
-use Rattle.model_agreement.proofs.Shape.{QueueOk, Shape}
+use Rattle.model_agreement.proofs.Shape.{QueueOk, Shape, co-in, owner-in}
 use Rattle.model_agreement.proofs.Tests.{neqb→ne}
 use Rattle.model_agreement.proofs.StepEffects.{Move, asks, counts, crashes, follows, hears, is-told, joins, learns, opens, passes-accept, passes-accepted, passes-follow, passes-prepare, passes-promise, passes-request, passes-restore, promises, proposes, restores, takes, takes-follow, tells, votes}
 use Rattle.model_agreement.proofs.SentMessages.{AllNew, At, OneNew, Outbox, Posts, outboxOf}
@@ -333,12 +334,6 @@ module _ {w : World} {h : List Event} (s : Shape w) (R : Range w) (I : Inv w) (H
   abbrev S : Paxos Batch → Type 0
   S = Said (outboxOf w) (w .sent)
 
-  co-in : {k : ℕ} → k < coordinators → k < length (w .coordinators)
-  co-in g = rw (s .co-row) g
-
-  owner-in : (b : ℕ) → owner b < length (w .coordinators)
-  owner-in b = rw (s .co-row) (omega arith)
-
   co-set : {h′ : List Event} {ms : Outbox} {c : ℕ} (k : ℕ) (x : Coordinator) → k < length (w .coordinators)
       → CoFact (w .acceptors) h′ (Said ms c) x (logOf w k)
       → ((i : ℕ) → CoFact (w .acceptors) h′ (Said ms c) (coordinatorOf w i) (logOf w i))
@@ -352,7 +347,7 @@ module _ {w : World} {h : List Event} (s : Shape w) (R : Range w) (I : Inv w) (H
       → ((i : ℕ) → CoFact (w .acceptors) h′ S (coordinatorOf w i) (logOf w i))
       → (i : ℕ) → CoFact (w .acceptors) h′ S (getD (set (w .coordinators) k x) i freshCoordinator) (getD (set (w .logs) k l) i emptyLog)
   both-set {h′} k x l g o f =
-      set-ind (λ i y. CoFact (w .acceptors) h′ S y (getD (set (w .logs) k l) i emptyLog)) (w .coordinators) freshCoordinator k x (co-in g)
+      set-ind (λ i y. CoFact (w .acceptors) h′ S y (getD (set (w .logs) k l) i emptyLog)) (w .coordinators) freshCoordinator k x (co-in s g)
       (subst (λ y. CoFact (w .acceptors) h′ S x y) (sym (getD-set-same (w .logs) k l emptyLog (rw (s .log-row) g))) o)
       (λ i e. subst (λ y. CoFact (w .acceptors) h′ S (coordinatorOf w i) y) (sym (getD-set-other (w .logs) k i l emptyLog (λ q. e (sym q)))) (f i))
 
@@ -381,12 +376,12 @@ module _ {w : World} {h : List Event} (s : Shape w) (R : Range w) (I : Inv w) (H
   rest-move (opens k i b ms c g _ _ _ _ _ p) =
       record {
         sent = sent-more O (more _) p (fact-all (λ j a. no-proposal (omega arith)));
-        cos = co-set k _ (co-in g) (let o = cos-more O (more _) p k in record { fed = o .fed; queue = o .queue }) (cos-more O (more _) p);
+        cos = co-set k _ (co-in s g) (let o = cos-more O (more _) p k in record { fed = o .fed; queue = o .queue }) (cos-more O (more _) p);
       }
   rest-move (proposes k i b v ms c g _ _ _ _ _ t e p) =
       record {
         sent = sent-more O same p (fact-all (λ j a. proposal (rw e (proposal-fine s O I k t))));
-        cos = co-set k _ (co-in g) (let o = cos-more O same p k in record { fed = o .fed; queue = o .queue }) (cos-more O same p);
+        cos = co-set k _ (co-in s g) (let o = cos-more O same p k in record { fed = o .fed; queue = o .queue }) (cos-more O same p);
       }
   rest-move (tells k q tx ms c _ _ z p) = rest-more O same p (fact-one (told (told-up (said-up p) said)))
     where
@@ -439,19 +434,19 @@ module _ {w : World} {h : List Event} (s : Shape w) (R : Range w) (I : Inv w) (H
   rest-move (hears j i b a d v d′ v′ t _ _ _) =
       record {
         sent = sent-same O (more _);
-        cos = co-set _ _ (owner-in b) (let o = cos-same O (more _) (owner b) in record { fed = o .fed; queue = o .queue }) (cos-same O (more _));
+        cos = co-set _ _ (owner-in s b) (let o = cos-same O (more _) (owner b) in record { fed = o .fed; queue = o .queue }) (cos-same O (more _));
       }
   rest-move (passes-promise j i b a d v _) = rest-same O (more _)
   rest-move (counts j i b a t _ _ _) =
       record {
         sent = sent-same O (more _);
-        cos = co-set _ _ (owner-in b) (let o = cos-same O (more _) (owner b) in record { fed = o .fed; queue = o .queue }) (cos-same O (more _));
+        cos = co-set _ _ (owner-in s b) (let o = cos-same O (more _) (owner b) in record { fed = o .fed; queue = o .queue }) (cos-same O (more _));
       }
   rest-move (learns j i b a t e f q) =
       record {
         sent = sent-same O (more _);
         cos =
-            both-set (owner b) _ _ (mod-lt b (omega arith))
+            both-set (owner b) _ _ (owner-is-coordinator b)
             (learned-fact b a (more _) (rw (f, e) at (said-at t))
             (majority→ (w .acceptors) _ (with-lt _ a _ (R .sent t .acceptor) (R .cos (owner b) .acceptances)) q))
             (cos-same O (more _));
@@ -461,7 +456,7 @@ module _ {w : World} {h : List Event} (s : Shape w) (R : Range w) (I : Inv w) (H
       record {
         sent = sent-same O (more _);
         cos =
-            co-set k _ (co-in (R .sent t))
+            co-set k _ (co-in s (R .sent t))
             (record {
               fed = O .cos k .fed;
               queue = λ x z. joins-too x (in-joined (coordinatorOf w k .queue) e z);

@@ -7,7 +7,7 @@ use native.Mathlib.Omega.{arith}
 use lib.ListN.{getD, set}
 use lib.Pow.{pow-pos}
 use Rattle.model_steps.specs.Limits.{ballots, coordinators}
-use Rattle.model_paxos.specs.Ballot.{owner}
+use Rattle.model_owners.specs.Owners.{owner}
 use Rattle.model_paxos.proofs.Grow.{New, NewAll, new, newAt}
 use Rattle.model_paxos.proofs.Sets.{with-lt}
 use Rattle.model_protocol.specs.declared.Batch.{Batch}

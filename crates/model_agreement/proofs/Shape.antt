@@ -11,7 +11,8 @@ use Rattle.log_entry.specs.declared.Entry.{Entry}
 use Rattle.log_entry.specs.Limits.{transactions}
 use Rattle.log_core.specs.declared.Replay.{Replay}
 use Rattle.model_steps.specs.Limits.{coordinators, instances, messages}
-use Rattle.model_paxos.specs.Ballot.{owner}
+use Rattle.model_owners.specs.Owners.{owner}
+use Rattle.model_owners.proofs.Owners.{owner-is-coordinator}
 use Rattle.model_protocol.specs.declared.Batch.{Batch}
 use Rattle.model_protocol.specs.declared.AcceptorSlot.{AcceptorSlot}
 use Rattle.model_protocol.specs.declared.Coordinator.{Coordinator}
@@ -49,6 +50,13 @@ pub record Shape (w : World) : Type 0 where
   pub heard : (p : ℕ) → length (processOf w p .heard) ≡ transactions
   pub followed : (p : ℕ) → length (followsOf w p .of) ≡ transactions
   pub queues : (k : ℕ) → QueueOk (coordinatorOf w k .queue)
+
+-- a coordinator has a place, and so has the owner of a ballot
+pub co-in : {w : World} → Shape w → {k : ℕ} → k < coordinators → k < length (w .coordinators)
+co-in s h = rw (s .co-row) h
+
+pub owner-in : {w : World} → Shape w → (b : ℕ) → owner b < length (w .coordinators)
+owner-in s b = co-in s (owner-is-coordinator b)
 
 joined-ok : (q : Queue) (e : Entry) → QueueOk q → q .count < queuePlaces → QueueOk (joined q e)
 joined-ok q e o h = record { places = length-set (q .entries) (q .count) e ∙ o .places; count = omega arith }

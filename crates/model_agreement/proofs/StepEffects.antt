@@ -5,7 +5,7 @@ use mathlib.Core.Path.{_≡_, refl, sym, subst, _∙_}
 use mathlib.Core.Logic.{_⊎_, inl, inr}
 use mathlib.Core.Bool.{Bool, true, false, _&&_, _||_, not, cond}
 use mathlib.Core.List.{List, _∷_}
-use native.Mathlib.Nat.{mod-eq-of-lt, mod-lt}
+use native.Mathlib.Nat.{mod-eq-of-lt}
 use native.Mathlib.Omega.{arith}
 use lib.ListN.{set}
 use lib.Dec.{T, T-not, eqb, eqb→eq, eqb-refl, leb, leb→le, ltb, ltb→lt, nleb→lt, nltb→le, lt→ltb}
@@ -23,7 +23,8 @@ use Rattle.model_steps.specs.declared.Role.{Role}
 use Rattle.model_steps.specs.declared.Step.{Step}
 use Rattle.model_steps.specs.declared.Step.the-variants.{Setup, Request, Open, Propose, Deliver, Tell, Restore, Follow, Crash}
 use Rattle.model_steps.specs.Limits.{ballots, coordinators, instances, messages, noBallot, noCoordinator, outsideStep, mostAcceptors}
-use Rattle.model_paxos.specs.Ballot.{majority, owner}
+use Rattle.model_owners.specs.Owners.{owner}
+use Rattle.model_paxos.specs.Ballot.{majority}
 use Rattle.model_paxos.specs.Messages.{accept, accepted, prepare, promise}
 use Rattle.model_protocol.specs.declared.Batch.{Batch}
 use Rattle.model_protocol.specs.declared.AcceptorSlot.{AcceptorSlot}
@@ -332,9 +333,6 @@ module _ (w : World) (h : List Event) (room : Roomy (outboxOf w)) (few : w .acce
         (λ f. to-world (nothing w at y m) (passes-follow j (m .to) (m .store) (m .tx) (m .outcome) (m .update) s f))
 
     -- no number of a message that was sent lies beyond the places
-    own-place : owner (m .ballot) % coordinators ≡ owner (m .ballot)
-    own-place = mod-eq-of-lt (mod-lt (m .ballot) (omega arith))
-
     slot-place : m .acceptor < w .acceptors → m .inst < instances
         → (m .acceptor * instances + m .inst) % slotPlaces ≡ m .acceptor * instances + m .inst
     slot-place l g = mod-eq-of-lt (omega arith)
@@ -343,8 +341,8 @@ module _ (w : World) (h : List Event) (room : Roomy (outboxOf w)) (few : w .acce
     t-deliver kind.Request s = rw (mod-eq-of-lt (range j _ s)) (t-request s)
     t-deliver kind.Prepare s = rw (slot-place (range j _ s .acceptor) (range j _ s .inst)) (t-prepare s)
     t-deliver kind.Accept s = rw (slot-place (range j _ s .acceptor) (range j _ s .inst)) (t-accept s)
-    t-deliver kind.Promise s = rw own-place (t-promise s)
-    t-deliver kind.Accepted s = rw own-place (t-accepted s)
+    t-deliver kind.Promise s = t-promise s
+    t-deliver kind.Accepted s = t-accepted s
     t-deliver kind.Tell s = let l = range j _ s .0 in let e : m .to % processPlaces ≡ m .to = mod-eq-of-lt (omega arith) in rw e (t-told s)
     t-deliver kind.Restore s = let l = range j _ s .1 in let e : m .to % processPlaces ≡ m .to = mod-eq-of-lt (omega arith) in rw e (t-taken s)
     t-deliver kind.Follow s = let l = range j _ s .1 in let e : m .to % processPlaces ≡ m .to = mod-eq-of-lt (omega arith) in rw e (t-followed s)

@@ -1,10 +1,10 @@
--- Majorities and owners of small numbers, by computation.
+-- Majorities of small sets, by computation.
 use Prim.Native.Nat.{ℕ}
 use mathlib.Core.Path.{_≡_, refl}
 use mathlib.Core.Bool.{Bool, true, false}
 use mathlib.Core.List.{List, [], _∷_, map}
 use lib.Count.{ones, onesIn}
-use Rattle.model_paxos.specs.Ballot.{majority, owner}
+use Rattle.model_paxos.specs.Ballot.{majority}
 
 -- two of three, and not one
 pub of-three : map (majority 3) (0b000 ∷ 0b001 ∷ 0b100 ∷ 0b011 ∷ 0b101 ∷ 0b110 ∷ 0b111 ∷ [])
@@ -17,7 +17,3 @@ pub of-five : map (majority 5) (0b00001 ∷ 0b10001 ∷ 0b11000 ∷ 0b00111 ∷ 
     ≡ false ∷ false ∷ false ∷ true ∷ true ∷ true ∷ true ∷ []
 unfolding ones onesIn
 of-five = refl
-
--- "Ballot b belongs to coordinator b mod 3."
-pub owners : map owner (1 ∷ 2 ∷ 3 ∷ 4 ∷ 253 ∷ 254 ∷ 255 ∷ []) ≡ 1 ∷ 2 ∷ 0 ∷ 1 ∷ 1 ∷ 2 ∷ 0 ∷ []
-owners = refl

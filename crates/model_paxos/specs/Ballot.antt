@@ -1,13 +1,8 @@
--- Ballots and majorities.
-use Prim.Native.Nat.{ℕ, _*_, _/_, _%_, _<_}
+-- Majorities.
+use Prim.Native.Nat.{ℕ, _*_, _/_, _<_}
 use mathlib.Core.Bool.{Bool}
 use lib.Count.{ones, onesIn}
 use lib.Dec.{ltb}
-use Rattle.model_steps.specs.Limits.{coordinators}
-
--- "Ballot b belongs to coordinator b mod 3."
-abbrev pub owner : ℕ → ℕ
-owner b = b % coordinators
 
 -- more than half of the acceptors 0 to n - 1 are in the set
 unfoldable pub Majority : ℕ → ℕ → Type 0

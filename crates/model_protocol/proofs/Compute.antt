@@ -13,6 +13,7 @@ use Rattle.log_core.specs.Replay.{groupReplay, noReplay, replayFrom, replayOf}
 use Rattle.log_votes.specs.Scan.{allFrom, anyFrom, setOf}
 use Rattle.model_steps.specs.declared.Step.{Step}
 use Rattle.model_steps.specs.Limits.{outsideStep}
+use Rattle.model_owners.specs.Owners.{owner, owners}
 use Rattle.model_protocol.specs.declared.World.{World}
 use Rattle.model_protocol.specs.Batch.{batchOf, noBatch}
 use Rattle.model_protocol.specs.Coordinator.{batchToPropose, learning, promiseHeard}
@@ -25,5 +26,5 @@ use Rattle.model_protocol.specs.World.{allUp, freshCoordinator, freshPro
 
 -- the world after a list of steps from the fresh world
 unfoldable pub computed : List Step → World
-unfolding run stepOf placesOf stepRefusal stepChecks changeOf messageFor heldFrom deliveryChange firstRefusal outsideStep outside illFormed sendToAll copyOf promiseHeard learning joining batchToPropose firstBatch batchOf isIn sameEntry leftBy queueOf without freshWorld freshCoordinator freshProcess allUp noBatch noReplay noFollows awaitedOf emptyLog feed enter entered stored effectOf refusal remembered setOf outcomeOfVotes running replayOf replayFrom groupReplay anyFrom allFrom ones onesIn
+unfolding run stepOf placesOf stepRefusal stepChecks changeOf messageFor heldFrom deliveryChange firstRefusal outsideStep outside illFormed sendToAll copyOf promiseHeard learning joining batchToPropose firstBatch batchOf isIn sameEntry leftBy queueOf without freshWorld freshCoordinator freshProcess allUp noBatch noReplay noFollows awaitedOf emptyLog feed enter entered stored effectOf refusal remembered setOf outcomeOfVotes running replayOf replayFrom groupReplay anyFrom allFrom ones onesIn owner owners
 computed steps = run freshWorld steps

@@ -5,10 +5,10 @@ use Prim.Native.Nat.{ℕ, _+_, _*_, _%_}
 use Rattle.model_steps.specs.declared.Step.{Step}
 use Rattle.model_steps.specs.declared.Step.the-variants.{Setup, Request, Open, Propose, Deliver, Tell, Restore, Follow, Crash}
 use Rattle.model_steps.specs.Limits.{coordinators, instances, messages}
+use Rattle.model_owners.specs.Owners.{owner}
 use Rattle.model_protocol.specs.declared.Kind.{Kind}
 use Rattle.model_protocol.specs.declared.Kind.the-variants as kind
 use Rattle.model_protocol.specs.declared.Message.{Message}
-use Rattle.model_paxos.specs.Ballot.{owner}
 use Rattle.model_protocol.specs.Limits.{slotPlaces, processPlaces}
 use Rattle.model_protocol.specs.declared.Places.{Places}
 
@@ -27,6 +27,10 @@ messageAt (Crash role id) = 0
 abbrev pub onlyCoordinator : ℕ → Places
 onlyCoordinator k = record { coordinator = k % coordinators; slot = 0; process = 0 }
 
+-- the owner of a ballot is a coordinator, so its number needs no wrapping
+abbrev pub onlyOwner : ℕ → Places
+onlyOwner b = record { coordinator = owner b; slot = 0; process = 0 }
+
 abbrev pub onlySlot : ℕ → ℕ → Places
 onlySlot a i = record { coordinator = 0; slot = (a * instances + i) % slotPlaces; process = 0 }
 
@@ -38,8 +42,8 @@ abbrev pub deliveryPlaces : Message → Kind → Places
 deliveryPlaces m kind.Request = onlyCoordinator (m .to)
 deliveryPlaces m kind.Prepare = onlySlot (m .acceptor) (m .inst)
 deliveryPlaces m kind.Accept = onlySlot (m .acceptor) (m .inst)
-deliveryPlaces m kind.Promise = onlyCoordinator (owner (m .ballot))
-deliveryPlaces m kind.Accepted = onlyCoordinator (owner (m .ballot))
+deliveryPlaces m kind.Promise = onlyOwner (m .ballot)
+deliveryPlaces m kind.Accepted = onlyOwner (m .ballot)
 deliveryPlaces m kind.Tell = onlyProcess (m .to)
 deliveryPlaces m kind.Restore = onlyProcess (m .to)
 deliveryPlaces m kind.Follow = onlyProcess (m .to)

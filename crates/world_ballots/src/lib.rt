@@ -9,6 +9,7 @@ ghost use Rattle.model_protocol.specs.Send.{lacksNumbers};
 ghost use Rattle.model_protocol.specs.World.{isDown};
 ghost use Rattle.world_parts.specs.Refusal.{firstOf, tests};
 ghost use Rattle.world_parts.specs.Plan.{planOf};
+use model_owners::owner;
 use model_protocol::Change;
 use model_protocol::Coordinator;
 use model_protocol::Down;
@@ -27,8 +28,7 @@ use world_parts::refusal::Tests;
 fn ballot_barred(n: u8, k: Coordinator, coord: u8, inst: u8, ballot: u8) -> bool
     ensures { λ r. ⌜ r ≡ (eqb n 0 || cannotOpen k coord inst ballot) ⌝ }
 {
-    (n == 0)
-        | ((inst != k.applied) | (parties::owner(ballot) != coord) | (ballot <= k.round.ballot))
+    (n == 0) | ((inst != k.applied) | (owner(ballot) != coord) | (ballot <= k.round.ballot))
 }
 
 // The answer to coordinator coord where it is to send to each of n acceptors. `barred`: 5 applies.

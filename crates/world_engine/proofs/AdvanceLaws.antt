@@ -31,13 +31,13 @@ use Rattle.model_protocol.specs.declared.Places.{Places}
 use Rattle.model_protocol.specs.declared.Process.{Process}
 use Rattle.model_protocol.specs.declared.Stepped.{Stepped}
 use Rattle.model_protocol.specs.declared.World.{World}
-use Rattle.model_paxos.specs.Ballot.{owner}
+use Rattle.model_owners.proofs.Owners.{owner-is-coordinator}
 use Rattle.model_protocol.specs.Batch.{entriesOf}
 use Rattle.model_protocol.specs.Change.{parts}
 use Rattle.model_protocol.specs.declared.Kind.{Kind}
 use Rattle.model_protocol.specs.declared.Kind.the-variants as kind
 use Rattle.model_protocol.specs.Limits.{slotPlaces, processPlaces}
-use Rattle.model_protocol.specs.Places.{deliveryPlaces, messageAt, placesOf}
+use Rattle.model_protocol.specs.Places.{deliveryPlaces, messageAt, onlyOwner, placesOf}
 use Rattle.model_protocol.specs.Process.{withFollow}
 use Rattle.model_protocol.specs.Send.{addressed, copyOf, sendToAll}
 use Rattle.model_protocol.specs.Step.{answered, deliveredIn, messageFor, partsAt, putBack, replayIn, stepOf}
@@ -95,12 +95,15 @@ There at = (at .coordinator < coordinators) × (at .slot < slotPlaces) × (at .p
 there : (c x h : ℕ) → There (record { coordinator = c % coordinators; slot = x % slotPlaces; process = h % processPlaces })
 there c x h = (mod-lt c (omega arith), mod-lt x (omega arith), mod-lt h (omega arith))
 
+owner-there : (b : ℕ) → There (onlyOwner b)
+owner-there b = (owner-is-coordinator b, omega arith, omega arith)
+
 delivery-there : (m : Message) (k : Kind) → There (deliveryPlaces m k)
 delivery-there m kind.Request = there (m .to) 0 0
 delivery-there m kind.Prepare = there 0 (m .acceptor * instances + m .inst) 0
 delivery-there m kind.Accept = there 0 (m .acceptor * instances + m .inst) 0
-delivery-there m kind.Promise = there (owner (m .ballot)) 0 0
-delivery-there m kind.Accepted = there (owner (m .ballot)) 0 0
+delivery-there m kind.Promise = owner-there (m .ballot)
+delivery-there m kind.Accepted = owner-there (m .ballot)
 delivery-there m kind.Tell = there 0 0 (m .to)
 delivery-there m kind.Restore = there 0 0 (m .to)
 delivery-there m kind.Follow = there 0 0 (m .to)

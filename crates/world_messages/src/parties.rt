@@ -2,9 +2,9 @@
 ghost use mathlib.Core.Path.{_≡_};
 ghost use Rattle.model_protocol.specs.World.{isDown};
 ghost use Rattle.model_protocol.specs.Deliver.{receiverDown};
-ghost use Rattle.model_paxos.specs.Ballot.{owner};
 ghost use Rattle.model_protocol.specs.World.{crashed};
 use log_entry::limits::PROCESSES;
+use model_owners::owner;
 use model_protocol::Down;
 use model_protocol::Kind;
 use model_protocol::Message;
@@ -14,13 +14,6 @@ use model_protocol::limits::PROCESS_PLACES;
 use model_steps::Role;
 use model_steps::limits::COORDINATORS;
 use model_steps::limits::MOST_ACCEPTORS;
-
-// The coordinator that the ballot belongs to.
-pub fn owner(ballot: u8) -> u8
-    ensures { λ r. ⌜ r ≡ owner ballot ⌝ }
-{
-    ballot % COORDINATORS
-}
 
 pub fn is_down(d: Down, role: Role, id: u8) -> bool
     ensures { λ r. ⌜ r ≡ isDown d role id ⌝ }

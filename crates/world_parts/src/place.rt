@@ -1,8 +1,9 @@
 // Where in the world the parts of a step stand.
 ghost use mathlib.Core.Path.{_≡_};
 ghost use Rattle.world_parts.specs.Asks.{asksLog};
-ghost use Rattle.model_protocol.specs.Places.{deliveryPlaces, messageAt, onlySlot, onlyCoordinator, onlyProcess, placesOf};
+ghost use Rattle.model_protocol.specs.Places.{deliveryPlaces, messageAt, onlySlot, onlyCoordinator, onlyOwner, onlyProcess, placesOf};
 use log_entry::limits::PROCESSES;
+use model_owners::owner;
 use model_protocol::Kind;
 use model_protocol::Message;
 use model_protocol::Places;
@@ -11,7 +12,6 @@ use model_protocol::limits::SLOT_PLACES;
 use model_steps::Step;
 use model_steps::limits::COORDINATORS;
 use model_steps::limits::MESSAGES;
-use world_messages::parties;
 
 // The message that the step delivers; message 0 if it delivers none.
 pub fn message_at(s: Step) -> u8
@@ -45,6 +45,16 @@ fn only_coordinator(k: u8) -> Places
     }
 }
 
+fn only_owner(ballot: u8) -> Places
+    ensures { λ r. ⌜ r ≡ onlyOwner ballot ⌝ }
+{
+    Places {
+        coordinator: owner(ballot),
+        slot: 0,
+        process: 0,
+    }
+}
+
 fn only_slot(acceptor: u8, inst: u8) -> Places
     ensures { λ r. ⌜ r ≡ onlySlot acceptor inst ⌝ }
 {
@@ -73,7 +83,7 @@ fn delivery_places(m: Message) -> Places
     match k {
         Kind::Request => only_coordinator(m.to),
         Kind::Prepare | Kind::Accept => only_slot(m.acceptor, m.inst),
-        Kind::Promise | Kind::Accepted => only_coordinator(parties::owner(m.ballot)),
+        Kind::Promise | Kind::Accepted => only_owner(m.ballot),
         Kind::Tell | Kind::Restore | Kind::Follow => only_process(m.to),
     }
 }

@@ -1,6 +1,6 @@
 use borrow.Author.Needs.{needs}
 use mathlib.Core.Path.{ap, refl, sym, _∙_}
-use Rattle.model_protocol.specs.Places.{deliveryPlaces, onlyCoordinator}
+use Rattle.model_protocol.specs.Places.{deliveryPlaces}
 use Rattle.world_messages.proofs.KindLaws.{of-any, of-either}
 use Rattle.world_parts.proofs.place.delivery_places.Statement.{statement}
 use Rattle.world_parts.proofs.place.delivery_places.Tie as tie
@@ -13,8 +13,7 @@ returns-2 c = let m = c .before .before .args .m in c .only-slot .ensures ∙ of
 
 returns-3 : tie.Need-returns-3
 returns-3 c =
-    let m = c .before .before .before .args .m in
-    c .only-coordinator2 .ensures ∙ ap onlyCoordinator (c .before .owner .ensures) ∙ of-either (deliveryPlaces m) (m .kind) 3 4 refl (c .before .before .match .keys3)
+    let m = c .before .before .args .m in c .only-owner .ensures ∙ of-either (deliveryPlaces m) (m .kind) 3 4 refl (c .before .match .keys3)
 
 returns-4 : tie.Need-returns-4
 returns-4 c = let m = c .before .before .args .m in c .only-process .ensures ∙ of-any (deliveryPlaces m) (m .kind) 5 6 7 refl refl (c .before .match .keys4)
@@ -24,4 +23,4 @@ delivery-places-spec =
     tie.close
     (tie.spec
     (λ c. search needs) (λ c κs. search needs) (λ c κs. search needs) (λ c κs. search needs)
-    (λ c κs. search needs) (λ c κs. search needs) returns returns-2 returns-3 returns-4)
+    (λ c κs. search needs) returns returns-2 returns-3 returns-4)
