@@ -10,7 +10,7 @@ use lib.Dec.{T, eqb, eqb→eq}
 use lib.ListN.{getD, length, set}
 use Rattle.model_steps.specs.Limits.{coordinators, instances, mostAcceptors}
 use Rattle.model_owners.specs.Owners.{owner}
-use Rattle.model_paxos.specs.Ballot.{Majority}
+use Rattle.model_paxos.specs.Majority.{Majority}
 use Rattle.model_paxos.specs.Messages.{Paxos, accept, accepted, promise}
 use Rattle.model_paxos.specs.Rules.{Core}
 use Rattle.model_paxos.proofs.Grow.{AccOk, Attempt, Best, CoOk, Holding, New, NewAll, acc-up, co-up, core-accepted, core-open, core-promise, core-propose, kind, new, newAt}

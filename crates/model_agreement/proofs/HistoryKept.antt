@@ -11,7 +11,7 @@ use Rattle.log_entry.specs.declared.Entry.{Entry}
 use Rattle.log_entry.specs.Bits.{with}
 use Rattle.model_steps.specs.Limits.{coordinators, instances, mostAcceptors}
 use Rattle.model_owners.specs.Owners.{owner}
-use Rattle.model_paxos.specs.Ballot.{Majority, majority}
+use Rattle.model_paxos.specs.Majority.{Majority, majority}
 use Rattle.model_paxos.specs.Messages.{Paxos, accept, accepted, prepare, promise}
 use Rattle.model_paxos.proofs.Grow.{New, kind, new}
 use Rattle.model_paxos.proofs.Sets.{majority←, majority→, with-lt}

@@ -24,7 +24,7 @@ use Rattle.model_steps.specs.Limits.{coordinators, instances}
 use Rattle.log_laws.proofs.Replicated.{holders-length}
 use Rattle.model_owners.specs.Owners.{owner}
 use Rattle.model_owners.proofs.Owners.{owner-is-coordinator}
-use Rattle.model_paxos.specs.Ballot.{Majority}
+use Rattle.model_paxos.specs.Majority.{Majority}
 use Rattle.model_paxos.specs.Messages.{Paxos, accept, accepted}
 use Rattle.model_paxos.specs.Rules.{Chosen}
 use Rattle.model_paxos.proofs.Grow.{Best, New, NewAll, chosen-up, kind, new, newAt}

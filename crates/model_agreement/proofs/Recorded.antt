@@ -7,7 +7,7 @@ use native.Mathlib.Decide.{decLe}
 use native.Mathlib.Omega.{arith}
 use lib.Dec.{T}
 use Rattle.log_entry.specs.Bits.{has, with}
-use Rattle.model_paxos.specs.Ballot.{Majority}
+use Rattle.model_paxos.specs.Majority.{Majority}
 use Rattle.model_paxos.specs.Messages.{Paxos, accept, accepted, prepare}
 use Rattle.model_paxos.specs.Rules.{Has}
 use Rattle.model_paxos.proofs.Sets.{few-zero, has-with, has-zero, has←, has→, meet, most-mono, with-has, with-keeps}

@@ -24,7 +24,7 @@ use Rattle.model_steps.specs.declared.Step.{Step}
 use Rattle.model_steps.specs.declared.Step.the-variants.{Setup, Request, Open, Propose, Deliver, Tell, Restore, Follow, Crash}
 use Rattle.model_steps.specs.Limits.{ballots, coordinators, instances, messages, noBallot, noCoordinator, outsideStep, mostAcceptors}
 use Rattle.model_owners.specs.Owners.{owner}
-use Rattle.model_paxos.specs.Ballot.{majority}
+use Rattle.model_paxos.specs.Majority.{majority}
 use Rattle.model_paxos.specs.Messages.{accept, accepted, prepare, promise}
 use Rattle.model_protocol.specs.declared.Batch.{Batch}
 use Rattle.model_protocol.specs.declared.AcceptorSlot.{AcceptorSlot}

@@ -25,7 +25,7 @@ use Rattle.log_entry.proofs.Tests.{and-left, and-right}
 use Rattle.log_laws.specs.Reached.{reached}
 use Rattle.log_laws.specs.TakenOver.{CommittedUpdate}
 use Rattle.log_laws.proofs.Replicated.{decided-stays}
-use Rattle.model_paxos.specs.Ballot.{Majority}
+use Rattle.model_paxos.specs.Majority.{Majority}
 use Rattle.model_paxos.specs.Messages.{Paxos, accept}
 use Rattle.model_paxos.specs.Rules.{Chosen, Has}
 use Rattle.model_paxos.proofs.Sequence.{all-below, chosen-front, chosen-in, chosen-is, prefix, seq-chosen, seqFrom}

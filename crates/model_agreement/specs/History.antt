@@ -14,7 +14,7 @@ use Rattle.log_core.specs.declared.Replay.{Replay}
 use Rattle.model_steps.specs.declared.Step.{Step}
 use Rattle.model_steps.specs.declared.Step.the-variants as step
 use Rattle.model_steps.specs.declared.Step.the-variants.{Setup, Request, Open, Propose, Deliver, Tell, Restore, Crash}
-use Rattle.model_paxos.specs.Ballot.{Majority}
+use Rattle.model_paxos.specs.Majority.{Majority}
 use Rattle.model_paxos.specs.Messages.{accept, accepted, prepare}
 use Rattle.model_protocol.specs.declared.Batch.{Batch}
 use Rattle.model_protocol.specs.declared.World.{World}

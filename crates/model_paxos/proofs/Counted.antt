@@ -4,7 +4,7 @@ use mathlib.Core.Path.{_≡_, refl}
 use mathlib.Core.Bool.{Bool, true, false}
 use mathlib.Core.List.{List, [], _∷_, map}
 use lib.Count.{ones, onesIn}
-use Rattle.model_paxos.specs.Ballot.{majority}
+use Rattle.model_paxos.specs.Majority.{majority}
 
 -- two of three, and not one
 pub of-three : map (majority 3) (0b000 ∷ 0b001 ∷ 0b100 ∷ 0b011 ∷ 0b101 ∷ 0b110 ∷ 0b111 ∷ [])

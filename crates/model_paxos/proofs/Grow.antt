@@ -7,7 +7,7 @@ use mathlib.Core.Bool.{Bool, true, false}
 use native.Mathlib.Omega.{arith}
 use Rattle.model_steps.specs.Limits.{instances}
 use Rattle.model_owners.specs.Owners.{owner}
-use Rattle.model_paxos.specs.Ballot.{Majority}
+use Rattle.model_paxos.specs.Majority.{Majority}
 use Rattle.model_paxos.specs.Messages.{Paxos, accept, accepted, prepare, promise}
 use Rattle.model_paxos.specs.Rules.{Chosen, Core, Has, Why}
 

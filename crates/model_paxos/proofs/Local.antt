@@ -8,7 +8,7 @@ use native.Mathlib.Omega.{arith}
 use Rattle.log_entry.specs.Bits.{with}
 use Rattle.model_steps.specs.Limits.{instances}
 use Rattle.model_owners.specs.Owners.{owner}
-use Rattle.model_paxos.specs.Ballot.{Majority}
+use Rattle.model_paxos.specs.Majority.{Majority}
 use Rattle.model_paxos.specs.Messages.{Paxos, accept, accepted, promise}
 use Rattle.model_paxos.specs.Rules.{Chosen, Core, Has}
 use Rattle.model_paxos.proofs.Sets.{has-with, has-zero, meet}

@@ -14,7 +14,7 @@ use lib.ListN.{getD, length, length-take, take}
 use lib.Seq.{ext-getD, getD-take}
 use Rattle.log_entry.specs.Bits.{with}
 use Rattle.model_steps.specs.Limits.{instances}
-use Rattle.model_paxos.specs.Ballot.{Majority}
+use Rattle.model_paxos.specs.Majority.{Majority}
 use Rattle.model_paxos.specs.Messages.{Paxos, accept, accepted, prepare, promise}
 use Rattle.model_paxos.specs.Rules.{Chosen, Core, Has}
 use Rattle.model_paxos.proofs.Core.{chosen-agree}

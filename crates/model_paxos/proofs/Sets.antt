@@ -9,7 +9,7 @@ use lib.Count.{onesIn, ones, ones-step}
 use lib.Dec.{T, eqb→eq, ltb→lt, lt→ltb}
 use lib.Pow.{pow-lt, shr-shr}
 use Rattle.log_entry.specs.Bits.{has, with}
-use Rattle.model_paxos.specs.Ballot.{Majority, majority}
+use Rattle.model_paxos.specs.Majority.{Majority, majority}
 use Rattle.model_paxos.specs.Rules.{Has, bit}
 
 bit-is : (a q : ℕ) → bit a q ≡ q / 2 ^ a % 2

@@ -1,3 +1,3 @@
-pub mod Ballot
+pub mod Majority
 pub mod Messages
 pub mod Rules

@@ -4,7 +4,7 @@ use Prim.Native.Nat.{ℕ, zero, suc, _/_, _%_, _≤_, _<_}
 use mathlib.Core.Path.{_≡_}
 use mathlib.Core.Logic.{_⊎_}
 use Rattle.model_steps.specs.Limits.{instances}
-use Rattle.model_paxos.specs.Ballot.{Majority}
+use Rattle.model_paxos.specs.Majority.{Majority}
 use Rattle.model_paxos.specs.Messages.{Paxos, accept, accepted, promise}
 
 -- digit a of the set

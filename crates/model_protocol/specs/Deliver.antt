@@ -10,7 +10,7 @@ use Rattle.model_protocol.specs.declared.Message.{Message}
 use Rattle.model_protocol.specs.declared.Parts.{Parts}
 use Rattle.model_protocol.specs.Acceptor.{accepting, accepts, promises, promising}
 use Rattle.model_owners.specs.Owners.{owner}
-use Rattle.model_paxos.specs.Ballot.{majority}
+use Rattle.model_paxos.specs.Majority.{majority}
 use Rattle.model_protocol.specs.Change.{slotNow, coordinatorNow, done, keepsFollow, learns, processNow, sending, takesReplay}
 use Rattle.model_protocol.specs.Coordinator.{counting, isHeard, learning, promiseHeard, withQueue, withRound}
 use Rattle.model_protocol.specs.Message.{acceptedFrom, promiseFrom}

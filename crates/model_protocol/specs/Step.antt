@@ -29,7 +29,7 @@ use Rattle.model_protocol.specs.declared.Process.{Process}
 use Rattle.model_protocol.specs.declared.Stepped.{Stepped}
 use Rattle.model_protocol.specs.declared.World.{World}
 use Rattle.model_owners.specs.Owners.{owner}
-use Rattle.model_paxos.specs.Ballot.{majority}
+use Rattle.model_paxos.specs.Majority.{majority}
 use Rattle.model_protocol.specs.Batch.{entriesOf}
 use Rattle.model_protocol.specs.Change.{acceptorsNow, coordinatorNow, done, downNow, givesReplay, parts, sending}
 use Rattle.model_protocol.specs.Coordinator.{batchToPropose, proposing, withRound}

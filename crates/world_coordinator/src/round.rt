@@ -4,7 +4,7 @@ ghost use mathlib.Core.Path.{_≡_};
 ghost use Prim.Native.Nat.{_<_};
 ghost use lib.Dec.{ltb};
 ghost use Rattle.log_entry.specs.Bits.{with};
-ghost use Rattle.model_paxos.specs.Ballot.{majority};
+ghost use Rattle.model_paxos.specs.Majority.{majority};
 ghost use Rattle.model_protocol.specs.Coordinator.{batchToPropose, counting, isCurrent, promiseHeard, proposing};
 ghost use Rattle.world_coordinator.specs.Limits.{setPlaces};
 use crate::limits::SET_PLACES;

@@ -13,7 +13,7 @@ use Rattle.model_protocol.specs.declared.Message.{Message}
 use Rattle.model_protocol.specs.declared.Process.{Process}
 use Rattle.model_protocol.specs.declared.Queue.{Queue}
 use Rattle.model_protocol.specs.declared.Round.{Round}
-use Rattle.model_paxos.specs.Ballot.{majority}
+use Rattle.model_paxos.specs.Majority.{majority}
 use Rattle.model_protocol.specs.Acceptor.{accepting, accepts, promises, promising}
 use Rattle.model_protocol.specs.Coordinator.{counting, isCurrent, isHeard, learning, promiseHeard, withQueue, withRound}
 use Rattle.model_protocol.specs.Message.{acceptedFrom, promiseFrom}

@@ -16,7 +16,7 @@ use Rattle.model_protocol.specs.declared.Stepped.{Stepped}
 use Rattle.model_protocol.specs.declared.World.{World}
 use Rattle.model_protocol.specs.Acceptor.{accepts, promises}
 use Rattle.model_protocol.specs.Change.{withoutMessages}
-use Rattle.model_paxos.specs.Ballot.{majority}
+use Rattle.model_paxos.specs.Majority.{majority}
 use Rattle.model_protocol.specs.Coordinator.{counting, isHeard}
 use Rattle.model_protocol.specs.Deliver.{deliveryChange}
 use Rattle.model_protocol.specs.Process.{takesFollow}
