@@ -1,4 +1,5 @@
--- Document 02: "a readable table of 256 owners, entry 0 unused [..] each use reads the owner there".
+-- Document 02: "a readable table of 256 owners, entry 0 unused. However it is done now, each use
+-- reads the owner there."
 use Prim.Native.Nat.{ℕ, _/_, _%_, _≤_}
 use mathlib.Core.Path.{_≡_}
 use mathlib.Core.List.{List, [], _∷_}

@@ -80,8 +80,8 @@ followOf vs = Follow (at vs 0) (at vs 1) (at vs 2)
 abbrev pub crashOf : List ℕ → Step
 crashOf vs = Crash (roleOf (at vs 0)) (at vs 1)
 
--- The kinds of lines, in the order in which a line is tried. No line is of two kinds, so the order is
--- free: most lines of a trace deliver a message.
+-- The kinds of lines, in the order in which a line is tried. No line is of two kinds, so the order
+-- is free: most lines of a trace deliver a message.
 abbrev pub stepReaders : List (Reader Step)
 stepReaders =
     reader deliverKind deliverOf
