@@ -297,7 +297,7 @@ def every_ballot():
         for c in range(3):
             script.open(c, 0, ballot)
     yield "every-ballot-opened", script.data()
-    most = 13  # with the takes, of which there are three, all the message numbers
+    most = 13  # of nine messages each; there are three takes, and 128 numbers in all
     for first in range(1, reference.BALLOTS + 1, most):
         ballots = range(first, min(first + most, reference.BALLOTS + 1))
         yield "replies-from-ballot-%d" % first, replies_to(ballots).data()

@@ -31,7 +31,7 @@ owners =
     ∷ (0 ∷ 1 ∷ 2 ∷ 0 ∷ 1 ∷ 2 ∷ 0 ∷ 1 ∷ 2 ∷ 0 ∷ 1 ∷ 2 ∷ 0 ∷ 1 ∷ 2 ∷ 0 ∷ [])  -- 240 to 255
     ∷ []
 
--- the coordinator that ballot b belongs to: the entry of b
+-- the coordinator that ballot b belongs to: its entry in the row of b
 unfoldable pub owner : ℕ → ℕ
 owner b = getD (getD owners (b / inRow) []) (b % inRow) 0
 
