@@ -5,6 +5,7 @@ use mathlib.Core.Path.{_≡_, ap, refl, _∙_}
 use native.Mathlib.Omega.{arith}
 use borrow.Author.Tests.{not-true}
 use lib.Dec.{eqb}
+use lib.ListN.{length}
 use Rattle.log_entry.proofs.InsideLaws.{inside-vote}
 use Rattle.log_entry.specs.declared.Entry.{Entry}
 use Rattle.log_entry.specs.Entry.{outside, takeEntry, voteEntry}
@@ -76,3 +77,8 @@ pub read-is-proper : (n : Numbers) {e : Entry} → readNumbers n ≡ Of e → pr
 read-is-proper n {e} h =
     let passed = passed-read n h in
     rw (← entry-read n h, numbers-of-entry n (passed .0), passed .0, passed .1)
+
+-- "a host's record grows to 16 bytes"
+pub record-size : (e : Entry) → length (recordOf e) ≡ 16
+unfolding recordOf
+record-size e = refl

@@ -9,6 +9,7 @@ ghost use Rattle.host_records.specs.Numbers.{beyondByte, readNumbers, un
 ghost use Rattle.host_records.specs.Record.{fromLowFirst, lowFirst, readRecord, recordOf};
 use log_entry::Entry;
 use log_entry::limits::UPDATE_BYTES;
+use log_entry::limits::Update;
 use log_entry::refusal::OUTSIDE_LIMITS;
 use log_entry::refusal::UNREADABLE;
 
@@ -27,8 +28,10 @@ const VOTE: u8 = 1;
 const ABORT: u8 = 0;
 
 const COMMIT: u8 = 1;
-// A byte's values.
+// A byte's values; an update counts by them too.
 const BYTE_VALUES: u32 = 256;
+
+const UPDATE_BASE: Update = BYTE_VALUES as Update;
 
 // The numbers that a call or a record says, within any limits or not.
 pub struct Numbers {
@@ -41,7 +44,7 @@ pub struct Numbers {
     pub list: u32,
     // 0 abort, 1 commit.
     pub say: u32,
-    pub update: u32,
+    pub update: Update,
 }
 
 // What numbers or a record read as: an entry, or the refusal.
@@ -109,16 +112,22 @@ fn wide(b: u8) -> u32
     b as u32
 }
 
+fn update_byte(b: u8) -> Update
+    ensures { λ r. ⌜ r ≡ b ⌝ }
+{
+    b as Update
+}
+
 // The number of an update's bytes, low byte first.
-fn from_low_first(bytes: &[u8]) -> u32
+fn from_low_first(bytes: &[u8]) -> Update
     requires { ⌜ length (now bytes) ≡ updateBytes ⌝ }
     ensures { λ r. ⌜ r ≡ fromLowFirst (now (bytes .entry)) ⌝ }
 {
-    let mut u: u32 = 0;
+    let mut u: Update = 0;
     let mut read: usize = 0;
     while read < UPDATE_BYTES {
         read += 1;
-        u = wide(bytes[UPDATE_BYTES - read]) + BYTE_VALUES * u;
+        u = update_byte(bytes[UPDATE_BYTES - read]) + UPDATE_BASE * u;
     }
     u
 }
@@ -156,7 +165,7 @@ fn either(test: bool, yes: u8, no: u8) -> u8
 }
 
 // An update's bytes, low byte first, stored from a place on; what has no room is left out.
-pub fn put_low_first(out: &mut [u8], at: usize, u: u32)
+pub fn put_low_first(out: &mut [u8], at: usize, u: Update)
     ensures { λ r. ⌜ now (out .exit) ≡ sets (now (out .entry)) at (lowFirst updateBytes u) ⌝ }
 {
     let mut rest = u;
@@ -166,8 +175,8 @@ pub fn put_low_first(out: &mut [u8], at: usize, u: u32)
         if out.len() <= to {
             return;
         }
-        out[to] = (rest % BYTE_VALUES) as u8;
-        rest = rest / BYTE_VALUES;
+        out[to] = (rest % UPDATE_BASE) as u8;
+        rest = rest / UPDATE_BASE;
         to += 1;
         left -= 1;
     }

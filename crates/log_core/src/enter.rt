@@ -11,6 +11,7 @@ use crate::Log;
 use crate::Parts;
 use crate::group::remembered_in;
 use log_entry::Entry;
+use log_entry::limits::Update;
 use log_entry::refusal::ACCEPTED;
 use log_entry::refusal::OUTSIDE_LIMITS;
 
@@ -43,7 +44,7 @@ impl Log {
         tx: u8,
         list: u8,
         commit: bool,
-        update: u32,
+        update: Update,
     ) -> Entered
         ensures { λ r. ⌜ r ≡ enter self (voteEntry process by store tx list commit update) ⌝ }
     {

@@ -4,6 +4,7 @@ ghost use Rattle.log_core.specs.Log.{emptyLog};
 ghost use Rattle.log_core.specs.Replay.{noReplay};
 use log_entry::limits::STORE_PLACES;
 use log_entry::limits::TRANSACTION_PLACES;
+use log_entry::limits::Update;
 use log_votes::Row;
 use log_votes::Tally;
 
@@ -78,7 +79,7 @@ pub struct Entered {
 pub struct Replayed {
     pub group: u8,
     pub tx: u8,
-    pub update: u32,
+    pub update: Update,
 }
 
 // A store's replay: its first `count` rows.

@@ -3,3 +3,4 @@ pub mod EqualEntries
 pub mod InsideLaws
 pub mod SetLaws
 pub mod Tests
+pub mod Theorems

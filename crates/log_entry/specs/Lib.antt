@@ -1,4 +1,5 @@
 pub mod Bits
+pub mod Claims
 pub mod Entry
 pub mod Limits
 pub mod Refusal

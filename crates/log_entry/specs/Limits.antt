@@ -18,9 +18,9 @@ processes = 15
 abbrev pub lists : ℕ
 lists = 2 ^ 8
 
--- an update is 32 bits, four bytes
+-- "Updates become 64 bits": eight bytes. Every other width of an update follows from this.
 abbrev pub updateBytes : ℕ
-updateBytes = 4
+updateBytes = 8
 
 abbrev pub updates : ℕ
 updates = 2 ^ (8 * updateBytes)

@@ -4,6 +4,7 @@ ghost use Rattle.log_entry.specs.Entry.{illFormed, noProcess, outside, s
 use limits::PROCESSES;
 use limits::STORES;
 use limits::TRANSACTIONS;
+use limits::Update;
 
 pub mod limits;
 pub mod refusal;
@@ -23,7 +24,7 @@ pub struct Entry {
     pub participants: u8,
     // Document 01's say: commit, and else abort.
     pub commit: bool,
-    pub update: u32,
+    pub update: Update,
 }
 
 // Whether no process has the number.
@@ -56,7 +57,7 @@ impl Entry {
         tx: u8,
         list: u8,
         commit: bool,
-        update: u32,
+        update: Update,
     ) -> Entry
         ensures { λ r. ⌜ r ≡ voteEntry process by store tx list commit update ⌝ }
     {

@@ -5,8 +5,10 @@ pub const TRANSACTIONS: u8 = 32;
 // The largest process; 0 means no holder.
 pub const PROCESSES: u8 = 15;
 
-// The bytes of an update.
-pub const UPDATE_BYTES: usize = 4;
+// An update, and how many bytes it has. Every other width of an update follows from these.
+pub type Update = u64;
+
+pub const UPDATE_BYTES: usize = 8;
 
 // Places in an array by store, and in one by transaction.
 pub const STORE_PLACES: usize = STORES as usize;

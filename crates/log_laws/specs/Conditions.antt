@@ -18,13 +18,13 @@ use Rattle.log_laws.specs.Votes.{KeptCommit}
 
 -- ---- 2: a number outside its limits
 
--- "Stores 0 to 7. Transactions (`tx`) 0 to 31." A list has bits for stores 0 to 7. "An update is 32
--- bits".
+-- "Stores 0 to 7. Transactions (`tx`) 0 to 31." A list has bits for stores 0 to 7. "Updates become
+-- 64 bits".
 pub record VoteInLimits (e : Entry) : Type 0 where
   pub by : e .by ≤ 7
   pub tx : e .tx ≤ 31
   pub list : e .participants < 2 ^ 8
-  pub update : e .update < 2 ^ 32
+  pub update : e .update < 2 ^ 64
 
 -- "Processes 1 to 15"; a take has a process and a store
 pub record InLimits (e : Entry) : Type 0 where

@@ -5,6 +5,7 @@ ghost use Rattle.log_votes.specs.Row.{emptyRow, keeping, noVote, voteOfS
 use log_entry::Entry;
 use log_entry::limits::STORE_PLACES;
 use log_entry::limits::STORES;
+use log_entry::limits::Update;
 
 mod involvements;
 mod outcomes;
@@ -20,7 +21,7 @@ pub struct Vote {
     pub participants: u8,
     pub process: u8,
     pub by: u8,
-    pub update: u32,
+    pub update: Update,
 }
 
 // A transaction: its votes by store, and its group, 0 if none.

@@ -2,6 +2,7 @@
 ghost use mathlib.Core.Path.{_≡_};
 ghost use Rattle.log_votes.specs.Row.{replays, voteOfStore};
 use crate::Row;
+use log_entry::limits::Update;
 
 impl Row {
     // Whether the transaction is of the group, with a kept commit vote of the store.
@@ -12,7 +13,7 @@ impl Row {
     }
 
     // The update of the store's vote, 0 if there is none.
-    pub fn update_of(self, store: u8) -> u32
+    pub fn update_of(self, store: u8) -> Update
         ensures { λ r. ⌜ r ≡ voteOfStore store self .update ⌝ }
     {
         self.vote_of(store).update

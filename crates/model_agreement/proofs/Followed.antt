@@ -22,7 +22,7 @@ use Rattle.log_laws.specs.TakenOver.{RowIn}
 use Rattle.log_laws.specs.Votes.{KeptCommit}
 use Rattle.log_laws.proofs.Theorems.{held-before-exactly, kept-vote-stays, outcome-never-changes}
 use Rattle.model_steps.specs.declared.Step.{Step}
-use Rattle.model_protocol.specs.Tables.{followsTaken, leftRunning, restoredOnce, stepsOf}
+use Rattle.model_protocol.specs.Tables.{followsTaken, leftRunning, restoredOnce, stepsOf, updateA}
 use Rattle.model_protocol.specs.declared.Batch.{Batch}
 use Rattle.model_protocol.specs.declared.World.{World}
 use Rattle.model_protocol.specs.Step.{run}
@@ -47,7 +47,7 @@ after = stepsOf (restoredOnce ++ leftRunning ++ followsTaken)
 
 -- the vote of the old holder, and its transaction
 pub old-vote-committed : KeptCommit (logOf (computed before) 0) 4 0
-    × (voteAt (logOf (computed before) 0) 4 0 .update ≡ 10)
+    × (voteAt (logOf (computed before) 0) 4 0 .update ≡ updateA)
     × (voteAt (logOf (computed before) 0) 4 0 .process ≡ 1)
     × (outcomeOf (logOf (computed before) 0) 4 ≡ outcome.Commit)
     × (holderOf (logOf (computed before) 0) 0 ≡ 2)
@@ -66,17 +66,17 @@ unfolding computed restoredOnce leftRunning
 one-row = (refl, refl)
 
 -- in neither
-pub not-held-before : Holds (restoredOf 2 (history before)) 4 10 → ⊥
+pub not-held-before : Holds (restoredOf 2 (history before)) 4 updateA → ⊥
 unfolding computed restoredOnce leftRunning
 not-held-before (inl r) =
-    other-row (restoredTo (computed before) 2) 4 10 (one-row .0) (λ e. omega (arith, one-row .1, e))
-    (subst (λ (y : Replay). RowIn y 4 10) (sym (demand-3 before .restored-replay 2)) r)
+    other-row (restoredTo (computed before) 2) 4 updateA (one-row .0) (λ e. omega (arith, one-row .1, e))
+    (subst (λ (y : Replay). RowIn y 4 updateA) (sym (demand-3 before .restored-replay 2)) r)
 not-held-before (inr t) = opposed (demand-3 before .restored-follows 2 _ .1 t .0) refl
 
 -- in one
-pub held-after : Holds (restoredOf 2 (history after)) 4 10
+pub held-after : Holds (restoredOf 2 (history after)) 4 updateA
 unfolding computed restoredOnce leftRunning followsTaken
-held-after = inr (demand-3 after .restored-follows 2 (record { tx = 4; outcome = outcome.Commit; update = 10 }) .0 (refl, refl))
+held-after = inr (demand-3 after .restored-follows 2 (record { tx = 4; outcome = outcome.Commit; update = updateA }) .0 (refl, refl))
 
 -- ---- the claim says so too: nothing is lost, and what it asks for is there
 

@@ -14,7 +14,7 @@ use Rattle.model_protocol.specs.declared.Process.{Process}
 use Rattle.model_protocol.specs.declared.World.{World}
 use Rattle.model_protocol.specs.Process.{takesFollow}
 use Rattle.model_protocol.specs.Queue.{queued}
-use Rattle.model_protocol.specs.Tables.{Holds, Tried, acceptPromises, answersTheDown, asDefined, ballotsOfOne, beforeSetup, downAndBelief, followsTaken, fullQueue, learnsAnothers, leftRunning, noneToFollow, numbersUsed, ofFive, opensWithThree, otherInstance, proposesWithThree, receiversDown, restoredAnew, restoredOnce, stepsOf, takenOver, threeLeft, told}
+use Rattle.model_protocol.specs.Tables.{Holds, Tried, acceptPromises, answersTheDown, asDefined, ballotsOfOne, beforeSetup, downAndBelief, followsTaken, fullQueue, learnsAnothers, leftRunning, noneToFollow, numbersUsed, ofFive, opensWithThree, otherInstance, proposesWithThree, receiversDown, restoredAnew, restoredOnce, stepsOf, takenOver, threeLeft, told, updateA, updateB}
 use Rattle.model_protocol.specs.World.{coordinatorOf, followsOf, logOf, noFollowed, messageOf, processOf, restoredTo, slotOf}
 use Rattle.model_protocol.proofs.Compute.{computed}
 
@@ -142,7 +142,7 @@ pub restored-last : (processOf (after restoredOnce) 1 .position ≡ 1)
     × (rowsOf (after restoredOnce) 1 ≡ [])
     × (processOf (after (restoredOnce ++ told)) 1 .position ≡ 2)
     × (processOf (after (restoredOnce ++ told)) 1 .store ≡ 0)
-    × (rowsOf (after (restoredOnce ++ told)) 1 ≡ record { group = 1; tx = 4; update = 10 } ∷ [])
+    × (rowsOf (after (restoredOnce ++ told)) 1 ≡ record { group = 1; tx = 4; update = updateA } ∷ [])
 unfolding computed restoredOnce told
 restored-last = (refl, refl, refl, refl, refl)
 
@@ -157,7 +157,7 @@ restored-other = (refl, refl, refl)
 -- 4 and 6, and no follow was taken yet
 pub listed-running : (processOf (after (restoredOnce ++ leftRunning)) 2 .running ≡ 0x50)
     × (processOf (after (restoredOnce ++ leftRunning)) 2 .followed ≡ 0)
-    × (rowsOf (after (restoredOnce ++ leftRunning)) 2 ≡ record { group = 1; tx = 5; update = 11 } ∷ [])
+    × (rowsOf (after (restoredOnce ++ leftRunning)) 2 ≡ record { group = 1; tx = 5; update = updateB } ∷ [])
     × (processOf (after (restoredOnce ++ leftRunning)) 3 .running ≡ 0)
 unfolding computed restoredOnce leftRunning
 listed-running = (refl, refl, refl, refl)
@@ -168,7 +168,7 @@ followOf w p tx = getD (followsOf w p .of) tx noFollowed
 -- "the outcome and the update (0 if aborted)"
 pub follows-kept : (processOf (after (restoredOnce ++ leftRunning ++ followsTaken)) 2 .running ≡ 0x50)
     × (processOf (after (restoredOnce ++ leftRunning ++ followsTaken)) 2 .followed ≡ 0x50)
-    × (followOf (after (restoredOnce ++ leftRunning ++ followsTaken)) 2 4 ≡ record { outcome = outcome.Commit; update = 10 })
+    × (followOf (after (restoredOnce ++ leftRunning ++ followsTaken)) 2 4 ≡ record { outcome = outcome.Commit; update = updateA })
     × (followOf (after (restoredOnce ++ leftRunning ++ followsTaken)) 2 6 ≡ record { outcome = outcome.Abort; update = 0 })
     × (processOf (after (restoredOnce ++ leftRunning ++ followsTaken)) 3 .followed ≡ 0)
     × (processOf (after (restoredOnce ++ leftRunning ++ followsTaken)) 1 .followed ≡ 0)
@@ -180,7 +180,7 @@ follows-kept = (refl, refl, refl, refl, refl, refl)
 pub begins-anew : (processOf (after (restoredOnce ++ leftRunning ++ followsTaken ++ restoredAnew)) 2 .running ≡ 0)
     × (processOf (after (restoredOnce ++ leftRunning ++ followsTaken ++ restoredAnew)) 2 .followed ≡ 0)
     × (rowsOf (after (restoredOnce ++ leftRunning ++ followsTaken ++ restoredAnew)) 2
-    ≡ record { group = 1; tx = 4; update = 10 } ∷ record { group = 1; tx = 5; update = 11 } ∷ [])
+    ≡ record { group = 1; tx = 4; update = updateA } ∷ record { group = 1; tx = 5; update = updateB } ∷ [])
 unfolding computed restoredOnce leftRunning followsTaken restoredAnew
 begins-anew = (refl, refl, refl)
 

@@ -33,6 +33,13 @@ Holds table = asDefined freshWorld table ≡ table
 abbrev pub stepsOf : List Tried → List Step
 stepsOf table = map (λ (t : Tried). t .step) table
 
+-- two updates; no part of either is 0 or repeats
+abbrev pub updateA : ℕ
+updateA = 0x0123456789abcdef
+
+abbrev pub updateB : ℕ
+updateB = 0xfedcba9876543210
+
 -- ---- before setup: 2 goes before 4 and 5, and 4 before 5; "before setup five acceptors count"
 
 unfoldable pub beforeSetup : List Tried
@@ -95,12 +102,12 @@ unfoldable pub restoredOnce : List Tried
 restoredOnce =
     (Setup 3 gives 0) ∷ (Request (takeEntry 1 0) 0 gives 0)
     -- nobody believes anything yet
-    ∷ (Request (voteEntry 1 0 0 4 0x01 true 10) 0 gives 5)
+    ∷ (Request (voteEntry 1 0 0 4 0x01 true updateA) 0 gives 5)
     ∷ (Deliver 0 gives 0) ∷ (Open 0 0 3 gives 0) ∷ (Deliver 1 gives 0) ∷ (Deliver 2 gives 0) ∷ (Deliver 4 gives 0) ∷ (Deliver 5 gives 0)
     ∷ (Propose 0 0 3 gives 0) ∷ (Deliver 6 gives 0) ∷ (Deliver 7 gives 0) ∷ (Restore 0 1 gives 5) ∷ (Deliver 9 gives 0) ∷ (Restore 0 1 gives 5)
     ∷ (Deliver 10 gives 0)
     -- by this coordinator's log: coordinator 1 has applied nothing, and process 2 holds nothing
-    ∷ (Restore 1 1 gives 5) ∷ (Restore 0 2 gives 5) ∷ (Restore 0 1 gives 0) ∷ (Request (voteEntry 1 0 0 4 0x01 true 10) 0 gives 5)
+    ∷ (Restore 1 1 gives 5) ∷ (Restore 0 2 gives 5) ∷ (Restore 0 1 gives 0) ∷ (Request (voteEntry 1 0 0 4 0x01 true updateA) 0 gives 5)
     ∷ (Deliver 12 gives 4) ∷ (Deliver 11 gives 0)
     ∷ []
 
@@ -109,16 +116,17 @@ restoredOnce =
 unfoldable pub downAndBelief : List Tried
 downAndBelief =
     -- 7: list without `store`, list without `by`, commit on behalf, abort with an update
-    (Request (voteEntry 1 0 0 4 0x02 true 10) 0 gives 7) ∷ (Request (voteEntry 1 0 1 4 0x02 false 0) 0 gives 7)
+    (Request (voteEntry 1 0 0 4 0x02 true updateA) 0 gives 7) ∷ (Request (voteEntry 1 0 1 4 0x02 false 0) 0 gives 7)
     ∷ (Request (voteEntry 1 0 1 4 0x03 true 0) 0 gives 7) ∷ (Request (voteEntry 1 0 0 4 0x01 false 1) 0 gives 7)
+    ∷ (Request (voteEntry 1 0 0 4 0x01 false 0x100000000) 0 gives 7)
     -- 5: it does not believe that it holds `by`
-    ∷ (Request (voteEntry 1 1 1 4 0x01 true 10) 0 gives 5) ∷ (Request (voteEntry 2 0 0 4 0x02 true 10) 0 gives 5)
+    ∷ (Request (voteEntry 1 1 1 4 0x01 true updateA) 0 gives 5) ∷ (Request (voteEntry 2 0 0 4 0x02 true updateA) 0 gives 5)
     ∷ (Tell 0 1 4 gives 5)
     -- a crash is for good
     ∷ (Crash Proc 1 gives 0) ∷ (Crash Coord 1 gives 0) ∷ (Crash Acceptor 2 gives 0)
     ∷ (Crash Proc 1 gives 3) ∷ (Crash Coord 1 gives 3) ∷ (Crash Acceptor 2 gives 3) ∷ (Crash Proc 16 gives 2)
     -- the acting party, or the one in `to`, `proc` or `id`
-    ∷ (Request (voteEntry 1 1 0 4 0x02 true 10) 0 gives 3) ∷ (Request (takeEntry 1 1) 0 gives 3) ∷ (Request (takeEntry 2 1) 1 gives 3)
+    ∷ (Request (voteEntry 1 1 0 4 0x02 true updateA) 0 gives 3) ∷ (Request (takeEntry 1 1) 0 gives 3) ∷ (Request (takeEntry 2 1) 1 gives 3)
     ∷ (Request (takeEntry 2 8) 1 gives 2)
     ∷ (Open 1 1 4 gives 3) ∷ (Propose 1 1 4 gives 3) ∷ (Tell 1 2 4 gives 3) ∷ (Tell 0 1 4 gives 3) ∷ (Tell 1 1 32 gives 2)
     ∷ (Restore 0 1 gives 3) ∷ (Restore 1 2 gives 3) ∷ (Follow 0 1 4 gives 3) ∷ (Follow 1 2 4 gives 3) ∷ (Follow 1 1 32 gives 2)
@@ -159,7 +167,7 @@ numbersUsed =
     ∷ (Open 0 1 108 gives 6) ∷ (Propose 0 1 105 gives 6) ∷ (Open 0 1 109 gives 5) ∷ (Propose 0 1 108 gives 5)
     ∷ (Request (takeEntry 6 5) 0 gives 0) ∷ (Request (takeEntry 7 6) 0 gives 0)
     -- none is left
-    ∷ (Request (takeEntry 8 7) 0 gives 6) ∷ (Request (voteEntry 1 0 0 4 0x02 true 10) 0 gives 6) ∷ (Request (voteEntry 1 1 0 4 0x02 true 10) 0 gives 5)
+    ∷ (Request (takeEntry 8 7) 0 gives 6) ∷ (Request (voteEntry 1 0 0 4 0x02 true updateA) 0 gives 6) ∷ (Request (voteEntry 1 1 0 4 0x02 true updateA) 0 gives 5)
     ∷ (Restore 0 1 gives 6) ∷ (Restore 0 2 gives 5) ∷ (Tell 0 1 4 gives 5)
     -- a promise and an acceptance need one; a prepare or an accept that does nothing and the other
     -- messages need none
@@ -239,8 +247,8 @@ unfoldable pub told : List Tried
 told =
     -- process 1 commits 4 and aborts 5 and, on behalf of store 1, 6; transaction 7 waits for store
     -- 1
-    (Request (voteEntry 1 0 0 4 0x01 true 10) 0 gives 0) ∷ (Request (voteEntry 1 0 0 5 0x01 false 0) 0 gives 0)
-    ∷ (Request (voteEntry 1 0 1 6 0x03 false 0) 0 gives 0) ∷ (Request (voteEntry 1 0 0 7 0x03 true 11) 0 gives 0)
+    (Request (voteEntry 1 0 0 4 0x01 true updateA) 0 gives 0) ∷ (Request (voteEntry 1 0 0 5 0x01 false 0) 0 gives 0)
+    ∷ (Request (voteEntry 1 0 1 6 0x03 false 0) 0 gives 0) ∷ (Request (voteEntry 1 0 0 7 0x03 true updateB) 0 gives 0)
     ∷ (Deliver 12 gives 0) ∷ (Deliver 13 gives 0) ∷ (Deliver 14 gives 0) ∷ (Deliver 15 gives 0) ∷ (Open 0 1 3 gives 0) ∷ (Deliver 16 gives 0)
     ∷ (Deliver 17 gives 0) ∷ (Deliver 19 gives 0) ∷ (Deliver 20 gives 0) ∷ (Propose 0 1 3 gives 0) ∷ (Deliver 21 gives 0) ∷ (Deliver 22 gives 0)
     ∷ (Deliver 24 gives 0) ∷ (Tell 0 1 4 gives 5) ∷ (Deliver 25 gives 0)
@@ -271,12 +279,12 @@ takenOver =
     ∷ (Deliver 17 gives 0) ∷ (Propose 0 1 3 gives 0) ∷ (Deliver 18 gives 0) ∷ (Deliver 19 gives 0) ∷ (Deliver 21 gives 0) ∷ (Deliver 22 gives 0)
     -- the old holder is not restored; it still believes, and what it sends is refused when it is
     -- applied
-    ∷ (Restore 0 1 gives 5) ∷ (Request (takeEntry 1 1) 0 gives 0) ∷ (Deliver 23 gives 0) ∷ (Request (voteEntry 1 0 0 4 0x01 true 10) 0 gives 0)
+    ∷ (Restore 0 1 gives 5) ∷ (Request (takeEntry 1 1) 0 gives 0) ∷ (Deliver 23 gives 0) ∷ (Request (voteEntry 1 0 0 4 0x01 true updateA) 0 gives 0)
     ∷ (Deliver 24 gives 0) ∷ (Open 0 2 3 gives 0) ∷ (Deliver 25 gives 0) ∷ (Deliver 26 gives 0) ∷ (Deliver 28 gives 0) ∷ (Deliver 29 gives 0)
     ∷ (Propose 0 2 3 gives 0) ∷ (Deliver 30 gives 0) ∷ (Deliver 31 gives 0) ∷ (Deliver 33 gives 0) ∷ (Deliver 34 gives 0) ∷ (Tell 0 1 4 gives 5)
     -- with the restore of store 1 it believes it holds that and no other
     ∷ (Restore 0 1 gives 0) ∷ (Request (voteEntry 1 1 1 5 0x02 true 1) 0 gives 5) ∷ (Deliver 35 gives 0)
-    ∷ (Request (voteEntry 1 0 0 4 0x01 true 10) 0 gives 5) ∷ (Request (voteEntry 1 1 1 5 0x02 true 1) 0 gives 0)
+    ∷ (Request (voteEntry 1 0 0 4 0x01 true updateA) 0 gives 5) ∷ (Request (voteEntry 1 1 1 5 0x02 true 1) 0 gives 0)
     ∷ []
 
 -- ---- after a restore: process 1 votes, and its store is taken over while two transactions run
@@ -284,7 +292,7 @@ takenOver =
 unfoldable pub leftRunning : List Tried
 leftRunning =
     -- process 1 commits 5 alone, and 4 and 6 with store 1; process 3 takes store 1
-    (Request (voteEntry 1 0 0 4 0x03 true 10) 0 gives 0) ∷ (Request (voteEntry 1 0 0 5 0x01 true 11) 0 gives 0)
+    (Request (voteEntry 1 0 0 4 0x03 true updateA) 0 gives 0) ∷ (Request (voteEntry 1 0 0 5 0x01 true updateB) 0 gives 0)
     ∷ (Request (voteEntry 1 0 0 6 0x03 true 12) 0 gives 0) ∷ (Request (takeEntry 3 1) 0 gives 0)
     ∷ (Deliver 12 gives 0) ∷ (Deliver 13 gives 0) ∷ (Deliver 14 gives 0) ∷ (Deliver 15 gives 0) ∷ (Open 0 1 3 gives 0) ∷ (Deliver 16 gives 0)
     ∷ (Deliver 17 gives 0) ∷ (Deliver 19 gives 0) ∷ (Deliver 20 gives 0) ∷ (Propose 0 1 3 gives 0) ∷ (Deliver 21 gives 0) ∷ (Deliver 22 gives 0)

@@ -11,6 +11,7 @@ use log_core::Log;
 use log_core::Replay;
 use log_entry::Entry;
 use log_entry::limits::TRANSACTION_PLACES;
+use log_entry::limits::Update;
 
 pub mod limits;
 
@@ -63,7 +64,7 @@ pub struct Message {
     pub position: u8,
     pub running: u32,
     // Of a follow: the update of the store's commit vote, 0 if the transaction was aborted.
-    pub update: u32,
+    pub update: Update,
 }
 
 // What an acceptor holds of an instance, 0 at first.
@@ -124,7 +125,7 @@ pub struct Process {
 // What a follow says of its transaction.
 pub struct Followed {
     pub outcome: Outcome,
-    pub update: u32,
+    pub update: Update,
 }
 
 // The follows that a process took, by transaction.

@@ -23,9 +23,8 @@ use Rattle.log_votes.specs.Refusal.{anyClash, voteChecks}
 use Rattle.text_entry.specs.declared.Reading.{Reading}
 use Rattle.text_entry.specs.declared.Reading.the-variants.{Read, Outside, Unreadable}
 use Rattle.text_entry.specs.Claims.{IsText}
-use Rattle.text_entry.specs.Entry.{HasText, beyond, reading, readingOf, text}
-use Rattle.text_entry.proofs.Agreement.{outside-line-is-text, read-line-is-text, text-reads-back}
-use Rattle.text_entry.proofs.Beyond.{beyond-is-outside}
+use Rattle.text_entry.specs.Entry.{beyond, reading, readingOf}
+use Rattle.text_entry.proofs.Agreement.{outside-line-is-text, read-line-is-text, reads-exactly, text-beyond}
 use Rattle.text_lines.specs.Lines.{maxLineBytes}
 use Rattle.plain_run.specs.Claims.{Answered2IsOutside, LongLineIsUnreadable, OtherLineIsUnreadable, TextIsEntered, TextOutsideLimits}
 use Rattle.plain_run.specs.Plain.{enterLine, entering}
@@ -37,16 +36,16 @@ short-line : (l : Log) (s : List ℕ) → length s ≤ maxLineBytes → enterLin
 unfolding enterLine
 short-line l s h = rw (le-ltb maxLineBytes (length s) h)
 
-entered : (l : Log) (e : Entry) → HasText e → (b : Bool) → beyond e ≡ b → entering l (cond b Outside (Read e)) ≡ enter l e
-entered l e t true h = sym (enter-outside l e (beyond-is-outside e t h))
-entered l e t false h = refl
+entered : (l : Log) (s : List ℕ) (e : Entry) → IsText s e → (b : Bool) → beyond e ≡ b → entering l (cond b Outside (Read e)) ≡ enter l e
+entered l s e t true h = sym (enter-outside l e (text-beyond s e t h))
+entered l s e t false h = refl
 
 pub text-is-entered : TextIsEntered
-text-is-entered l e t h =
-    short-line l (text e) h ∙ ap (λ (o : Option Entry). entering l (readingOf o)) (text-reads-back e t) ∙ entered l e t (beyond e) refl
+text-is-entered l s e t h =
+    short-line l s h ∙ ap (λ (o : Option Entry). entering l (readingOf o)) (reads-exactly s e .1 t) ∙ entered l s e t (beyond e) refl
 
 pub text-outside-limits : TextOutsideLimits
-text-outside-limits l e t h o = text-is-entered l e t h ∙ enter-outside l e o
+text-outside-limits l s e t h o = text-is-entered l s e t h ∙ enter-outside l e o
 
 pub long-line-is-unreadable : LongLineIsUnreadable
 unfolding enterLine

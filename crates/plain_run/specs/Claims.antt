@@ -10,22 +10,21 @@ use Rattle.log_entry.specs.Refusal.{outsideLimits, unreadable}
 use Rattle.log_core.specs.declared.Log.{Log}
 use Rattle.log_core.specs.Enter.{answered, enter}
 use Rattle.text_entry.specs.Claims.{IsText}
-use Rattle.text_entry.specs.Entry.{HasText, text}
 use Rattle.text_lines.specs.Feed.{fedAll, finished, fresh, joined}
 use Rattle.text_lines.specs.Lines.{maxLineBytes}
 use Rattle.plain_run.specs.Plain.{enterLine, plain}
 use Rattle.plain_run.specs.Session.{answerLine, freshSession, isOver, output}
 
--- The text of an entry, if it is not over 100 bytes, is entered: its answer is the log's.
+-- A text of an entry, if it is not over 100 bytes, is entered: its answer is the log's.
 abbrev pub TextIsEntered : Type 0
-TextIsEntered = (l : Log) (e : Entry) → HasText e → length (text e) ≤ maxLineBytes → enterLine l (text e) ≡ enter l e
+TextIsEntered = (l : Log) (s : List ℕ) (e : Entry) → IsText s e → length s ≤ maxLineBytes → enterLine l s ≡ enter l e
 
--- The text of an entry with a number outside its limits is answered 2, and the log stays as it was.
+-- A text of an entry with a number outside its limits is answered 2, and the log stays as it was.
 abbrev pub TextOutsideLimits : Type 0
 TextOutsideLimits =
-    (l : Log) (e : Entry) → HasText e → length (text e) ≤ maxLineBytes → outside e ≡ true → enterLine l (text e) ≡ answered l outsideLimits
+    (l : Log) (s : List ℕ) (e : Entry) → IsText s e → length s ≤ maxLineBytes → outside e ≡ true → enterLine l s ≡ answered l outsideLimits
 
--- Every line that is the text of no entry is answered 1, and the log stays as it was.
+-- Every line that is a text of no entry is answered 1, and the log stays as it was.
 abbrev pub OtherLineIsUnreadable : Type 0
 OtherLineIsUnreadable = (l : Log) (s : List ℕ) → ((e : Entry) → IsText s e → ⊥) → enterLine l s ≡ answered l unreadable
 
@@ -33,7 +32,7 @@ OtherLineIsUnreadable = (l : Log) (s : List ℕ) → ((e : Entry) → IsText s e
 abbrev pub LongLineIsUnreadable : Type 0
 LongLineIsUnreadable = (l : Log) (s : List ℕ) → maxLineBytes < length s → enterLine l s ≡ answered l unreadable
 
--- A line answered 2 is the text of an entry with natural numbers of any size, one of them outside
+-- A line answered 2 is a text of an entry with natural numbers of any size, one of them outside
 -- its limits.
 abbrev pub Answered2IsOutside : Type 0
 Answered2IsOutside = (l : Log) (s : List ℕ) → enterLine l s .answer ≡ outsideLimits → (e : Entry) × IsText s e × (outside e ≡ true)

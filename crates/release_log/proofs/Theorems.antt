@@ -7,11 +7,13 @@ use borrow.Author.Tests.{eq-eqb, le-ltb, ltb-false}
 use lib.Dec.{ltb}
 use lib.ListN.{length}
 use lib.Seq.{length-sets, sets}
+use Rattle.log_entry.specs.Limits.{updateBytes}
 use Rattle.log_entry.specs.Refusal.{accepted}
 use Rattle.log_core.specs.declared.Entered.{Entered}
 use Rattle.log_core.specs.declared.Log.{Log}
 use Rattle.log_core.specs.Enter.{answered, enter, feed}
 use Rattle.log_core.specs.Log.{emptyLog}
+use Rattle.host_records.proofs.LowFirst.{low-first-back}
 use Rattle.host_records.proofs.Theorems.{read-is-proper, record-reads-back}
 use Rattle.host_records.specs.declared.Numbers.{Numbers}
 use Rattle.host_records.specs.declared.Reading.the-variants.{Of}
@@ -22,7 +24,7 @@ use Rattle.release_log.proofs.AddLaws.{count-fits}
 use Rattle.release_log.proofs.FedLaws.{logAfter-more, records-fed}
 use Rattle.release_log.proofs.RecordsLaws.{records-stored}
 use Rattle.release_log.specs.Add.{addAnswer, addBytes}
-use Rattle.release_log.specs.Claims.{AddedEntryIsEntered, FilledIsAccepted, LentLogIsFed}
+use Rattle.release_log.specs.Claims.{AddedEntryIsEntered, FilledIsAccepted, LentLogIsFed, RowReadsBack}
 use Rattle.host_lent.specs.Lent.{enterReading, lentLog, logAfter, recordsIn}
 use Rattle.release_log.specs.Filled.{Filled, added, empty, entriesIn}
 
@@ -95,3 +97,6 @@ filled (added {bytes} {count} n f h) = ap (λ (t : Entered). t .answer) (added-e
 
 pub filled-is-accepted : FilledIsAccepted
 filled-is-accepted bytes count f = filled f
+
+pub row-reads-back : RowReadsBack
+row-reads-back r h = (refl, λ i. record { group = r .group; tx = r .tx; update = low-first-back updateBytes (r .update) h i })

@@ -53,9 +53,13 @@ involvementQuery bytes count tx store = record {
   value = involvementNumber (involvementOf (lentLog bytes count .log) tx store) ∷ [];
 }
 
--- "six bytes a row: group, tx, update"
+-- where the update begins in a row
+abbrev pub rowUpdateAt : ℕ
+rowUpdateAt = 2
+
+-- "a replay row [grows] to ten" bytes: group, tx, update
 abbrev pub rowSize : ℕ
-rowSize = 2 + updateBytes
+rowSize = rowUpdateAt + updateBytes
 
 abbrev pub rowBytes : Replayed → List ℕ
 rowBytes r = r .group ∷ r .tx ∷ lowFirst updateBytes (r .update)
@@ -64,7 +68,7 @@ unfoldable pub rowsBytes : List Replayed → List ℕ
 rowsBytes [] = []
 rowsBytes (r ∷ rs) = rowBytes r ++ rowsBytes rs
 
--- "for a replay a byte with the number of rows, then six bytes a row"
+-- "for a replay a byte with the number of rows", then the rows
 abbrev pub replayValue : List Replayed → List ℕ
 replayValue rows = length rows ∷ rowsBytes rows
 

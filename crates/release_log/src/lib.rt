@@ -17,6 +17,7 @@ use log_core::Log;
 use log_entry::Entry;
 use log_entry::limits::STORES;
 use log_entry::limits::TRANSACTIONS;
+use log_entry::limits::Update;
 use log_entry::refusal::ACCEPTED;
 use log_entry::refusal::OUTSIDE_LIMITS;
 
@@ -54,7 +55,7 @@ pub extern "C" fn release_log_add(
     tx: u32,
     list: u32,
     say: u32,
-    update: u32,
+    update: Update,
 ) -> u32
     ensures { λ r. ⌜ r ≡ addAnswer (now (records .entry)) count (numbers kind process by store tx list say update) ⌝ }
     ensures { λ r. ⌜ now (records .exit) ≡ addBytes (now (records .entry)) count (numbers kind process by store tx list say update) ⌝ }

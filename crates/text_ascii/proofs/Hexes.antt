@@ -1,7 +1,8 @@
 -- The bytes of hexadecimal digits and their numbers.
-use Prim.Native.Nat.{ℕ, suc, _≤_, _<_, _+_, _-_, _*_, _/_, _%_}
+use Prim.Native.Nat.{ℕ, suc, _≤_, _<_, _+_, _-_, _*_, _/_, _%_, _^_}
 use native.Mathlib.Omega.{arith}
 use native.Mathlib.Decide.{decLt}
+use native.Mathlib.Nat.{pow-suc}
 use mathlib.Core.Bool.{Bool, true, false, _&&_, _||_, cond}
 use mathlib.Core.Logic.{_⊎_, inl, inr, ⊎-elim}
 use mathlib.Core.List.{List, [], _∷_, _++_}
@@ -10,7 +11,7 @@ use lib.Dec.{leb, ltb}
 use lib.ListN.{length, length-append}
 use borrow.Author.Tests.{lt-ltb, le-ltb, le-leb, lt-leb, leb-true, leb-false}
 use Rattle.text_ascii.specs.Decimal.{isDigit}
-use Rattle.text_ascii.specs.Hex.{hexDigit, hex, isHexDigit, hexDigitOf, hexGrown}
+use Rattle.text_ascii.specs.Hex.{hexDigit, hex, isHexDigit, hexDigitOf, hexGrown, hexNumber}
 use Rattle.text_ascii.proofs.Decimals.{is-digit-low, is-digit-high}
 use Rattle.text_ascii.proofs.Words.{both-l, both-r}
 
@@ -98,3 +99,18 @@ pub hex-length : (k n : ℕ) → length (hex k n) ≡ k
 unfolding hex
 hex-length ℕ.zero n = refl
 hex-length (suc k) n = length-append (hex k (n / 16)) (hexDigit (n % 16) ∷ []) ∙ omega (arith, hex-length k (n / 16))
+
+number-more : (n : ℕ) (s t : List ℕ) → hexNumber n (s ++ t) ≡ hexNumber (hexNumber n s) t
+unfolding hexNumber
+number-more n [] t = refl
+number-more n (c ∷ s) t = number-more (hexGrown n c) s t
+
+-- the digits of a number are that number
+pub hex-number : (k n : ℕ) → n < 16 ^ k → hexNumber 0 (hex k n) ≡ n
+unfolding hex hexNumber
+hex-number ℕ.zero n h = omega arith
+hex-number (suc k) n h =
+    let p : n < 16 ^ k * 16 = subst (λ (m : ℕ). n < m) (pow-suc 16 k) h in
+    number-more 0 (hex k (n / 16)) (hexDigit (n % 16) ∷ [])
+    ∙ (λ i. hex-number k (n / 16) (omega arith) i * 16 + hex-digit-number (n % 16) (omega arith) i)
+    ∙ omega arith

@@ -6,14 +6,15 @@ ghost use mathlib.Core.List.{[], _∷_};
 ghost use Rattle.text_ascii.specs.Decimal.{decimal as Decimal·decimal};
 ghost use Rattle.text_ascii.specs.Hex.{hexDigit, hex as Hex·hex};
 ghost use Rattle.text_ascii.specs.Wrote.{Wrote};
+use log_entry::limits::UPDATE_BYTES;
+use log_entry::limits::Update;
 
-// A byte holds the numbers below this one.
-pub const BYTE_NUMBERS: u32 = 256;
-
-// A list is two hexadecimal digits, an update eight.
+// A list is two hexadecimal digits, an update two for each of its bytes.
 pub const LIST_DIGITS: u32 = 2;
 
-pub const UPDATE_DIGITS: u32 = 8;
+pub const UPDATE_DIGITS: u32 = 2 * UPDATE_BYTES as u32;
+// An update had as many earlier.
+pub const EARLIER_DIGITS: u32 = 8;
 
 pub fn byte(out: &mut [u8], at: usize, b: u8) -> usize
     ensures { λ r. ⌜ Wrote (now (out .entry)) at (b ∷ []) (now (out .exit)) r ⌝ }
@@ -47,7 +48,7 @@ pub fn decimal(out: &mut [u8], at: usize, n: u32) -> usize
 }
 
 // The last hexadecimal digits of a number, as many as asked.
-pub fn hex(out: &mut [u8], at: usize, digits: u32, n: u32) -> usize
+pub fn hex(out: &mut [u8], at: usize, digits: u32, n: Update) -> usize
     ensures { λ r. ⌜ Wrote (now (out .entry)) at (Hex·hex digits n) (now (out .exit)) r ⌝ }
 {
     if digits == 0 {
@@ -57,7 +58,7 @@ pub fn hex(out: &mut [u8], at: usize, digits: u32, n: u32) -> usize
     byte(out, next, hex_digit(n % 16))
 }
 
-fn hex_digit(d: u32) -> u8
+fn hex_digit(d: Update) -> u8
     requires { ⌜ d < 16 ⌝ }
     ensures { λ r. ⌜ r ≡ hexDigit d ⌝ }
 {

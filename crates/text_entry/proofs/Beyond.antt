@@ -10,7 +10,7 @@ use borrow.Author.Tests.{leb-true, le-leb, lt-ltb}
 use Rattle.log_entry.specs.declared.Entry.{Entry}
 use Rattle.log_entry.specs.Entry.{noProcess, outside}
 use Rattle.log_entry.specs.Limits.{stores, transactions, processes, lists, updates}
-use Rattle.text_entry.specs.Entry.{HasText, beyond, numbers}
+use Rattle.text_entry.specs.Entry.{HasTextIn, beyond, numbers}
 use Rattle.text_entry.specs.Table.{anyBeyond, noByte}
 
 -- one of the numbers is beyond a byte
@@ -73,8 +73,8 @@ module _ (e : Entry) where
 no-number : (n : ℕ) → n ≡ 0 → 256 ≤ n → ⊥
 no-number n h k = omega arith
 
-pub beyond-is-outside : (e : Entry) → HasText e → beyond e ≡ true → outside e ≡ true
-beyond-is-outside e (inl h) =
+pub beyond-is-outside : (digits : ℕ) (e : Entry) → HasTextIn digits e → beyond e ≡ true → outside e ≡ true
+beyond-is-outside digits e (inl h) =
     beyond-cases (outside e ≡ true) (numbers e) (
       process-outside e,
       (
@@ -88,7 +88,7 @@ beyond-is-outside e (inl h) =
         ),
       ),
     )
-beyond-is-outside e (inr h) =
+beyond-is-outside digits e (inr h) =
     beyond-cases (outside e ≡ true) (numbers e) (
       process-outside e,
       ((λ m. by-outside e m (h .0)), (store-outside e, ((λ m. tx-outside e m (h .0)), ((λ m. list-outside e m (h .0)), tt)))),

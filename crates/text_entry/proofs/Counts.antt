@@ -8,7 +8,7 @@ use mathlib.Core.Option.{Option, none, some}
 use mathlib.Core.Path.{_≡_, refl, sym, _∙_, ap}
 use lib.ListN.{getD}
 use borrow.Author.Tests.{le-leb}
-use Rattle.text_entry.specs.Fields.{Form, inDecimal, inHex, inWords, Field, field, Kind, nameText}
+use Rattle.text_entry.specs.Fields.{Form, inDecimal, inHex, inHexOr, inWords, Field, field, Kind, nameText}
 use Rattle.text_entry.specs.Parts.{counted}
 use Rattle.text_entry.specs.Read.{Part, part, after, readFields, readKind}
 use Rattle.text_ascii.specs.Decimal.{byteNumbers}
@@ -35,6 +35,7 @@ beyond-later n ns h = elim (noByte n) as (λ b. (b || anyBeyond ns) ≡ true) [ 
 counted-zero : (f : Form) → counted f 0 ≡ 0
 counted-zero inDecimal = refl
 counted-zero (inHex k) = refl
+counted-zero (inHexOr k j) = refl
 counted-zero (inWords ws) = refl
 
 pub at-counts : (fs : List Field) (vs : List ℕ) (i : ℕ) → at (counts fs vs) i ≡ counted (getD fs i (field [] (inHex 0)) .form) (at vs i)

@@ -11,7 +11,8 @@ use lib.ListN.{length, drop, getD, drop-of-length-le}
 use lib.Seq.{drop-cons}
 use native.Mathlib.Decide.{decLt}
 use Rattle.text_ascii.specs.Decimal.{beginsDigit, byteNumbers, grown, isDigit}
-use Rattle.text_ascii.specs.Hex.{beginsHexDigit, isHexDigit, hexGrown}
+use Rattle.log_entry.specs.Limits.{updates}
+use Rattle.text_ascii.specs.Hex.{beginsHexDigit, isHexDigit, hexGrown, updateDigits}
 use Rattle.text_ascii.proofs.Decimals.{is-digit-low, is-digit-high}
 use Rattle.text_entry.specs.Fields.{inDecimal}
 use Rattle.text_entry.specs.Read.{part, unreadable, leadingZero, readDigits, readDecimal, readHex, readValue}
@@ -109,9 +110,9 @@ unfolding readHex
 hex-end s ℕ.zero n h = refl
 hex-end s (suc left) n h = absurd (omega arith)
 
--- one digit more after n of them; with eight, the number fits 32 bits
+-- one digit more after n of them; with those of an update, the number is an update
 pub hex-grown : (done n d : ℕ) → n < 16 ^ done → d < 16 → n * 16 + d < 16 ^ (done + 1)
 hex-grown done n d h k = rw (add-one, pow-suc) (omega arith)
 
-pub hex-fits : (done n : ℕ) → done ≤ 8 → n < 16 ^ done → n < 2 ^ 32
+pub hex-fits : (done n : ℕ) → done ≤ updateDigits → n < 16 ^ done → n < updates
 hex-fits done n h k = le-trans k (pow-le-pow-right {n = 16} (omega arith) h)

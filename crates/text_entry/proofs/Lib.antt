@@ -1,9 +1,11 @@
 pub mod Agreement
 pub mod Beyond
+pub mod Cases
 pub mod Counts
 pub mod DecimalLaws
 pub mod Digits
 pub mod Follows
+pub mod LineTexts
 pub mod Parts
 pub mod ReadsText
 pub mod Table

@@ -10,9 +10,9 @@ use lib.Dec.{eqb, leb}
 use lib.ListN.{length, drop, drop-of-length-le, length-append}
 use lib.Seq.{drop-cons, drop-drop}
 use Rattle.text_ascii.specs.Bytes.{begins}
-use Rattle.text_entry.specs.Fields.{Form, inWords}
+use Rattle.text_entry.specs.Fields.{Form, inHex, inHexOr, inWords}
 use Rattle.text_entry.specs.Seen.{wordAfter}
-use Rattle.text_entry.specs.Read.{Part, part, unreadable, after, wordOr, readWord, readValue, valueAfter, isEnd}
+use Rattle.text_entry.specs.Read.{Part, part, unreadable, after, orPart, wordOr, readHex, readWord, readValue, valueAfter, isEnd}
 
 module _ (w : List ℕ) (p : Part) where
   pub after-stopped : p .readable ≡ false → unreadable ≡ after w p
@@ -108,3 +108,23 @@ words-after n (w ∷ ws) p =
 pub words-value : (ws : List (List ℕ)) (p : Part) → wordsAfter 0 ws p ≡ valueAfter (inWords ws) p
 unfolding readValue
 words-value ws p = words-after 0 ws p
+
+-- so many digits, or else as many others
+module _ (k j : ℕ) (p : Part) where
+  pub or-first : valueAfter (inHex k) p .readable ≡ true → valueAfter (inHex k) p ≡ valueAfter (inHexOr k j) p
+  unfolding readValue
+  or-first h = go (p .readable) h
+    where
+      go : (b : Bool) → cond b (readHex k 0 (p .rest)) unreadable .readable ≡ true
+          → cond b (readHex k 0 (p .rest)) unreadable ≡ cond b (orPart (readHex k 0 (p .rest)) (readHex j 0 (p .rest))) unreadable
+      go true h = rw h
+      go false h = refl
+
+  pub or-second : valueAfter (inHex k) p .readable ≡ false → valueAfter (inHex j) p ≡ valueAfter (inHexOr k j) p
+  unfolding readValue
+  or-second h = go (p .readable) h
+    where
+      go : (b : Bool) → cond b (readHex k 0 (p .rest)) unreadable .readable ≡ false
+          → cond b (readHex j 0 (p .rest)) unreadable ≡ cond b (orPart (readHex k 0 (p .rest)) (readHex j 0 (p .rest))) unreadable
+      go true h = rw h
+      go false h = refl

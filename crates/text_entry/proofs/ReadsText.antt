@@ -5,6 +5,7 @@ use native.Mathlib.Nat.{add-suc, zero-add, add-zero, suc-add, mul-assoc, pow-suc
 use native.Mathlib.Decide.{decLt}
 use mathlib.Core.Bool.{Bool, true, false, _&&_, not, cond, false≢true}
 use mathlib.Core.List.{List, [], _∷_, _++_, append-assoc}
+use mathlib.Core.Logic.{inl, inr}
 use mathlib.Core.Option.{Option, none, some}
 use mathlib.Core.Path.{_≡_, refl, sym, _∙_, ap, subst}
 use lib.ListN.{length, drop, getD}
@@ -15,8 +16,9 @@ use Rattle.text_ascii.specs.Hex.{hex, isHexDigit, hexDigitOf, hexGrown}
 use Rattle.text_ascii.proofs.Decimals.{is-digit-low, is-digit-high, digit-byte, decimal-small, decimal-grows}
 use Rattle.text_ascii.proofs.Hexes.{hex-grows, hex-digit-bound}
 use Rattle.text_ascii.proofs.Words.{begins-splits, both-l, both-r}
-use Rattle.text_entry.specs.Fields.{Form, inDecimal, inHex, inWords, Field, keyText, valueText, fieldsText, Kind, nameText, lineText}
+use Rattle.text_entry.specs.Fields.{Form, inDecimal, inHex, inHexOr, inWords, Field, keyText, Kind, nameText}
 use Rattle.text_entry.specs.Read.{Part, part, unreadable, leadingZero, readDigits, readDecimal, readHex, readWord, readValue, after, readField, isEnd, with, readFields, readKind}
+use Rattle.text_entry.proofs.LineTexts.{FieldsAre, IsValue, LineIs}
 
 -- a decimal with a digit's byte behind it
 decimal-byte : (n c : ℕ) → 1 ≤ n → isDigit c ≡ true → decimal n ++ c ∷ [] ≡ decimal (grown n c)
@@ -133,29 +135,36 @@ word-text n (w ∷ ws) s h = go (begins s w) refl h (word-text (suc n) ws s)
 
 -- ---- values, fields, lines
 
--- a value of so many hexadecimal digits, a word's index
-abbrev pub Indexed : Form → ℕ → Type 0
-Indexed inDecimal v = Unit {0}
-Indexed (inHex k) v = v < 16 ^ k
-Indexed (inWords ws) v = v < length ws
-
 pub record ValueAt (f : Form) (s : List ℕ) (p : Part) : Type 0 where
-  pub indexed : Indexed f (p .value)
-  pub text : s ≡ valueText f (p .value) ++ p .rest
+  pub value : List ℕ
+  pub isValue : IsValue f (p .value) value
+  pub text : s ≡ value ++ p .rest
 
-value-text : (f : Form) (s : List ℕ) → readValue f s .readable ≡ true → ValueAt f s (readValue f s)
-unfolding readValue valueText hex
-value-text inDecimal s h = record { indexed = tt; text = decimal-text s h }
-value-text (inHex k) s h =
-    record { indexed = omega (arith, hex-bound k 0 s h); text = ap (λ (z : List ℕ). z ++ s) (no-digits 0) ∙ hex-text k 0 0 s h ∙ ap (λ (n : ℕ). hex n (readHex k 0 s .value) ++ readHex k 0 s .rest) (zero-add k) }
+digits-value : (k : ℕ) (s : List ℕ) → readHex k 0 s .readable ≡ true → ValueAt (inHex k) s (readHex k 0 s)
+unfolding hex
+digits-value k s h = record {
+  value = hex k (readHex k 0 s .value);
+  isValue = (omega (arith, hex-bound k 0 s h), refl);
+  text = ap (λ (z : List ℕ). z ++ s) (no-digits 0) ∙ hex-text k 0 0 s h ∙ ap (λ (n : ℕ). hex n (readHex k 0 s .value) ++ readHex k 0 s .rest) (zero-add k);
+}
   where
     no-digits : (n : ℕ) → [] ≡ hex 0 n
     no-digits n = refl
+
+value-text : (f : Form) (s : List ℕ) → readValue f s .readable ≡ true → ValueAt f s (readValue f s)
+unfolding readValue
+value-text inDecimal s h = record { value = decimal (readDecimal s .value); isValue = refl; text = decimal-text s h }
+value-text (inHex k) s h = digits-value k s h
+value-text (inHexOr k j) s h = go (readHex k 0 s .readable) refl h
+  where
+    go : (b : Bool) → readHex k 0 s .readable ≡ b → cond b (readHex k 0 s) (readHex j 0 s) .readable ≡ true → ValueAt (inHexOr k j) s (cond b (readHex k 0 s) (readHex j 0 s))
+    go true e m = let d = digits-value k s m in record { value = d .value; isValue = inl (d .isValue); text = d .text }
+    go false e m = let d = digits-value j s m in record { value = d .value; isValue = inr (d .isValue); text = d .text }
 value-text (inWords ws) s h =
     let r = word-text 0 ws s h in
     let l : readWord 0 ws s .value < 0 + length ws = r .to in
     let z : readWord 0 ws s .value - 0 ≡ readWord 0 ws s .value = omega arith in
-    record { indexed = omega arith; text = r .text ∙ ap (λ (i : ℕ). getD ws i [] ++ readWord 0 ws s .rest) z }
+    record { value = getD ws (readWord 0 ws s .value) []; isValue = (omega arith, refl); text = r .text ∙ ap (λ (i : ℕ). getD ws i [] ++ readWord 0 ws s .rest) z }
 
 pub record AfterAt (w : List ℕ) (p : Part) : Type 0 where
   pub readable : p .readable ≡ true
@@ -169,8 +178,9 @@ after-text w p h =
 
 pub record FieldAt (f : Field) (p : Part) : Type 0 where
   pub readable : p .readable ≡ true
-  pub indexed : Indexed (f .form) (readField f p .value)
-  pub text : p .rest ≡ keyText f ++ (valueText (f .form) (readField f p .value) ++ readField f p .rest)
+  pub value : List ℕ
+  pub isValue : IsValue (f .form) (readField f p .value) value
+  pub text : p .rest ≡ keyText f ++ (value ++ readField f p .rest)
 
 field-text : (f : Field) (p : Part) → readField f p .readable ≡ true → FieldAt f p
 field-text f p h =
@@ -181,30 +191,24 @@ field-text f p h =
     let v = value-text (f .form) (q .rest) (ap (λ (r : Part). r .readable) (sym e) ∙ h) in
     record {
       readable = a .readable;
-      indexed = subst (λ (r : Part). Indexed (f .form) (r .value)) (sym e) (v .indexed);
-      text = a .text ∙ ap (λ (r : List ℕ). keyText f ++ r) (v .text) ∙ ap (λ (r : Part). keyText f ++ (valueText (f .form) (r .value) ++ r .rest)) (sym e);
+      value = v .value;
+      isValue = subst (λ (r : Part). IsValue (f .form) (r .value) (v .value)) (sym e) (v .isValue);
+      text = a .text ∙ ap (λ (r : List ℕ). keyText f ++ r) (v .text) ∙ ap (λ (r : Part). keyText f ++ (v .value ++ r .rest)) (sym e);
     }
-
-abbrev pub IndexedAll : List Field → List ℕ → Type 0
-IndexedAll [] [] = Unit {0}
-IndexedAll [] (v ∷ vs) = ⊥
-IndexedAll (f ∷ fs) [] = ⊥
-IndexedAll (f ∷ fs) (v ∷ vs) = Indexed (f .form) v × IndexedAll fs vs
 
 pub record FieldsAt (fs : List Field) (p : Part) (vs : List ℕ) : Type 0 where
   pub readable : p .readable ≡ true
-  pub indexed : IndexedAll fs vs
-  pub text : p .rest ≡ fieldsText fs vs
+  pub fields : FieldsAre fs vs (p .rest)
 
 some-not-none : (vs : List ℕ) → _≡_ {A = Option (List ℕ)} none (some vs) → ⊥
 some-not-none vs e = let z : _≡_ {A = ℕ} 0 1 = cc in omega arith
 
 pub fields-text : (fs : List Field) (p : Part) (vs : List ℕ) → readFields fs p ≡ some vs → FieldsAt fs p vs
-unfolding readFields fieldsText
+unfolding readFields
 fields-text [] p vs h = go (p .readable) (p .rest) refl refl h
   where
     ended : (r : List ℕ) → p .readable ≡ true → p .rest ≡ [] → [] ≡ vs → FieldsAt [] p vs
-    ended r k e z = subst (λ (us : List ℕ). FieldsAt [] p us) z (record { readable = k; indexed = tt; text = e })
+    ended r k e z = subst (λ (us : List ℕ). FieldsAt [] p us) z (record { readable = k; fields = e })
 
     go : (b : Bool) (r : List ℕ) → p .readable ≡ b → p .rest ≡ r → cond (b && isEnd r) (some []) none ≡ some vs → FieldsAt [] p vs
     go true [] k e h = ended [] k e (let z : [] ≡ vs = cc in z)
@@ -217,8 +221,7 @@ fields-text (f ∷ fs) p vs h = go (readFields fs (readField f p)) refl h (field
         let t = field-text f p (r .readable) in
         record {
           readable = t .readable;
-          indexed = (t .indexed, r .indexed);
-          text = t .text ∙ ap (λ (s : List ℕ). keyText f ++ (valueText (f .form) (readField f p .value) ++ s)) (r .text);
+          fields = record { value = t .value; rest = readField f p .rest; isValue = t .isValue; text = t .text; left = r .fields };
         }
 
     go : (o : Option (List ℕ)) → readFields fs (readField f p) ≡ o → with (readField f p .value) o ≡ some vs
@@ -226,13 +229,9 @@ fields-text (f ∷ fs) p vs h = go (readFields fs (readField f p)) refl h (field
     go none e h ih = absurd (some-not-none vs h)
     go (some us) e h ih = subst (λ (ws : List ℕ). FieldsAt (f ∷ fs) p ws) (let z : readField f p .value ∷ us ≡ vs = cc in z) (joined us (ih us e))
 
-pub record LineAt (k : Kind) (s vs : List ℕ) : Type 0 where
-  pub indexed : IndexedAll (k .fields) vs
-  pub text : s ≡ lineText k vs
-
-pub line-text : (k : Kind) (s vs : List ℕ) → readKind k s ≡ some vs → LineAt k s vs
-unfolding readKind lineText
+pub line-text : (k : Kind) (s vs : List ℕ) → readKind k s ≡ some vs → LineIs k vs s
+unfolding readKind
 line-text k s vs h =
     let r = fields-text (k .fields) (after (nameText k) (part 0 s)) vs h in
     let a = after-text (nameText k) (part 0 s) (r .readable) in
-    record { indexed = r .indexed; text = a .text ∙ ap (λ (t : List ℕ). nameText k ++ t) (r .text) }
+    record { rest = after (nameText k) (part 0 s) .rest; text = a .text; fields = r .fields }

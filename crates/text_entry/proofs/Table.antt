@@ -10,11 +10,12 @@ use mathlib.Core.Path.{_≡_, refl, sym, _∙_, ap, subst}
 use lib.ListN.{length, drop, drop-of-length-le}
 use lib.Seq.{drop-cons}
 use Rattle.text_ascii.proofs.Words.{both-l, both-r, clash}
-use Rattle.text_entry.specs.Fields.{Field, Kind, lineText, nameText}
+use Rattle.text_entry.specs.Fields.{Kind, nameText}
 use Rattle.text_entry.specs.Read.{readKind}
 use Rattle.text_entry.specs.Table.{Reader, answerOf, at, made, orElse, readFirst}
-use Rattle.text_entry.proofs.ReadsText.{IndexedAll, LineAt, line-text}
-use Rattle.text_entry.proofs.TextReads.{WritableAll, kind-reads, other-kind-unread}
+use Rattle.text_entry.proofs.LineTexts.{LineIs, line-length}
+use Rattle.text_entry.proofs.ReadsText.{line-text}
+use Rattle.text_entry.proofs.TextReads.{SoundAll, kind-reads, other-kind-unread}
 
 pub some-is : {A : Type 0} (a b : A) → some a ≡ some b → a ≡ b
 some-is a b h = cc
@@ -36,25 +37,25 @@ namesApart [] i k = true
 namesApart (x ∷ rs) ℕ.zero k = true
 namesApart (x ∷ rs) (suc i) k = clash (nameText k) (nameText (x .kind)) && namesApart rs i k
 
-pub first-reads : {A : Type 0} (rs : List (Reader A)) (i : ℕ) (r : Reader A) (vs : List ℕ) → At rs i r → namesApart rs i (r .kind) ≡ true
-    → WritableAll (r .kind .fields) vs → readFirst rs (lineText (r .kind) vs) ≡ some (r .build vs)
+pub first-reads : {A : Type 0} (rs : List (Reader A)) (i : ℕ) (r : Reader A) (vs s : List ℕ) → At rs i r → namesApart rs i (r .kind) ≡ true
+    → SoundAll (r .kind .fields) → LineIs (r .kind) vs s → readFirst rs s ≡ some (r .build vs)
 unfolding readFirst namesApart
-first-reads [] i r vs h n w = absurd h
-first-reads (x ∷ rs) ℕ.zero r vs h n w =
-    let o = readFirst rs (lineText (r .kind) vs) in
-    ap (λ (y : Reader _). orElse (made (y .build) (readKind (y .kind) (lineText (r .kind) vs))) o) h
-    ∙ ap (λ (u : Option (List ℕ)). orElse (made (r .build) u) o) (kind-reads (r .kind) vs w)
-first-reads (x ∷ rs) (suc i) r vs h n w =
+first-reads [] i r vs s h n o l = absurd h
+first-reads (x ∷ rs) ℕ.zero r vs s h n o l =
+    let later = readFirst rs s in
+    ap (λ (y : Reader _). orElse (made (y .build) (readKind (y .kind) s)) later) h
+    ∙ ap (λ (u : Option (List ℕ)). orElse (made (r .build) u) later) (kind-reads (r .kind) vs s o l)
+first-reads (x ∷ rs) (suc i) r vs s h n o l =
     let c = clash (nameText (r .kind)) (nameText (x .kind)) in
-    ap (λ (u : Option (List ℕ)). orElse (made (x .build) u) (readFirst rs (lineText (r .kind) vs))) (other-kind-unread (x .kind) (r .kind) vs (both-l c _ n))
-    ∙ first-reads rs i r vs h (both-r c _ n) w
+    ap (λ (u : Option (List ℕ)). orElse (made (x .build) u) (readFirst rs s)) (other-kind-unread (x .kind) (r .kind) vs s (both-l c _ n) l)
+    ∙ first-reads rs i r vs s h (both-r c _ n) o l
 
 -- ---- what reads was written
 
 -- a property of what each kind's line stands for
 abbrev pub Each : {A : Type 0} → (A → Type 0) → List (Reader A) → List ℕ → Type 0
 Each P [] s = Unit {0}
-Each P (r ∷ rs) s = ((vs : List ℕ) → LineAt (r .kind) s vs → P (r .build vs)) × Each P rs s
+Each P (r ∷ rs) s = ((vs : List ℕ) → LineIs (r .kind) vs s → P (r .build vs)) × Each P rs s
 
 pub first-written : {A : Type 0} (P : A → Type 0) (rs : List (Reader A)) (s : List ℕ) → Each P rs s → (a : A) → readFirst rs s ≡ some a → P a
 unfolding readFirst
@@ -74,15 +75,9 @@ by-elements : (n i : ℕ) (vs : List ℕ) → length vs ≡ i + n → drop i vs 
 by-elements ℕ.zero i vs h = drop-of-length-le vs {i = i} (omega arith)
 by-elements (suc n) i vs h = drop-cons vs i 0 (omega arith) ∙ ap (λ (us : List ℕ). at vs i ∷ us) (by-elements n (suc i) vs (omega arith))
 
-indexed-length : (fs : List Field) (vs : List ℕ) → IndexedAll fs vs → length vs ≡ length fs
-indexed-length [] [] h = refl
-indexed-length [] (v ∷ vs) h = absurd h
-indexed-length (f ∷ fs) [] h = absurd h
-indexed-length (f ∷ fs) (v ∷ vs) h = ap suc (indexed-length fs vs (h .1))
-
 -- the values of a line, one by one
-pub by-fields : (fs : List Field) (vs : List ℕ) → IndexedAll fs vs → vs ≡ elements (length fs) 0 vs
-by-fields fs vs h = by-elements (length fs) 0 vs (indexed-length fs vs h ∙ sym (zero-add (length fs)))
+pub by-fields : (k : Kind) (vs s : List ℕ) → LineIs k vs s → vs ≡ elements (length (k .fields)) 0 vs
+by-fields k vs s h = by-elements (length (k .fields)) 0 vs (line-length k vs s h ∙ sym (zero-add (length (k .fields))))
 
 -- ---- the answers
 

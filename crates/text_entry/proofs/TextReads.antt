@@ -1,23 +1,27 @@
 -- What is written reads back: values, fields, lines.
-use Prim.Native.Nat.{ℕ, suc, _≤_, _<_, _+_, _*_, _/_, _%_, _^_}
+use Prim.Native.Nat.{ℕ, suc, _≤_, _<_, _+_, _-_, _*_, _/_, _%_, _^_}
 use native.Mathlib.Omega.{arith}
 use native.Mathlib.Nat.{pow-suc, mul-assoc, add-suc, zero-add, zero-mul, add-zero, suc-add}
 use native.Mathlib.Decide.{decLt}
-use mathlib.Core.Bool.{Bool, true, false, _&&_, cond}
+use mathlib.Core.Bool.{Bool, true, false, _&&_, _||_, cond}
 use mathlib.Core.List.{List, [], _∷_, _++_, append-assoc}
+use mathlib.Core.Logic.{inl, inr}
 use mathlib.Core.Option.{none, some}
 use mathlib.Core.Path.{_≡_, refl, sym, _∙_, ap, subst}
-use lib.Dec.{eqb}
+use lib.Dec.{eqb, leb}
 use lib.ListN.{length, drop, getD}
 use lib.Seq.{drop-append-seam}
 use borrow.Author.Tests.{eq-eqb, ne-eqb}
-use Rattle.text_ascii.specs.Decimal.{digit, decimal, grown, beginsDigit}
-use Rattle.text_ascii.specs.Hex.{hexDigit, hex}
+use Rattle.text_ascii.specs.Bytes.{begins}
+use Rattle.text_ascii.specs.Decimal.{digit, decimal, grown, isDigit, beginsDigit}
+use Rattle.text_ascii.specs.Hex.{hexDigit, hex, isHexDigit, beginsHexDigit}
 use Rattle.text_ascii.proofs.Decimals.{digit-is, decimal-small, decimal-grows, by-digits}
 use Rattle.text_ascii.proofs.Hexes.{hex-digit-is, hex-digit-number}
 use Rattle.text_ascii.proofs.Words.{begins-word, clash, clash-begins, both-l, both-r}
-use Rattle.text_entry.specs.Fields.{Form, inDecimal, inHex, inWords, Field, keyText, valueText, fieldsText, Kind, nameText, lineText}
-use Rattle.text_entry.specs.Read.{Part, part, unreadable, readDigits, readDecimal, readHex, readWord, readValue, after, valueAfter, readField, with, readFields, readKind}
+use Rattle.text_entry.specs.Fields.{Form, inDecimal, inHex, inHexOr, inWords, Field, keyText, Kind, nameText}
+use Rattle.text_entry.specs.Read.{Part, part, unreadable, readDigits, readDecimal, readHex, readWord, orPart, readValue, after, valueAfter, readField, isEnd, with, readFields, readKind}
+use Rattle.text_entry.proofs.Digits.{hex-other}
+use Rattle.text_entry.proofs.LineTexts.{FieldsAre, InDigits, IsValue, LineIs}
 
 -- ---- decimals
 
@@ -110,61 +114,95 @@ word-reads n (w ∷ ws) (suc i) t h k =
 
 -- ---- values, fields, lines
 
--- the value has a text of the form
-abbrev pub Writable : Form → ℕ → Type 0
-Writable inDecimal v = Unit {0}
-Writable (inHex k) v = v < 16 ^ k
-Writable (inWords ws) v = (v < length ws) × (apart ws ≡ true)
+-- no text of one value is that of another, so that what is written can be read
+abbrev pub Sound : Form → Type 0
+Sound inDecimal = Unit {0}
+Sound (inHex k) = Unit {0}
+Sound (inHexOr k j) = j < k
+Sound (inWords ws) = apart ws ≡ true
 
-value-reads : (f : Form) (v : ℕ) (t : List ℕ) → Writable f v → beginsDigit t ≡ false → readValue f (valueText f v ++ t) ≡ part v t
-unfolding readValue valueText
-value-reads inDecimal v t h k = decimal-reads v t (λ e. k) ∙ digits-stop v t k
-value-reads (inHex n) v t h k =
-    (λ i. readHex (sym (add-zero n) i) 0 (hex n v ++ t)) ∙ hex-reads n 0 0 v t h ∙ hex-done (0 * 16 ^ n + v) t ∙ ap (λ (m : ℕ). part m t) (ap (λ (m : ℕ). m + v) (zero-mul (16 ^ n)) ∙ zero-add v)
-value-reads (inWords ws) v t h k = word-reads 0 ws v t (h .1) (h .0) ∙ ap (λ (m : ℕ). part m t) (zero-add v)
+abbrev pub SoundAll : List Field → Type 0
+SoundAll [] = Unit {0}
+SoundAll (f ∷ fs) = Sound (f .form) × SoundAll fs
+
+digits-read : (k v : ℕ) (t r : List ℕ) → InDigits k v t → readHex k 0 (t ++ r) ≡ part v r
+digits-read k v t r h =
+    ap (λ (u : List ℕ). readHex k 0 (u ++ r)) (h .1)
+    ∙ (λ i. readHex (sym (add-zero k) i) 0 (hex k v ++ r))
+    ∙ hex-reads k 0 0 v r (h .0)
+    ∙ hex-done (0 * 16 ^ k + v) r
+    ∙ ap (λ (m : ℕ). part m r) (ap (λ (m : ℕ). m + v) (zero-mul (16 ^ k)) ∙ zero-add v)
+
+-- where fewer digits stand than are asked for, nothing reads
+too-few : (k j v : ℕ) (t r : List ℕ) → j < k → InDigits j v t → beginsHexDigit r ≡ false → readHex k 0 (t ++ r) ≡ unreadable
+too-few k j v t r l h e =
+    let m : k ≡ j + (k - j) = omega arith in
+    ap (λ (u : List ℕ). readHex k 0 (u ++ r)) (h .1)
+    ∙ ap (λ (n : ℕ). readHex n 0 (hex j v ++ r)) m
+    ∙ hex-reads j (k - j) 0 v r (h .0)
+    ∙ hex-other r 0 (k - j) (0 * 16 ^ j + v) (omega arith) e
+
+no-digit : (c : ℕ) → isHexDigit c ≡ false → isDigit c ≡ false
+no-digit c h = go (isDigit c) h
+  where
+    go : (b : Bool) → (b || (leb 97 c && leb c 102)) ≡ false → b ≡ false
+    go true k = k
+    go false k = refl
+
+no-digit-there : (r : List ℕ) → beginsHexDigit r ≡ false → beginsDigit r ≡ false
+no-digit-there [] h = refl
+no-digit-there (c ∷ r) h = no-digit c h
+
+value-reads : (f : Form) (v : ℕ) (t r : List ℕ) → Sound f → IsValue f v t → beginsHexDigit r ≡ false → readValue f (t ++ r) ≡ part v r
+unfolding readValue
+value-reads inDecimal v t r o h e =
+    ap (λ (u : List ℕ). readDecimal (u ++ r)) h ∙ decimal-reads v r (λ z. no-digit-there r e) ∙ digits-stop v r (no-digit-there r e)
+value-reads (inHex k) v t r o h e = digits-read k v t r h
+value-reads (inHexOr k j) v t r o (inl h) e = ap (λ (p : Part). orPart p (readHex j 0 (t ++ r))) (digits-read k v t r h)
+value-reads (inHexOr k j) v t r o (inr h) e = ap (λ (p : Part). orPart p (readHex j 0 (t ++ r))) (too-few k j v t r o h e) ∙ digits-read j v t r h
+value-reads (inWords ws) v t r o h e =
+    ap (λ (u : List ℕ). readWord 0 ws (u ++ r)) (h .1) ∙ word-reads 0 ws v r o (h .0) ∙ ap (λ (m : ℕ). part m r) (zero-add v)
 
 after-reads : (w t : List ℕ) (v : ℕ) → after w (part v (w ++ t)) ≡ part 0 t
 unfolding after
 after-reads w t v = rw (begins-word w t, drop-append-seam w t)
 
-abbrev pub WritableAll : List Field → List ℕ → Type 0
-WritableAll [] [] = Unit {0}
-WritableAll [] (v ∷ vs) = ⊥
-WritableAll (f ∷ fs) [] = ⊥
-WritableAll (f ∷ fs) (v ∷ vs) = Writable (f .form) v × WritableAll fs vs
+no-digit-next : (fs : List Field) (vs s : List ℕ) → FieldsAre fs vs s → beginsHexDigit s ≡ false
+no-digit-next [] [] s h = ap beginsHexDigit h
+no-digit-next [] (v ∷ vs) s h = absurd h
+no-digit-next (f ∷ fs) [] s h = absurd h
+no-digit-next (f ∷ fs) (v ∷ vs) s h = ap beginsHexDigit (h .text)
 
-no-digit-next : (fs : List Field) (vs : List ℕ) → beginsDigit (fieldsText fs vs) ≡ false
-unfolding fieldsText
-no-digit-next [] vs = refl
-no-digit-next (f ∷ fs) [] = refl
-no-digit-next (f ∷ fs) (v ∷ vs) = refl
+field-reads : (f : Field) (v : ℕ) (t r : List ℕ) (n : ℕ) → Sound (f .form) → IsValue (f .form) v t → beginsHexDigit r ≡ false → readField f (part n (keyText f ++ (t ++ r))) ≡ part v r
+field-reads f v t r n o h e = ap (valueAfter (f .form)) (after-reads (keyText f) (t ++ r) n) ∙ value-reads (f .form) v t r o h e
 
-field-reads : (f : Field) (v : ℕ) (t : List ℕ) (n : ℕ) → Writable (f .form) v → beginsDigit t ≡ false → readField f (part n (keyText f ++ (valueText (f .form) v ++ t))) ≡ part v t
-field-reads f v t n h k = ap (valueAfter (f .form)) (after-reads (keyText f) (valueText (f .form) v ++ t) n) ∙ value-reads (f .form) v t h k
+pub fields-read : (fs : List Field) (vs s : List ℕ) (n : ℕ) → SoundAll fs → FieldsAre fs vs s → readFields fs (part n s) ≡ some vs
+unfolding readFields
+fields-read [] [] s n o h = ap (λ (r : List ℕ). cond (isEnd r) (some []) none) h
+fields-read [] (v ∷ vs) s n o h = absurd h
+fields-read (f ∷ fs) [] s n o h = absurd h
+fields-read (f ∷ fs) (v ∷ vs) s n o h =
+    let e : readField f (part n s) ≡ part v (h .rest) =
+    ap (λ (r : List ℕ). readField f (part n r)) (h .text) ∙ field-reads f v (h .value) (h .rest) n (o .0) (h .isValue) (no-digit-next fs vs (h .rest) (h .left)) in
+    ap (λ (p : Part). with (p .value) (readFields fs p)) e ∙ ap (with v) (fields-read fs vs (h .rest) v (o .1) (h .left))
 
-pub fields-read : (fs : List Field) (vs : List ℕ) (n : ℕ) → WritableAll fs vs → readFields fs (part n (fieldsText fs vs)) ≡ some vs
-unfolding readFields fieldsText
-fields-read [] [] n h = refl
-fields-read [] (v ∷ vs) n h = absurd h
-fields-read (f ∷ fs) [] n h = absurd h
-fields-read (f ∷ fs) (v ∷ vs) n h =
-    let e : readField f (part n (keyText f ++ (valueText (f .form) v ++ fieldsText fs vs))) ≡ part v (fieldsText fs vs) = field-reads f v (fieldsText fs vs) n (h .0) (no-digit-next fs vs) in
-    ap (λ (p : Part). with (p .value) (readFields fs p)) e ∙ ap (with v) (fields-read fs vs v (h .1))
-
-pub kind-reads : (k : Kind) (vs : List ℕ) → WritableAll (k .fields) vs → readKind k (lineText k vs) ≡ some vs
-unfolding readKind lineText
-kind-reads k vs h = ap (readFields (k .fields)) (after-reads (nameText k) (fieldsText (k .fields) vs) 0) ∙ fields-read (k .fields) vs 0 h
+pub kind-reads : (k : Kind) (vs s : List ℕ) → SoundAll (k .fields) → LineIs k vs s → readKind k s ≡ some vs
+unfolding readKind
+kind-reads k vs s o h =
+    ap (λ (r : List ℕ). readFields (k .fields) (after (nameText k) (part 0 r))) (h .text)
+    ∙ ap (readFields (k .fields)) (after-reads (nameText k) (h .rest) 0)
+    ∙ fields-read (k .fields) vs (h .rest) 0 o (h .fields)
 
 -- a line of another kind, whose name differs at some byte, does not read
-pub other-kind : (k other : Kind) (vs : List ℕ) → clash (nameText other) (nameText k) ≡ true → after (nameText k) (part 0 (lineText other vs)) ≡ unreadable
-unfolding after lineText
-other-kind k other vs h = rw (clash-begins (nameText other) (nameText k) (fieldsText (other .fields) vs) h)
+other-kind : (k other : Kind) (vs s : List ℕ) → clash (nameText other) (nameText k) ≡ true → LineIs other vs s → after (nameText k) (part 0 s) ≡ unreadable
+unfolding after
+other-kind k other vs s h l = rw (ap (λ (r : List ℕ). begins r (nameText k)) (l .text) ∙ clash-begins (nameText other) (nameText k) (l .rest) h)
 
 stopped : (fs : List Field) → readFields fs unreadable ≡ none
 unfolding readFields after
 stopped [] = refl
 stopped (f ∷ fs) = ap (with 0) (stopped fs)
 
-pub other-kind-unread : (k other : Kind) (vs : List ℕ) → clash (nameText other) (nameText k) ≡ true → readKind k (lineText other vs) ≡ none
+pub other-kind-unread : (k other : Kind) (vs s : List ℕ) → clash (nameText other) (nameText k) ≡ true → LineIs other vs s → readKind k s ≡ none
 unfolding readKind
-other-kind-unread k other vs h = ap (readFields (k .fields)) (other-kind k other vs h) ∙ stopped (k .fields)
+other-kind-unread k other vs s h l = ap (readFields (k .fields)) (other-kind k other vs s h l) ∙ stopped (k .fields)

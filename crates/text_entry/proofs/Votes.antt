@@ -1,24 +1,29 @@
 -- The values of a vote's line and the vote that they make.
-use Prim.Native.Nat.{ℕ, suc, _<_, min}
+use Prim.Native.Nat.{ℕ, suc, _<_, _^_, min}
 use native.Mathlib.Omega.{arith}
 use mathlib.Core.Bool.{Bool, true, false}
-use mathlib.Core.List.{List, [], _∷_}
+use mathlib.Core.List.{List, [], _∷_, _++_}
+use mathlib.Core.Logic.{_⊎_}
 use mathlib.Core.Option.{some}
 use mathlib.Core.Path.{_≡_, refl, sym, _∙_, ap}
 use lib.Dec.{eqb}
+use Rattle.text_ascii.specs.Bytes.{ascii}
 use Rattle.text_ascii.proofs.Words.{clash}
 use Rattle.log_entry.specs.declared.Entry.{Entry}
 use Rattle.log_entry.specs.Entry.{voteEntry}
-use Rattle.log_entry.specs.Limits.{lists, updates}
+use Rattle.log_entry.specs.Limits.{lists}
+use Rattle.text_ascii.specs.Hex.{earlierDigits, updateDigits}
 use Rattle.text_entry.specs.declared.Reading.the-variants.{Read, Outside}
 use Rattle.text_entry.specs.Entry.{beyond, readingOf, sayOf, voteOf, voteValues}
-use Rattle.text_entry.specs.Kinds.{voteKind}
+use Rattle.text_entry.specs.Fields.{Field, Form, Kind, inHex, kind}
+use Rattle.text_entry.specs.Kinds.{by, list, proc, say, store, tx, upd, updateForm, voteKind, voteWith}
 use Rattle.text_ascii.specs.Decimal.{byteNumbers}
 use Rattle.text_entry.specs.Table.{at}
 use Rattle.text_entry.proofs.Counts.{at-counts, beyond-here, beyond-later, counted-same}
 use Rattle.text_entry.proofs.Follows.{counts}
 use Rattle.text_entry.proofs.Table.{elements}
-use Rattle.text_entry.proofs.TextReads.{WritableAll, apart, clashAll}
+use Rattle.text_entry.proofs.LineTexts.{LineIs, WritableAll, in-first, in-second, which-digits}
+use Rattle.text_entry.proofs.TextReads.{SoundAll, apart, clashAll}
 
 pub outside-by : (e : Entry) → beyond e ≡ true → readingOf (some e) ≡ Outside
 outside-by e h = rw h
@@ -60,9 +65,29 @@ say-fits true = omega arith
 say-fits false = omega arith
 
 -- a vote whose list and update have their digits has values with texts, and is made of them
-pub vote-writable : (e : Entry) → e .participants < lists → e .update < updates → WritableAll (voteKind .fields) (voteValues e)
+pub vote-writable : (digits : ℕ) (e : Entry) → e .participants < lists → e .update < 16 ^ digits → WritableAll (voteWith (inHex digits) .fields) (voteValues e)
+vote-writable digits e h k = (tt, (tt, (tt, (tt, (h, (say-fits (e .commit), (k, tt)))))))
+
+pub vote-sound : SoundAll (voteKind .fields)
 unfolding apart clashAll clash
-vote-writable e h k = (tt, (tt, (tt, (tt, (h, ((say-fits (e .commit), refl), (k, tt)))))))
+vote-sound = (tt, (tt, (tt, (tt, (tt, (refl, (omega arith, tt)))))))
+
+-- a vote's line, and behind its update these fields
+module _ (gs : List Field) (vs s : List ℕ) where
+  abbrev pub votedThen : Form → Kind
+  votedThen form = kind (ascii "vote") (proc ∷ by ∷ store ∷ tx ∷ list ∷ say ∷ upd form ∷ gs)
+
+  abbrev before : List Field
+  before = proc ∷ by ∷ store ∷ tx ∷ list ∷ say ∷ []
+
+  pub now-written : LineIs (votedThen (inHex updateDigits)) vs s → LineIs (votedThen updateForm) vs s
+  now-written = in-first (ascii "vote") (ascii "upd") before gs updateDigits earlierDigits vs s
+
+  pub earlier-written : LineIs (votedThen (inHex earlierDigits)) vs s → LineIs (votedThen updateForm) vs s
+  earlier-written = in-second (ascii "vote") (ascii "upd") before gs updateDigits earlierDigits vs s
+
+  pub which-written : LineIs (votedThen updateForm) vs s → LineIs (votedThen (inHex updateDigits)) vs s ⊎ LineIs (votedThen (inHex earlierDigits)) vs s
+  which-written = which-digits (ascii "vote") (ascii "upd") before gs updateDigits earlierDigits vs s
 
 pub vote-back : (e : Entry) → e .take ≡ false → voteOf (voteValues e) ≡ e
 vote-back e h = λ i. record {

@@ -1,41 +1,48 @@
 -- The claims on the two meanings of a line: `text` writes an entry, `readEntry` and `reading` read
--- a line.
+-- a line. An entry is written in one way and read in two.
 use Prim.Native.Nat.{ℕ}
 use mathlib.Core.Bool.{true, false}
 use mathlib.Core.List.{List}
+use mathlib.Core.Logic.{_⊎_}
 use mathlib.Core.Option.{some}
 use mathlib.Core.Path.{_≡_}
 use Rattle.log_entry.specs.declared.Entry.{Entry}
 use Rattle.log_entry.specs.Entry.{outside}
+use Rattle.text_ascii.specs.Hex.{earlierDigits, updateDigits}
 use Rattle.text_entry.specs.declared.Reading.the-variants.{Read, Outside, Unreadable}
-use Rattle.text_entry.specs.Entry.{HasText, readEntry, reading, text}
+use Rattle.text_entry.specs.Entry.{HasText, HasTextIn, readEntry, reading, text, textIn}
 
--- the line is the text of the entry, to the byte
-pub record IsText (s : List ℕ) (e : Entry) : Type 0 where
-  pub line : s ≡ text e
-  pub hasText : HasText e
+-- the line is the text of the entry with so many digits of its update, to the byte
+pub record IsTextIn (digits : ℕ) (s : List ℕ) (e : Entry) : Type 0 where
+  pub line : s ≡ textIn digits e
+  pub hasText : HasTextIn digits e
+
+-- "Lines with eight digits are still read and mean the same number": the line is the text of the
+-- entry with sixteen digits, or with eight where the number has at most 32 bits
+abbrev pub IsText : List ℕ → Entry → Type 0
+IsText s e = IsTextIn updateDigits s e ⊎ IsTextIn earlierDigits s e
 
 -- The text of an entry reads back as that entry, whatever the size of its numbers.
 abbrev pub TextReadsBack : Type 0
 TextReadsBack = (e : Entry) → HasText e → readEntry (text e) ≡ some e
 
--- A line that reads as an entry is that entry's text, to the byte.
-abbrev pub ReadIsText : Type 0
-ReadIsText = (s : List ℕ) (e : Entry) → readEntry s ≡ some e → IsText s e
+-- A line reads as an entry exactly if it is a text of that entry, to the byte.
+abbrev pub ReadsExactly : Type 0
+ReadsExactly = (s : List ℕ) (e : Entry) → (readEntry s ≡ some e → IsText s e) × (IsText s e → readEntry s ≡ some e)
 
--- The text of an entry within the limits is read as that entry.
+-- A text of an entry within the limits is read as that entry.
 abbrev pub TextWithinLimitsRead : Type 0
-TextWithinLimitsRead = (e : Entry) → HasText e → outside e ≡ false → reading (text e) ≡ Read e
+TextWithinLimitsRead = (s : List ℕ) (e : Entry) → IsText s e → outside e ≡ false → reading s ≡ Read e
 
--- A line read as an entry is that entry's text, to the byte.
+-- A line read as an entry is a text of that entry, to the byte.
 abbrev pub ReadLineIsText : Type 0
 ReadLineIsText = (s : List ℕ) (e : Entry) → reading s ≡ Read e → IsText s e
 
--- A line answered `Outside` is the text of an entry with natural numbers of any size, one of them
+-- A line answered `Outside` is a text of an entry with natural numbers of any size, one of them
 -- outside its limits.
 abbrev pub OutsideLineIsText : Type 0
 OutsideLineIsText = (s : List ℕ) → reading s ≡ Outside → (e : Entry) × IsText s e × (outside e ≡ true)
 
--- A line is `Unreadable` only if it is the text of no entry.
+-- A line is `Unreadable` only if it is a text of no entry.
 abbrev pub UnreadableIsNoText : Type 0
 UnreadableIsNoText = (s : List ℕ) → reading s ≡ Unreadable → (e : Entry) → IsText s e → ⊥

@@ -1,5 +1,5 @@
 -- The line of an entry, as `plain` reads it: how it is written, and how it reads.
-use Prim.Native.Nat.{ℕ, _<_}
+use Prim.Native.Nat.{ℕ, _<_, _^_}
 use mathlib.Core.Bool.{Bool, false, cond}
 use mathlib.Core.List.{List, [], _∷_}
 use mathlib.Core.Logic.{_⊎_}
@@ -8,11 +8,12 @@ use mathlib.Core.Path.{_≡_}
 use lib.Dec.{eqb}
 use Rattle.log_entry.specs.declared.Entry.{Entry}
 use Rattle.log_entry.specs.Entry.{takeEntry, voteEntry}
-use Rattle.log_entry.specs.Limits.{lists, updates}
+use Rattle.log_entry.specs.Limits.{lists}
+use Rattle.text_ascii.specs.Hex.{earlierDigits, updateDigits}
 use Rattle.text_entry.specs.declared.Reading.{Reading}
 use Rattle.text_entry.specs.declared.Reading.the-variants.{Read, Outside, Unreadable}
-use Rattle.text_entry.specs.Fields.{lineText}
-use Rattle.text_entry.specs.Kinds.{takeKind, voteKind}
+use Rattle.text_entry.specs.Fields.{inHex, lineText}
+use Rattle.text_entry.specs.Kinds.{takeKind, voteKind, voteWith}
 use Rattle.text_entry.specs.Table.{Reader, anyBeyond, answerOf, at, readFirst, reader}
 
 -- say is 0 for abort and 1 for commit
@@ -26,14 +27,21 @@ takeValues e = e .process ∷ e .store ∷ []
 abbrev pub voteValues : Entry → List ℕ
 voteValues e = e .process ∷ e .by ∷ e .store ∷ e .tx ∷ e .participants ∷ sayOf (e .commit) ∷ e .update ∷ []
 
--- the line of an entry, whose numbers are of any size
-unfoldable pub text : Entry → List ℕ
-text e = cond (e .take) (lineText takeKind (takeValues e)) (lineText voteKind (voteValues e))
+-- the line of an entry with so many digits of its update; its other numbers are of any size
+unfoldable pub textIn : ℕ → Entry → List ℕ
+textIn digits e = cond (e .take) (lineText takeKind (takeValues e)) (lineText (voteWith (inHex digits)) (voteValues e))
 
--- an entry has a text if it is a take, what a take does not use being 0, or a vote whose list and
--- update have their digits
+-- an entry has such a text if it is a take, what a take does not use being 0, or a vote whose list
+-- and update have their digits
+abbrev pub HasTextIn : ℕ → Entry → Type 0
+HasTextIn digits e = (e ≡ takeEntry (e .process) (e .store)) ⊎ ((e .take ≡ false) × (e .participants < lists) × (e .update < 16 ^ digits))
+
+-- "printed as sixteen digits"
+abbrev pub text : Entry → List ℕ
+text e = textIn updateDigits e
+
 abbrev pub HasText : Entry → Type 0
-HasText e = (e ≡ takeEntry (e .process) (e .store)) ⊎ ((e .take ≡ false) × (e .participants < lists) × (e .update < updates))
+HasText e = HasTextIn updateDigits e
 
 -- the entry of a line's values
 abbrev pub takeOf : List ℕ → Entry
@@ -49,7 +57,7 @@ entryReaders = reader takeKind takeOf ∷ reader voteKind voteOf ∷ []
 unfoldable pub readEntry : List ℕ → Option Entry
 readEntry s = readFirst entryReaders s
 
--- the numbers of an entry, but for its update, which is of any 32 bits
+-- the numbers of an entry, but for its update, which may be any
 abbrev pub numbers : Entry → List ℕ
 numbers e = e .process ∷ e .by ∷ e .store ∷ e .tx ∷ e .participants ∷ []
 

@@ -8,11 +8,13 @@ use Rattle.text_ascii.specs.Bytes.{ascii}
 use Rattle.text_ascii.specs.Decimal.{decimal}
 use Rattle.text_ascii.specs.Hex.{hex}
 
--- how a field's value is written: in decimal; in a count of lower-case hexadecimal digits; as one
--- of these words, the value being its index
+-- how a field's value is written: in decimal; in a count of lower-case hexadecimal digits; in a
+-- count of them where a line with another count is still read; as one of these words, the value
+-- being its index
 pub data Form : Type 0 where
   inDecimal : Form
   inHex : ℕ → Form
+  inHexOr : ℕ → ℕ → Form
   inWords : List (List ℕ) → Form
 
 pub record Field : Type 0 where
@@ -33,6 +35,7 @@ kind n fs = record { name = n; fields = fs }
 unfoldable pub valueText : Form → ℕ → List ℕ
 valueText inDecimal n = decimal n
 valueText (inHex digits) n = hex digits n
+valueText (inHexOr digits others) n = hex digits n
 valueText (inWords words) n = getD words n []
 
 -- a key, as it stands before its value

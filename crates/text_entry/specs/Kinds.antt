@@ -2,8 +2,8 @@
 -- tx list say upd` (say is commit or abort).
 use mathlib.Core.List.{[], _∷_}
 use Rattle.text_ascii.specs.Bytes.{ascii}
-use Rattle.text_ascii.specs.Hex.{listDigits, updateDigits}
-use Rattle.text_entry.specs.Fields.{inDecimal, inHex, inWords, Field, field, Kind, kind}
+use Rattle.text_ascii.specs.Hex.{earlierDigits, listDigits, updateDigits}
+use Rattle.text_entry.specs.Fields.{Form, inDecimal, inHex, inHexOr, inWords, Field, field, Kind, kind}
 
 abbrev pub proc : Field
 proc = field (ascii "proc") inDecimal
@@ -25,12 +25,20 @@ list = field (ascii "list") (inHex listDigits)
 abbrev pub say : Field
 say = field (ascii "say") (inWords (ascii "abort" ∷ ascii "commit" ∷ []))
 
--- "An update is 32 bits, eight such digits."
-abbrev pub upd : Field
-upd = field (ascii "upd") (inHex updateDigits)
+-- an update, written so
+abbrev pub upd : Form → Field
+upd form = field (ascii "upd") form
+
+-- "printed as sixteen digits [..]. Lines with eight digits are still read and mean the same number."
+abbrev pub updateForm : Form
+updateForm = inHexOr updateDigits earlierDigits
 
 abbrev pub takeKind : Kind
 takeKind = kind (ascii "take") (proc ∷ store ∷ [])
 
+-- a vote whose update is written so
+abbrev pub voteWith : Form → Kind
+voteWith form = kind (ascii "vote") (proc ∷ by ∷ store ∷ tx ∷ list ∷ say ∷ upd form ∷ [])
+
 abbrev pub voteKind : Kind
-voteKind = kind (ascii "vote") (proc ∷ by ∷ store ∷ tx ∷ list ∷ say ∷ upd ∷ [])
+voteKind = voteWith updateForm

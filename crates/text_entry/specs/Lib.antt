@@ -1,3 +1,4 @@
+pub mod Cases
 pub mod Claims
 pub mod Decimals
 pub mod Entry

@@ -2,7 +2,7 @@
 use Prim.Native.Nat.{ℕ, min}
 use mathlib.Core.List.{List, [], _∷_}
 use Rattle.text_entry.specs.declared.VoteParts.{VoteParts}
-use Rattle.text_entry.specs.Fields.{Field, Form, Kind, inDecimal, inHex, inWords, nameText}
+use Rattle.text_entry.specs.Fields.{Field, Form, Kind, inDecimal, inHex, inHexOr, inWords, nameText}
 use Rattle.text_entry.specs.Read.{Part, after, part, readField}
 use Rattle.text_ascii.specs.Decimal.{byteNumbers}
 use Rattle.text_entry.specs.Seen.{seen}
@@ -11,6 +11,7 @@ use Rattle.text_entry.specs.Seen.{seen}
 abbrev pub counted : Form → ℕ → ℕ
 counted inDecimal v = min v byteNumbers
 counted (inHex k) v = v
+counted (inHexOr k j) v = v
 counted (inWords ws) v = v
 
 abbrev pub countedPart : Form → Part → Part

@@ -8,7 +8,7 @@ use lib.ListN.{length, drop}
 use Rattle.text_ascii.specs.Bytes.{begins}
 use Rattle.text_ascii.specs.Decimal.{isDigit, grown, beginsDigit}
 use Rattle.text_ascii.specs.Hex.{isHexDigit, hexGrown}
-use Rattle.text_entry.specs.Fields.{Form, inDecimal, inHex, inWords, Field, keyText, Kind, nameText}
+use Rattle.text_entry.specs.Fields.{Form, inDecimal, inHex, inHexOr, inWords, Field, keyText, Kind, nameText}
 
 -- what a line begins with: whether it reads, its value, and the bytes after it
 pub record Part : Type 0 where
@@ -42,6 +42,10 @@ readHex ℕ.zero n s = part n s
 readHex (suc k) n [] = unreadable
 readHex (suc k) n (c ∷ s) = cond (isHexDigit c) (readHex k (hexGrown n c) s) unreadable
 
+-- the part, or else another where it does not read
+abbrev pub orPart : Part → Part → Part
+orPart p other = cond (p .readable) p other
+
 -- the word, which has this index, or else another part
 abbrev pub wordOr : List ℕ → ℕ → List ℕ → Part → Part
 wordOr w i s other = cond (begins s w) (part i (drop (length w) s)) other
@@ -54,6 +58,7 @@ readWord i (w ∷ ws) s = wordOr w i s (readWord (suc i) ws s)
 unfoldable pub readValue : Form → List ℕ → Part
 readValue inDecimal s = readDecimal s
 readValue (inHex digits) s = readHex digits 0 s
+readValue (inHexOr digits others) s = orPart (readHex digits 0 s) (readHex others 0 s)
 readValue (inWords words) s = readWord 0 words s
 
 -- after what was read before: these bytes

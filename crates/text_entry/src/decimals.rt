@@ -9,8 +9,9 @@ ghost use Rattle.text_entry.specs.Fields.{kind};
 ghost use Rattle.text_entry.specs.Read.{isEnd, readKind};
 ghost use Rattle.text_entry.specs.Table.{anyBeyond, made};
 use crate::fields;
+use crate::value::BYTE_NUMBERS;
+use crate::value::Number;
 use crate::value::Value;
-use text_ascii::BYTE_NUMBERS;
 
 // Whether the line reads, whether each decimal fits a byte, and the decimals; what is not there is
 // 0.
@@ -23,7 +24,7 @@ pub struct Decimals {
 }
 
 // Whether each number fits a byte.
-pub fn bytes(a: u32, b: u32, c: u32, d: u32, e: u32) -> bool
+pub fn bytes(a: Number, b: Number, c: Number, d: Number, e: Number) -> bool
     ensures { λ r. ⌜ r ≡ not (anyBeyond (a ∷ b ∷ c ∷ d ∷ e ∷ [])) ⌝ }
 {
     !((BYTE_NUMBERS <= a)
@@ -33,7 +34,7 @@ pub fn bytes(a: u32, b: u32, c: u32, d: u32, e: u32) -> bool
         | (BYTE_NUMBERS <= e))
 }
 
-fn found(a: u32, b: u32, c: u32) -> Decimals
+fn found(a: Number, b: Number, c: Number) -> Decimals
     ensures { λ r. ⌜ r ≡ decimalsOf (some (a ∷ b ∷ c ∷ [])) ⌝ }
 {
     if !bytes(a, b, c, 0, 0) {
@@ -55,7 +56,7 @@ fn found(a: u32, b: u32, c: u32) -> Decimals
 }
 
 // The numbers of a line, if it ends after the last value.
-fn at_end(line: &[u8], last: Value, a: u32, b: u32, c: u32) -> Decimals
+fn at_end(line: &[u8], last: Value, a: Number, b: Number, c: Number) -> Decimals
     ensures { λ r. ⌜ r ≡ cond (last .readable && isEnd (drop (last .end) (now (line .entry)))) (decimalsOf (some (a ∷ b ∷ c ∷ []))) (decimalsOf none) ⌝ }
 {
     if fields::ends(line, last) {

@@ -17,6 +17,7 @@ ghost use Rattle.text_entry.specs.Table.{made};
 ghost use Rattle.text_entry.specs.Entry.{readingOf, reading, takeOf, voteOf};
 use decimals::Decimals;
 use log_entry::Entry;
+use value::Number;
 use value::Value;
 
 // What a line is: an entry; the text of an entry with a number beyond a byte; or no text of an
@@ -61,13 +62,13 @@ fn read_take(line: &[u8]) -> Reading
 
 // The vote of these numbers.
 pub fn made_vote(
-    process: u32,
-    by: u32,
-    store: u32,
-    tx: u32,
-    list: u32,
-    say: u32,
-    update: u32,
+    process: Number,
+    by: Number,
+    store: Number,
+    tx: Number,
+    list: Number,
+    say: Number,
+    update: Number,
 ) -> Reading
     ensures { λ r. ⌜ r ≡ readingOf (some (voteEntry process by store tx list (eqb say 1) update)) ⌝ }
 {

@@ -7,17 +7,25 @@ ghost use Rattle.text_ascii.specs.Bytes.{begins};
 ghost use Rattle.text_ascii.specs.Decimal.{beginsDigit};
 ghost use Rattle.text_ascii.specs.Hex.{beginsHexDigit, isHexDigit, hexDigitOf, listDigits, updateDigits};
 ghost use Rattle.text_entry.specs.Fields.{inDecimal, inHex};
+ghost use Rattle.text_entry.specs.Kinds.{updateForm};
 ghost use Rattle.text_entry.specs.Read.{after as Read·after, leadingZero, readDigits, valueAfter};
 ghost use Rattle.text_entry.specs.Read.{unreadable as Read·unreadable};
 ghost use Rattle.text_entry.specs.Seen.{seen, capped, wordAfter};
-use text_ascii::BYTE_NUMBERS;
+use log_entry::limits::Update;
+use text_ascii::EARLIER_DIGITS;
 use text_ascii::LIST_DIGITS;
 use text_ascii::UPDATE_DIGITS;
+
+// A number of a line. The widest one is an update.
+pub type Number = Update;
+
+// A byte holds the numbers below this one.
+pub const BYTE_NUMBERS: Number = 256;
 
 // A value read from a line: whether it reads, its number, and where it ends in the line.
 pub struct Value {
     pub readable: bool,
-    pub number: u32,
+    pub number: Number,
     pub end: usize,
 }
 
@@ -88,7 +96,7 @@ fn leading_zero(line: &[u8], at: usize) -> bool
     (line[at] == 48) & is_digit(line, at + 1)
 }
 
-fn least(a: u32, b: u32) -> u32
+fn least(a: Number, b: Number) -> Number
     ensures { λ r. ⌜ r ≡ min a b ⌝ }
 {
     if a < b { a } else { b }
@@ -98,9 +106,9 @@ fn least(a: u32, b: u32) -> u32
 fn digits(line: &[u8], mut at: usize) -> Value
     ensures { λ r. ⌜ seen (now (line .entry)) r ≡ capped (readDigits 0 (drop at (now (line .entry)))) ⌝ }
 {
-    let mut number: u32 = 0;
+    let mut number: Number = 0;
     while is_digit(line, at) {
-        number = least(number * 10 + (line[at] - 48) as u32, BYTE_NUMBERS);
+        number = least(number * 10 + (line[at] - 48) as Number, BYTE_NUMBERS);
         at += 1;
     }
     Value {
@@ -138,14 +146,14 @@ fn is_hex_digit(line: &[u8], at: usize) -> bool
     ((48 <= c) & (c <= 57)) | ((97 <= c) & (c <= 102))
 }
 
-fn hex_number(c: u8) -> u32
+fn hex_number(c: u8) -> Number
     requires { ⌜ isHexDigit c ≡ true ⌝ }
     ensures { λ r. ⌜ r ≡ hexDigitOf c ⌝ }
 {
     if c <= 57 {
-        return (c - 48) as u32;
+        return (c - 48) as Number;
     }
-    (c - 87) as u32
+    (c - 87) as Number
 }
 
 // After a value: a given count of hexadecimal digits.
@@ -156,7 +164,7 @@ fn hex(line: &[u8], before: Value, mut count: usize) -> Value
     if !before.readable {
         return unreadable(line);
     }
-    let mut number: u32 = 0;
+    let mut number: Number = 0;
     let mut i = before.end;
     while 0 < count {
         if !is_hex_digit(line, i) {
@@ -180,15 +188,19 @@ pub fn list_digits(line: &[u8], before: Value) -> Value
     hex(line, before, LIST_DIGITS as usize)
 }
 
-// After a value: the digits of an update.
+// After a value: the digits of an update, or else as many as it had earlier.
 pub fn update_digits(line: &[u8], before: Value) -> Value
-    ensures { λ r. ⌜ seen (now (line .entry)) r ≡ valueAfter (inHex updateDigits) (seen (now (line .entry)) before) ⌝ }
+    ensures { λ r. ⌜ seen (now (line .entry)) r ≡ valueAfter updateForm (seen (now (line .entry)) before) ⌝ }
 {
-    hex(line, before, UPDATE_DIGITS as usize)
+    let update = hex(line, before, UPDATE_DIGITS as usize);
+    if update.readable {
+        return update;
+    }
+    hex(line, before, EARLIER_DIGITS as usize)
 }
 
 // After a value: the word, which has this number, or else another value.
-pub fn word(line: &[u8], before: Value, word: &[u8], number: u32, other: Value) -> Value
+pub fn word(line: &[u8], before: Value, word: &[u8], number: Number, other: Value) -> Value
     ensures { λ r. ⌜ seen (now (line .entry)) r ≡ wordAfter (now (word .entry)) number (seen (now (line .entry)) before) (seen (now (line .entry)) other) ⌝ }
 {
     let found = after(line, before, word);

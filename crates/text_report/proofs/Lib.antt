@@ -1,4 +1,5 @@
 pub mod Each
 pub mod Lengths
 pub mod Texts
+pub mod Theorems
 pub mod PrintedLaws

@@ -1,3 +1,4 @@
+pub mod Claims
 pub mod Printed
 pub mod Report
 pub mod Within

@@ -16,6 +16,7 @@ use log_entry::limits::STORE_PLACES;
 use log_entry::limits::STORES;
 use log_entry::limits::TRANSACTION_PLACES;
 use log_entry::limits::TRANSACTIONS;
+use log_entry::limits::Update;
 use log_votes::Outcome;
 use text_ascii::UPDATE_DIGITS;
 use text_lines::ANSWERED_LINES;
@@ -69,7 +70,7 @@ pub fn outcome_field(out: &mut [u8], at: usize, key: &[u8], outcome: Outcome) ->
 }
 
 // A key and an update.
-pub fn update_field(out: &mut [u8], at: usize, key: &[u8], update: u32) -> usize
+pub fn update_field(out: &mut [u8], at: usize, key: &[u8], update: Update) -> usize
     ensures { λ r. ⌜ Within (length (now (key .entry)) + updateDigits) (now (out .entry)) at (updateField (now (key .entry)) update) (now (out .exit)) r ⌝ }
 {
     let at = text_ascii::word(out, at, key);
@@ -107,7 +108,7 @@ pub fn holder_line(out: &mut [u8], at: usize, store: u8, holder: u8) -> usize
     end(out, at)
 }
 
-pub fn replay_line(out: &mut [u8], at: usize, store: u8, group: u8, tx: u8, update: u32) -> usize
+pub fn replay_line(out: &mut [u8], at: usize, store: u8, group: u8, tx: u8, update: Update) -> usize
     ensures { λ r. ⌜ Within longestLine (now (out .entry)) at (replayLine store (record { group = group; tx = tx; update = update })) (now (out .exit)) r ⌝ }
 {
     let at = byte_fields(out, at, b"store=", store, b" group=", group);

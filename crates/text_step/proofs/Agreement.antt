@@ -3,11 +3,12 @@ use Prim.Native.Nat.{ℕ, suc, _≤_, _<_}
 use native.Mathlib.Omega.{arith}
 use mathlib.Core.Bool.{Bool, true, false, true≢false}
 use mathlib.Core.List.{List, [], _∷_, _++_}
-use mathlib.Core.Logic.{inl, inr}
+use mathlib.Core.Logic.{_⊎_, inl, inr}
 use mathlib.Core.Option.{some}
 use mathlib.Core.Path.{_≡_, refl, sym, _∙_, ap, subst}
 use lib.ListN.{length}
 use Rattle.text_ascii.specs.Decimal.{byteNumbers}
+use Rattle.text_ascii.specs.Hex.{earlierDigits, updateDigits}
 use Rattle.text_ascii.proofs.Words.{clash}
 use Rattle.log_entry.specs.declared.Entry.{Entry}
 use Rattle.model_steps.specs.declared.Role.{Role}
@@ -16,17 +17,17 @@ use Rattle.model_steps.specs.declared.Step.{Step}
 use Rattle.model_steps.specs.declared.Step.the-variants.{Setup, Request, Open, Propose, Deliver, Tell, Restore, Follow, Crash}
 use Rattle.model_steps.specs.Limits.{outsideStep}
 use Rattle.text_entry.specs.Entry as entry
-use Rattle.text_entry.specs.Fields.{Field, lineText}
-use Rattle.text_entry.specs.Kinds.{voteKind}
+use Rattle.text_entry.specs.Fields.{Field, inHex, lineText}
+use Rattle.text_entry.specs.Kinds.{voteKind, voteWith}
 use Rattle.text_entry.specs.Table.{Reader, at, reader}
-use Rattle.text_entry.proofs.ReadsText.{IndexedAll, LineAt}
-use Rattle.text_entry.proofs.Table.{Distinct, by-fields, elements, first-reads, first-written, namesApart, outside-some, read-some, some-not, unreadable-none}
-use Rattle.text_entry.proofs.TextReads.{WritableAll, apart, clashAll}
-use Rattle.text_entry.proofs.Votes.{vote-back, vote-values, vote-writable}
+use Rattle.text_entry.proofs.LineTexts.{LineIs, WritableAll, line-text-is, oneTextAll, written-line}
+use Rattle.text_entry.proofs.Table.{At, Distinct, by-fields, elements, first-reads, first-written, namesApart, outside-some, read-some, some-not, unreadable-none}
+use Rattle.text_entry.proofs.TextReads.{SoundAll, apart, clashAll}
+use Rattle.text_entry.proofs.Votes.{earlier-written, now-written, vote-back, vote-sound, vote-values, vote-writable, which-written}
 use Rattle.text_step.specs.declared.Reading.the-variants.{Read, Outside, Unreadable}
-use Rattle.text_step.specs.Claims.{IsText, OutsideLineIsText, ReadIsText, ReadLineIsText, TextReadsBack, TextWithinLimitsRead, UnreadableIsNoText}
-use Rattle.text_step.specs.Kinds.{sentTake, sentVote, setupKind, openKind, proposeKind, deliverKind, tellKind, restoreKind, followKind, crashKind, to}
-use Rattle.text_step.specs.Step.{HasText, beyond, crashOf, deliverOf, followOf, openOf, proposeOf, readStep, readingOf, restoreOf, roleNumber, roleOf, setupOf, stepReaders, takeOf, tellOf, text, voteOf}
+use Rattle.text_step.specs.Claims.{IsText, IsTextIn, OutsideLineIsText, ReadLineIsText, ReadsExactly, TextReadsBack, TextWithinLimitsRead, UnreadableIsNoText}
+use Rattle.text_step.specs.Kinds.{sentTake, sentVote, sentVoteWith, setupKind, openKind, proposeKind, deliverKind, tellKind, restoreKind, followKind, crashKind, to}
+use Rattle.text_step.specs.Step.{HasText, HasTextIn, beyond, crashOf, deliverOf, followOf, openOf, proposeOf, readStep, readingOf, restoreOf, roleNumber, roleOf, setupOf, stepReaders, takeOf, tellOf, text, textIn, voteOf}
 use Rattle.text_step.proofs.Beyond.{beyond-is-outside}
 
 -- ---- what is written reads back
@@ -48,54 +49,84 @@ writable-then [] (v ∷ vs) n h = absurd h
 writable-then (f ∷ fs) [] n h = absurd h
 writable-then (f ∷ fs) (v ∷ vs) n h = (h .0, writable-then fs vs n (h .1))
 
-request-reads : (e : Entry) (to : ℕ) → entry.HasText e → readStep (text (Request e to)) ≡ some (Request e to)
-unfolding text readStep namesApart clash
-request-reads e to (inl h) =
-    ap (λ (x : Entry). readStep (text (Request x to))) h
-    ∙ first-reads stepReaders 1 (reader sentTake takeOf) (entry.takeValues e ++ to ∷ []) refl refl (tt, (tt, (tt, tt)))
-    ∙ ap (λ (x : Entry). some (Request x to)) (sym h)
-request-reads e to (inr h) =
-    let written : text (Request e to) ≡ lineText sentVote (entry.voteValues e ++ to ∷ []) = rw (h .0) in
-    ap readStep written
-    ∙ first-reads stepReaders 2 (reader sentVote voteOf) (entry.voteValues e ++ to ∷ []) refl refl
-    (writable-then (voteKind .fields) (entry.voteValues e) to (vote-writable e (h .1) (h .2)))
-    ∙ ap (λ (x : Entry). some (Request x to)) (vote-back e (h .0))
+-- fields whose values can be read, and one more of a decimal
+sound-then : (fs : List Field) → SoundAll fs → SoundAll (fs ++ to ∷ [])
+sound-then [] h = (tt, tt)
+sound-then (f ∷ fs) h = (h .0, sound-then fs (h .1))
+
+-- a line that is the text of its values is read as what they make
+module _ (i : ℕ) (r : Reader Step) (vs l : List ℕ) (s : Step) where
+  text-reads : At stepReaders i r → namesApart stepReaders i (r .kind) ≡ true → SoundAll (r .kind .fields) → WritableAll (r .kind .fields) vs
+      → l ≡ lineText (r .kind) vs → r .build vs ≡ s → readStep l ≡ some s
+  unfolding readStep
+  text-reads there apart-before sound writable written made =
+      first-reads stepReaders i r vs l there apart-before sound (subst (LineIs (r .kind) vs) (sym written) (written-line (r .kind) vs writable))
+      ∙ ap some made
+
+-- a text with a count of digits that is read
+module _ (digits : ℕ) (voted : (vs l : List ℕ) → LineIs (sentVoteWith (inHex digits)) vs l → LineIs sentVote vs l) (l : List ℕ) where
+  request-reads : (e : Entry) (n : ℕ) → l ≡ textIn digits (Request e n) → entry.HasTextIn digits e → readStep l ≡ some (Request e n)
+  unfolding textIn readStep namesApart clash
+  request-reads e n t (inl h) =
+      text-reads 1 (reader sentTake takeOf) (entry.takeValues e ++ n ∷ []) l (Request e n) refl refl (tt, (tt, (tt, tt))) (tt, (tt, (tt, tt)))
+      (t ∙ ap (λ (x : Entry). textIn digits (Request x n)) h) (ap (λ (x : Entry). Request x n) (sym h))
+  request-reads e n t (inr h) =
+      let k = sentVoteWith (inHex digits) in
+      let vs = entry.voteValues e ++ n ∷ [] in
+      let written : l ≡ lineText k vs = t ∙ rw (h .0) in
+      let line = written-line k vs (writable-then (voteWith (inHex digits) .fields) (entry.voteValues e) n (vote-writable digits e (h .1) (h .2))) in
+      first-reads stepReaders 2 (reader sentVote voteOf) vs l refl refl (sound-then (voteKind .fields) vote-sound) (voted vs l (subst (LineIs k vs) (sym written) line))
+      ∙ ap (λ (x : Entry). some (Request x n)) (vote-back e (h .0))
+
+  reads-in : (s : Step) → l ≡ textIn digits s → HasTextIn digits s → readStep l ≡ some s
+  unfolding textIn namesApart clash apart clashAll
+  reads-in (Setup n) t h = text-reads 3 (reader setupKind setupOf) (n ∷ []) l (Setup n) refl refl (tt, tt) (tt, tt) t refl
+  reads-in (Request e n) t h = request-reads e n t h
+  reads-in (Open c i b) t h = text-reads 4 (reader openKind openOf) (c ∷ i ∷ b ∷ []) l (Open c i b) refl refl (tt, (tt, (tt, tt))) (tt, (tt, (tt, tt))) t refl
+  reads-in (Propose c i b) t h = text-reads 5 (reader proposeKind proposeOf) (c ∷ i ∷ b ∷ []) l (Propose c i b) refl refl (tt, (tt, (tt, tt))) (tt, (tt, (tt, tt))) t refl
+  reads-in (Deliver m) t h = text-reads 0 (reader deliverKind deliverOf) (m ∷ []) l (Deliver m) refl refl (tt, tt) (tt, tt) t refl
+  reads-in (Tell c p tx) t h = text-reads 6 (reader tellKind tellOf) (c ∷ p ∷ tx ∷ []) l (Tell c p tx) refl refl (tt, (tt, (tt, tt))) (tt, (tt, (tt, tt))) t refl
+  reads-in (Restore c p) t h = text-reads 7 (reader restoreKind restoreOf) (c ∷ p ∷ []) l (Restore c p) refl refl (tt, (tt, tt)) (tt, (tt, tt)) t refl
+  reads-in (Follow c p tx) t h = text-reads 8 (reader followKind followOf) (c ∷ p ∷ tx ∷ []) l (Follow c p tx) refl refl (tt, (tt, (tt, tt))) (tt, (tt, (tt, tt))) t refl
+  reads-in (Crash r id) t h =
+      text-reads 9 (reader crashKind crashOf) (roleNumber r ∷ id ∷ []) l (Crash r id) refl refl (refl, (tt, tt)) (role-fits r, (tt, tt)) t (ap (λ (x : Role). Crash x id) (role-back r))
+
+every-text-reads : (l : List ℕ) (s : Step) → IsText l s → readStep l ≡ some s
+every-text-reads l s (inl t) = reads-in updateDigits (now-written (to ∷ [])) l s (t .line) (t .hasText)
+every-text-reads l s (inr t) = reads-in earlierDigits (earlier-written (to ∷ [])) l s (t .line) (t .hasText)
 
 pub text-reads-back : TextReadsBack
-unfolding text readStep namesApart clash apart clashAll
-text-reads-back (Setup n) h = first-reads stepReaders 3 (reader setupKind setupOf) (n ∷ []) refl refl (tt, tt)
-text-reads-back (Request e to) h = request-reads e to h
-text-reads-back (Open c i b) h = first-reads stepReaders 4 (reader openKind openOf) (c ∷ i ∷ b ∷ []) refl refl (tt, (tt, (tt, tt)))
-text-reads-back (Propose c i b) h = first-reads stepReaders 5 (reader proposeKind proposeOf) (c ∷ i ∷ b ∷ []) refl refl (tt, (tt, (tt, tt)))
-text-reads-back (Deliver m) h = first-reads stepReaders 0 (reader deliverKind deliverOf) (m ∷ []) refl refl (tt, tt)
-text-reads-back (Tell c p tx) h = first-reads stepReaders 6 (reader tellKind tellOf) (c ∷ p ∷ tx ∷ []) refl refl (tt, (tt, (tt, tt)))
-text-reads-back (Restore c p) h = first-reads stepReaders 7 (reader restoreKind restoreOf) (c ∷ p ∷ []) refl refl (tt, (tt, tt))
-text-reads-back (Follow c p tx) h = first-reads stepReaders 8 (reader followKind followOf) (c ∷ p ∷ tx ∷ []) refl refl (tt, (tt, (tt, tt)))
-text-reads-back (Crash r id) h =
-    first-reads stepReaders 9 (reader crashKind crashOf) (roleNumber r ∷ id ∷ []) refl refl ((role-fits r, refl), (tt, tt))
-    ∙ ap (λ (x : Role). some (Crash x id)) (role-back r)
+text-reads-back s h = every-text-reads (text s) s (inl (record { line = refl; hasText = h }))
 
 -- ---- what reads was written
 
 -- a kind whose text is that of its values, one by one
-module _ (r : Reader Step) (written : (vs : List ℕ) → text (r .build vs) ≡ lineText (r .kind) (elements (length (r .kind .fields)) 0 vs))
-    (has : (vs : List ℕ) → HasText (r .build vs)) (l vs : List ℕ) where
-  kind-is-text : LineAt (r .kind) l vs → IsText l (r .build vs)
-  kind-is-text h = record {
-    line = h .text ∙ ap (lineText (r .kind)) (by-fields (r .kind .fields) vs (h .indexed)) ∙ sym (written vs);
-    hasText = has vs;
-  }
+module _ (r : Reader Step) (one : oneTextAll (r .kind .fields) ≡ true)
+    (written : (vs : List ℕ) → text (r .build vs) ≡ lineText (r .kind) (elements (length (r .kind .fields)) 0 vs)) (has : (vs : List ℕ) → HasText (r .build vs)) (l vs : List ℕ) where
+  kind-is-text : LineIs (r .kind) vs l → IsText l (r .build vs)
+  kind-is-text h =
+      let t = line-text-is (r .kind) vs l one h in
+      inl (record { line = t .text ∙ ap (lineText (r .kind)) (by-fields (r .kind) vs l h) ∙ sym (written vs); hasText = has vs })
 
 module _ (l vs : List ℕ) where
-  vote-is-text : LineAt sentVote l vs → IsText l (voteOf vs)
-  unfolding text
-  vote-is-text r =
-      let e = by-fields (sentVote .fields) vs (r .indexed) in
-      let k = subst (IndexedAll (sentVote .fields)) e (r .indexed) in
+  vote-is-text-in : (digits : ℕ) → LineIs (sentVoteWith (inHex digits)) vs l → IsTextIn digits l (voteOf vs)
+  unfolding textIn oneTextAll
+  vote-is-text-in digits h =
+      let k = sentVoteWith (inHex digits) in
+      let r = line-text-is k vs l refl h in
+      let e = by-fields k vs l h in
+      let w = subst (WritableAll (k .fields)) e (r .writable) in
       record {
-        line = r .text ∙ ap (lineText sentVote) (e ∙ ap (λ (us : List ℕ). us ++ at vs 7 ∷ []) (vote-values vs (k .1 .1 .1 .1 .1 .0)));
-        hasText = inr (refl, k .1 .1 .1 .1 .0, k .1 .1 .1 .1 .1 .1 .0);
+        line = r .text ∙ ap (lineText k) (e ∙ ap (λ (us : List ℕ). us ++ at vs 7 ∷ []) (vote-values vs (w .1 .1 .1 .1 .1 .0)));
+        hasText = inr (refl, w .1 .1 .1 .1 .0, w .1 .1 .1 .1 .1 .1 .0);
       }
+
+  vote-is-text : LineIs sentVote vs l → IsText l (voteOf vs)
+  vote-is-text h = go (which-written (to ∷ []) vs l h)
+    where
+      go : LineIs (sentVoteWith (inHex updateDigits)) vs l ⊎ LineIs (sentVoteWith (inHex earlierDigits)) vs l → IsText l (voteOf vs)
+      go (inl k) = inl (vote-is-text-in updateDigits k)
+      go (inr k) = inr (vote-is-text-in earlierDigits k)
 
   role-number : (v : ℕ) → v < 3 → v ≡ roleNumber (roleOf v)
   role-number ℕ.zero h = refl
@@ -103,34 +134,35 @@ module _ (l vs : List ℕ) where
   role-number (suc (suc ℕ.zero)) h = refl
   role-number (suc (suc (suc v))) h = absurd (omega arith)
 
-  crash-is-text : LineAt crashKind l vs → IsText l (crashOf vs)
-  unfolding text
-  crash-is-text r =
-      let e = by-fields (crashKind .fields) vs (r .indexed) in
-      let k = subst (IndexedAll (crashKind .fields)) e (r .indexed) in
-      record { line = r .text ∙ ap (lineText crashKind) (e ∙ ap (λ (v : ℕ). v ∷ at vs 1 ∷ []) (role-number (at vs 0) (k .0))); hasText = tt }
+  crash-is-text : LineIs crashKind vs l → IsText l (crashOf vs)
+  unfolding textIn oneTextAll
+  crash-is-text h =
+      let r = line-text-is crashKind vs l refl h in
+      let e = by-fields crashKind vs l h in
+      let w = subst (WritableAll (crashKind .fields)) e (r .writable) in
+      inl (record { line = r .text ∙ ap (lineText crashKind) (e ∙ ap (λ (v : ℕ). v ∷ at vs 1 ∷ []) (role-number (at vs 0) (w .0))); hasText = tt })
 
-pub read-is-text : ReadIsText
-unfolding readStep text
+read-is-text : (l : List ℕ) (s : Step) → readStep l ≡ some s → IsText l s
+unfolding readStep textIn oneTextAll
 read-is-text l s h =
     first-written (IsText l) stepReaders l (
-      kind-is-text (reader deliverKind deliverOf) (λ vs. refl) (λ vs. tt) l,
+      kind-is-text (reader deliverKind deliverOf) refl (λ vs. refl) (λ vs. tt) l,
       (
-        kind-is-text (reader sentTake takeOf) (λ vs. refl) (λ vs. inl refl) l,
+        kind-is-text (reader sentTake takeOf) refl (λ vs. refl) (λ vs. inl refl) l,
         (
           vote-is-text l,
           (
-            kind-is-text (reader setupKind setupOf) (λ vs. refl) (λ vs. tt) l,
+            kind-is-text (reader setupKind setupOf) refl (λ vs. refl) (λ vs. tt) l,
             (
-              kind-is-text (reader openKind openOf) (λ vs. refl) (λ vs. tt) l,
+              kind-is-text (reader openKind openOf) refl (λ vs. refl) (λ vs. tt) l,
               (
-                kind-is-text (reader proposeKind proposeOf) (λ vs. refl) (λ vs. tt) l,
+                kind-is-text (reader proposeKind proposeOf) refl (λ vs. refl) (λ vs. tt) l,
                 (
-                  kind-is-text (reader tellKind tellOf) (λ vs. refl) (λ vs. tt) l,
+                  kind-is-text (reader tellKind tellOf) refl (λ vs. refl) (λ vs. tt) l,
                   (
-                    kind-is-text (reader restoreKind restoreOf) (λ vs. refl) (λ vs. tt) l,
+                    kind-is-text (reader restoreKind restoreOf) refl (λ vs. refl) (λ vs. tt) l,
                     (
-                      kind-is-text (reader followKind followOf) (λ vs. refl) (λ vs. tt) l,
+                      kind-is-text (reader followKind followOf) refl (λ vs. refl) (λ vs. tt) l,
                       (crash-is-text l, tt),
                     ),
                   ),
@@ -142,6 +174,9 @@ read-is-text l s h =
       ),
     ) s h
 
+pub reads-exactly : ReadsExactly
+reads-exactly l s = (read-is-text l s, every-text-reads l s)
+
 -- ---- the reader's answers
 
 pub distinct : Distinct Read Outside Unreadable
@@ -152,15 +187,20 @@ distinct = record {
   outside-unreadable = λ h. let z : _≡_ {A = ℕ} 0 1 = cc in omega arith;
 }
 
-within-bytes : (n : ℕ) → n ≤ byteNumbers → (s : Step) → HasText s → outsideStep n s ≡ false → beyond s ≡ false
-within-bytes n k s t h = go (beyond s) refl
+-- a text with a number beyond a byte has one outside its limits
+pub text-beyond : (n : ℕ) → n ≤ byteNumbers → (l : List ℕ) (s : Step) → IsText l s → beyond s ≡ true → outsideStep n s ≡ true
+text-beyond n k l s (inl t) = beyond-is-outside n k updateDigits s (t .hasText)
+text-beyond n k l s (inr t) = beyond-is-outside n k earlierDigits s (t .hasText)
+
+within-bytes : (n : ℕ) → n ≤ byteNumbers → (l : List ℕ) (s : Step) → IsText l s → outsideStep n s ≡ false → beyond s ≡ false
+within-bytes n k l s t h = go (beyond s) refl
   where
     go : (b : Bool) → beyond s ≡ b → b ≡ false
-    go true m = absurd (true≢false (sym (beyond-is-outside n k s t m) ∙ h))
+    go true m = absurd (true≢false (sym (text-beyond n k l s t m) ∙ h))
     go false m = refl
 
 pub text-within-limits-read : TextWithinLimitsRead
-text-within-limits-read n k s t h = ap readingOf (text-reads-back s t) ∙ rw (within-bytes n k s t h)
+text-within-limits-read n k l s t h = ap readingOf (every-text-reads l s t) ∙ rw (within-bytes n k l s t h)
 
 pub read-line-is-text : ReadLineIsText
 read-line-is-text l s h = read-is-text l s (read-some Read Outside Unreadable beyond distinct (readStep l) s h)
@@ -169,8 +209,8 @@ pub outside-line-is-text : OutsideLineIsText
 outside-line-is-text l h =
     let t = outside-some Read Outside Unreadable beyond distinct (readStep l) h in
     let r = read-is-text l (t .0) (t .1) in
-    (t .0, r, λ n k. beyond-is-outside n k (t .0) (r .hasText) (t .2))
+    (t .0, r, λ n k. text-beyond n k l (t .0) r (t .2))
 
 pub unreadable-is-no-text : UnreadableIsNoText
 unreadable-is-no-text l h s t =
-    some-not s (sym (unreadable-none Read Outside Unreadable beyond distinct (readStep l) h) ∙ ap readStep (t .line) ∙ text-reads-back s (t .hasText))
+    some-not s (sym (unreadable-none Read Outside Unreadable beyond distinct (readStep l) h) ∙ every-text-reads l s t)

@@ -20,7 +20,7 @@ use Rattle.text_entry.specs.Table.{anyBeyond, noByte}
 use Rattle.text_entry.proofs.Beyond as texts
 use Rattle.text_entry.proofs.Beyond.{beyond-cases, first-of, no-such-process, second-of, third-of}
 use Rattle.text_step.proofs.Readings.{beyond-last}
-use Rattle.text_step.specs.Step.{HasText, beyond, numbers}
+use Rattle.text_step.specs.Step.{HasTextIn, beyond, numbers}
 
 coordinator-beyond : (c : ℕ) → byteNumbers ≤ c → noCoordinator c ≡ true
 coordinator-beyond c h = le-leb coordinators c (omega arith)
@@ -54,11 +54,11 @@ party-beyond n k Coord id h = coordinator-beyond id h
 party-beyond n k Proc id h = no-such-process id h
 
 -- the entry or its receiver
-request-beyond : (e : Entry) (to : ℕ) → entry.HasText e → anyBeyond (entry.numbers e ++ to ∷ []) ≡ true → (outside e || noCoordinator to) ≡ true
-request-beyond e to t h = go (entry.beyond e) (noByte to) refl refl (sym (beyond-last (entry.numbers e) to) ∙ h)
+request-beyond : (digits : ℕ) (e : Entry) (to : ℕ) → entry.HasTextIn digits e → anyBeyond (entry.numbers e ++ to ∷ []) ≡ true → (outside e || noCoordinator to) ≡ true
+request-beyond digits e to t h = go (entry.beyond e) (noByte to) refl refl (sym (beyond-last (entry.numbers e) to) ∙ h)
   where
     go : (b c : Bool) → entry.beyond e ≡ b → noByte to ≡ c → (b || c) ≡ true → (outside e || noCoordinator to) ≡ true
-    go true c k m z = or-left (outside e) (noCoordinator to) (texts.beyond-is-outside e t k)
+    go true c k m z = or-left (outside e) (noCoordinator to) (texts.beyond-is-outside digits e t k)
     go false c k m z = or-right (outside e) (noCoordinator to) (coordinator-beyond to (leb-true byteNumbers to (m ∙ z)))
 
 -- a coordinator, a process or a transaction
@@ -73,17 +73,17 @@ tell-beyond c p tx =
     )
 
 -- the step has a number outside its limits, whichever of the numbers of acceptors counts
-pub beyond-is-outside : (n : ℕ) → n ≤ byteNumbers → (s : Step) → HasText s → beyond s ≡ true → outsideStep n s ≡ true
+pub beyond-is-outside : (n : ℕ) → n ≤ byteNumbers → (digits : ℕ) (s : Step) → HasTextIn digits s → beyond s ≡ true → outsideStep n s ≡ true
 unfolding outsideStep
-beyond-is-outside n k (Setup a) t = beyond-cases (not (eqb a 3 || eqb a mostAcceptors) ≡ true) (a ∷ []) ((λ h. setup-beyond a h), tt)
-beyond-is-outside n k (Request e to) t = request-beyond e to t
-beyond-is-outside n k (Open c i b) t = round-beyond c i b
-beyond-is-outside n k (Propose c i b) t = round-beyond c i b
-beyond-is-outside n k (Deliver m) t = beyond-cases (leb messages m ≡ true) (m ∷ []) ((λ h. le-leb messages m (omega arith)), tt)
-beyond-is-outside n k (Tell c p tx) t = tell-beyond c p tx
-beyond-is-outside n k (Restore c p) t =
+beyond-is-outside n k digits (Setup a) t = beyond-cases (not (eqb a 3 || eqb a mostAcceptors) ≡ true) (a ∷ []) ((λ h. setup-beyond a h), tt)
+beyond-is-outside n k digits (Request e to) t = request-beyond digits e to t
+beyond-is-outside n k digits (Open c i b) t = round-beyond c i b
+beyond-is-outside n k digits (Propose c i b) t = round-beyond c i b
+beyond-is-outside n k digits (Deliver m) t = beyond-cases (leb messages m ≡ true) (m ∷ []) ((λ h. le-leb messages m (omega arith)), tt)
+beyond-is-outside n k digits (Tell c p tx) t = tell-beyond c p tx
+beyond-is-outside n k digits (Restore c p) t =
     let x = noCoordinator c in
     let y = noProcess p in
     beyond-cases ((x || y) ≡ true) (c ∷ p ∷ []) ((λ h. or-left x y (coordinator-beyond c h)), ((λ h. or-right x y (no-such-process p h)), tt))
-beyond-is-outside n k (Follow c p tx) t = tell-beyond c p tx
-beyond-is-outside n k (Crash r id) t = beyond-cases (noParty n r id ≡ true) (id ∷ []) ((λ h. party-beyond n k r id h), tt)
+beyond-is-outside n k digits (Follow c p tx) t = tell-beyond c p tx
+beyond-is-outside n k digits (Crash r id) t = beyond-cases (noParty n r id ≡ true) (id ∷ []) ((λ h. party-beyond n k r id h), tt)

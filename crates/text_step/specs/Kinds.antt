@@ -3,8 +3,8 @@
 use mathlib.Core.List.{[], _∷_, _++_}
 use Rattle.text_ascii.specs.Bytes.{ascii}
 use Rattle.text_entry.specs.Decimals.{decimalField}
-use Rattle.text_entry.specs.Fields.{Field, Kind, field, inWords, kind}
-use Rattle.text_entry.specs.Kinds.{proc, takeKind, tx, voteKind}
+use Rattle.text_entry.specs.Fields.{Field, Form, Kind, field, inWords, kind}
+use Rattle.text_entry.specs.Kinds.{proc, takeKind, tx, updateForm, voteWith}
 
 abbrev pub to : Field
 to = decimalField (ascii "to")
@@ -38,8 +38,12 @@ sent k = kind (k .name) (k .fields ++ to ∷ [])
 abbrev pub sentTake : Kind
 sentTake = sent takeKind
 
+-- a vote whose update is written so
+abbrev pub sentVoteWith : Form → Kind
+sentVoteWith form = sent (voteWith form)
+
 abbrev pub sentVote : Kind
-sentVote = sent voteKind
+sentVote = sentVoteWith updateForm
 
 abbrev pub setupKind : Kind
 setupKind = kind (ascii "setup") (acceptors ∷ [])

@@ -10,11 +10,12 @@ use Rattle.model_steps.specs.declared.Role.the-variants.{Acceptor, Coord, Proc}
 use Rattle.model_steps.specs.declared.Step.{Step}
 use Rattle.model_steps.specs.declared.Step.the-variants.{Setup, Request, Open, Propose, Deliver, Tell, Restore, Follow, Crash}
 use Rattle.text_entry.specs.Entry as entry
-use Rattle.text_entry.specs.Fields.{lineText}
+use Rattle.text_ascii.specs.Hex.{updateDigits}
+use Rattle.text_entry.specs.Fields.{inHex, lineText}
 use Rattle.text_entry.specs.Table.{Reader, anyBeyond, answerOf, at, readFirst, reader}
 use Rattle.text_step.specs.declared.Reading.{Reading}
 use Rattle.text_step.specs.declared.Reading.the-variants.{Read, Outside, Unreadable}
-use Rattle.text_step.specs.Kinds.{sentTake, sentVote, setupKind, openKind, proposeKind, deliverKind, tellKind, restoreKind, followKind, crashKind}
+use Rattle.text_step.specs.Kinds.{sentTake, sentVote, sentVoteWith, setupKind, openKind, proposeKind, deliverKind, tellKind, restoreKind, followKind, crashKind}
 
 -- the index of a role's word
 abbrev pub roleNumber : Role → ℕ
@@ -25,29 +26,37 @@ roleNumber Proc = 2
 abbrev pub roleOf : ℕ → Role
 roleOf n = cond (eqb n 0) Acceptor (cond (eqb n 1) Coord Proc)
 
--- the line of a step, whose numbers are of any size
-unfoldable pub text : Step → List ℕ
-text (Setup n) = lineText setupKind (n ∷ [])
-text (Request e to) = cond (e .take) (lineText sentTake (entry.takeValues e ++ to ∷ [])) (lineText sentVote (entry.voteValues e ++ to ∷ []))
-text (Open c i b) = lineText openKind (c ∷ i ∷ b ∷ [])
-text (Propose c i b) = lineText proposeKind (c ∷ i ∷ b ∷ [])
-text (Deliver m) = lineText deliverKind (m ∷ [])
-text (Tell c p tx) = lineText tellKind (c ∷ p ∷ tx ∷ [])
-text (Restore c p) = lineText restoreKind (c ∷ p ∷ [])
-text (Follow c p tx) = lineText followKind (c ∷ p ∷ tx ∷ [])
-text (Crash r id) = lineText crashKind (roleNumber r ∷ id ∷ [])
+-- the line of a step with so many digits of an update; other numbers are of any size
+unfoldable pub textIn : ℕ → Step → List ℕ
+textIn digits (Setup n) = lineText setupKind (n ∷ [])
+textIn digits (Request e to) =
+    cond (e .take) (lineText sentTake (entry.takeValues e ++ to ∷ [])) (lineText (sentVoteWith (inHex digits)) (entry.voteValues e ++ to ∷ []))
+textIn digits (Open c i b) = lineText openKind (c ∷ i ∷ b ∷ [])
+textIn digits (Propose c i b) = lineText proposeKind (c ∷ i ∷ b ∷ [])
+textIn digits (Deliver m) = lineText deliverKind (m ∷ [])
+textIn digits (Tell c p tx) = lineText tellKind (c ∷ p ∷ tx ∷ [])
+textIn digits (Restore c p) = lineText restoreKind (c ∷ p ∷ [])
+textIn digits (Follow c p tx) = lineText followKind (c ∷ p ∷ tx ∷ [])
+textIn digits (Crash r id) = lineText crashKind (roleNumber r ∷ id ∷ [])
 
--- a request has a text if its entry has one, and every other step has one
+-- a request has such a text if its entry has one, and every other step has one
+abbrev pub HasTextIn : ℕ → Step → Type 0
+HasTextIn digits (Setup n) = Unit {0}
+HasTextIn digits (Request e to) = entry.HasTextIn digits e
+HasTextIn digits (Open c i b) = Unit {0}
+HasTextIn digits (Propose c i b) = Unit {0}
+HasTextIn digits (Deliver m) = Unit {0}
+HasTextIn digits (Tell c p tx) = Unit {0}
+HasTextIn digits (Restore c p) = Unit {0}
+HasTextIn digits (Follow c p tx) = Unit {0}
+HasTextIn digits (Crash r id) = Unit {0}
+
+-- "printed as sixteen digits"
+abbrev pub text : Step → List ℕ
+text s = textIn updateDigits s
+
 abbrev pub HasText : Step → Type 0
-HasText (Setup n) = Unit {0}
-HasText (Request e to) = entry.HasText e
-HasText (Open c i b) = Unit {0}
-HasText (Propose c i b) = Unit {0}
-HasText (Deliver m) = Unit {0}
-HasText (Tell c p tx) = Unit {0}
-HasText (Restore c p) = Unit {0}
-HasText (Follow c p tx) = Unit {0}
-HasText (Crash r id) = Unit {0}
+HasText s = HasTextIn updateDigits s
 
 -- the step of a line's values
 abbrev pub takeOf : List ℕ → Step

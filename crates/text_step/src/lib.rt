@@ -15,11 +15,12 @@ ghost use Rattle.text_step.specs.Step.{readerAt, reading, readingOf, rol
 use log_entry::Entry;
 use model_steps::Role;
 use model_steps::Step;
-use text_ascii::BYTE_NUMBERS;
 use text_entry::decimals;
 use text_entry::decimals::Decimals;
 use text_entry::fields;
 use text_entry::value;
+use text_entry::value::BYTE_NUMBERS;
+use text_entry::value::Number;
 use text_entry::value::Value;
 
 // The kinds of lines: `stepReaders` of `specs/Step.antt` has them in their order.
@@ -54,7 +55,7 @@ fn read_take(line: &[u8]) -> Reading
 }
 
 // The request of this entry.
-fn request(entry: text_entry::Reading, to: u32) -> Reading
+fn request(entry: text_entry::Reading, to: Number) -> Reading
     ensures { λ r. ⌜ r ≡ requestOf entry to ⌝ }
 {
     match entry {
@@ -186,7 +187,7 @@ fn role_word(line: &[u8], before: Value) -> Value
 }
 
 // The role whose word has the index.
-fn role_of(n: u32) -> Role
+fn role_of(n: Number) -> Role
     ensures { λ r. ⌜ r ≡ roleOf n ⌝ }
 {
     if n == 0 {
@@ -199,7 +200,7 @@ fn role_of(n: u32) -> Role
 }
 
 // The crash of this party.
-fn made_crash(role: Role, id: u32) -> Reading
+fn made_crash(role: Role, id: Number) -> Reading
     ensures { λ r. ⌜ r ≡ readingOf (some (Crash role id)) ⌝ }
 {
     if BYTE_NUMBERS <= id {

@@ -2,6 +2,7 @@
 ghost use mathlib.Core.Path.{_≡_};
 ghost use Rattle.model_protocol.specs.Message.{acceptTo, acceptedFrom, ballotMessage, directMessage, followTo, prepareTo, promiseFrom, requestTo, restoreTo, tellTo};
 use log_entry::Entry;
+use log_entry::limits::Update;
 use log_votes::Outcome;
 use model_protocol::Batch;
 use model_protocol::Kind;
@@ -46,7 +47,7 @@ fn direct_message(
     store: u8,
     position: u8,
     running: u32,
-    update: u32,
+    update: Update,
 ) -> Message
     ensures { λ r. ⌜ r ≡ directMessage kind to entry tx outcome store position running update ⌝ }
 {
@@ -120,7 +121,7 @@ pub fn restore_to(process: u8, store: u8, position: u8, running: u32) -> Message
     )
 }
 
-pub fn follow_to(process: u8, store: u8, tx: u8, outcome: Outcome, update: u32) -> Message
+pub fn follow_to(process: u8, store: u8, tx: u8, outcome: Outcome, update: Update) -> Message
     ensures { λ r. ⌜ r ≡ followTo process store tx outcome update ⌝ }
 {
     direct_message(

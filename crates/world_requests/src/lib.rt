@@ -19,6 +19,7 @@ use log_core::Log;
 use log_entry::Entry;
 use log_entry::limits::STORE_PLACES;
 use log_entry::limits::STORES;
+use log_entry::limits::Update;
 use log_entry::refusal::NOT_MET;
 use model_protocol::Change;
 use model_protocol::Down;
@@ -178,7 +179,7 @@ fn voting_store(log: Log, process: u8, tx: u8) -> u8
 }
 
 // The update of the store's vote on the transaction; 0 unless the transaction is committed.
-fn update_of(log: Log, tx: u8, store: u8) -> u32
+fn update_of(log: Log, tx: u8, store: u8) -> Update
     ensures { λ r. ⌜ r ≡ updateOf log tx store ⌝ }
 {
     if log.outcome(tx).is_commit() {

@@ -26,9 +26,8 @@ use Rattle.text_ascii.specs.Decimal.{byteNumbers}
 use Rattle.text_step.specs.declared.Reading.{Reading}
 use Rattle.text_step.specs.declared.Reading.the-variants.{Read, Outside, Unreadable}
 use Rattle.text_step.specs.Claims.{IsText}
-use Rattle.text_step.specs.Step.{HasText, beyond, reading, readingOf, text}
-use Rattle.text_step.proofs.Agreement.{outside-line-is-text, read-line-is-text, text-reads-back}
-use Rattle.text_step.proofs.Beyond.{beyond-is-outside}
+use Rattle.text_step.specs.Step.{beyond, reading, readingOf}
+use Rattle.text_step.proofs.Agreement.{outside-line-is-text, read-line-is-text, reads-exactly, text-beyond}
 use Rattle.world_input.specs.Commands.{commandOf, commandTo, refusing}
 use Rattle.world_run.specs.Claims.{Answered2IsOutside, FewCount, FewCounted, LongLineIsUnreadable, OtherLineIsUnreadable, TextIsTaken, TextOutsideLimits, lineTaken}
 
@@ -47,18 +46,18 @@ few-counted steps = go (eqb (run freshWorld steps .acceptors) 0)
     go true = omega arith
     go false = omega (arith, in-bounds steps .acceptors)
 
-taken : (w : World) → FewCount w → (s : Step) → HasText s → (b : Bool) → beyond s ≡ b → carriedOut w (commandTo (cond b Outside (Read s))) ≡ stepOf w s
-taken w few s t true h = sym (outside-refused w s (beyond-is-outside (acceptorsCounted (w .acceptors)) few s t h))
-taken w few s t false h = refl
+taken : (w : World) → FewCount w → (line : List ℕ) (s : Step) → IsText line s → (b : Bool) → beyond s ≡ b → carriedOut w (commandTo (cond b Outside (Read s))) ≡ stepOf w s
+taken w few line s t true h = sym (outside-refused w s (text-beyond (acceptorsCounted (w .acceptors)) few line s t h))
+taken w few line s t false h = refl
 
 pub text-is-taken : TextIsTaken
-text-is-taken w few s t h =
-    short-line w (text s) h
-    ∙ ap (λ (o : Option Step). carriedOut w (commandTo (readingOf o))) (text-reads-back s t)
-    ∙ taken w few s t (beyond s) refl
+text-is-taken w few line s t h =
+    short-line w line h
+    ∙ ap (λ (o : Option Step). carriedOut w (commandTo (readingOf o))) (reads-exactly line s .1 t)
+    ∙ taken w few line s t (beyond s) refl
 
 pub text-outside-limits : TextOutsideLimits
-text-outside-limits w few s t h o = text-is-taken w few s t h ∙ outside-refused w s o
+text-outside-limits w few line s t h o = text-is-taken w few line s t h ∙ outside-refused w s o
 
 pub long-line-is-unreadable : LongLineIsUnreadable
 unfolding commandOf

@@ -16,7 +16,6 @@ use Rattle.model_steps.specs.Limits.{outsideStep}
 use Rattle.text_ascii.specs.Decimal.{byteNumbers}
 use Rattle.text_lines.specs.Lines.{maxLineBytes}
 use Rattle.text_step.specs.Claims.{IsText}
-use Rattle.text_step.specs.Step.{HasText, text}
 use Rattle.world_engine.specs.Commands.{carriedOut}
 use Rattle.world_input.specs.Commands.{commandOf}
 use Rattle.world_run.specs.declared.Session.{Session}
@@ -48,25 +47,25 @@ FewCount w = acceptorsCounted (w .acceptors) ≤ byteNumbers
 abbrev pub FewCounted : Type 0
 FewCounted = (steps : List Step) → FewCount (run freshWorld steps)
 
--- The text of a step, if it is not over 100 bytes, is taken: its answer is the world's.
+-- A text of a step, if it is not over 100 bytes, is taken: its answer is the world's.
 abbrev pub TextIsTaken : Type 0
-TextIsTaken = (w : World) → FewCount w → (s : Step) → HasText s → length (text s) ≤ maxLineBytes → lineTaken w (text s) ≡ stepOf w s
+TextIsTaken = (w : World) → FewCount w → (line : List ℕ) (s : Step) → IsText line s → length line ≤ maxLineBytes → lineTaken w line ≡ stepOf w s
 
--- The text of a step with a number outside its limits is answered 2, and the world stays as it was.
+-- A text of a step with a number outside its limits is answered 2, and the world stays as it was.
 abbrev pub TextOutsideLimits : Type 0
 TextOutsideLimits =
-    (w : World) → FewCount w → (s : Step) → HasText s → length (text s) ≤ maxLineBytes
-    → outsideStep (acceptorsCounted (w .acceptors)) s ≡ true → lineTaken w (text s) ≡ answered w outsideLimits
+    (w : World) → FewCount w → (line : List ℕ) (s : Step) → IsText line s → length line ≤ maxLineBytes
+    → outsideStep (acceptorsCounted (w .acceptors)) s ≡ true → lineTaken w line ≡ answered w outsideLimits
 
 -- A line over 100 bytes is answered 1, however long it is, and the world stays as it was.
 abbrev pub LongLineIsUnreadable : Type 0
 LongLineIsUnreadable = (w : World) (line : List ℕ) → maxLineBytes < length line → lineTaken w line ≡ answered w unreadable
 
--- Every line that is the text of no step is answered 1, and the world stays as it was.
+-- Every line that is a text of no step is answered 1, and the world stays as it was.
 abbrev pub OtherLineIsUnreadable : Type 0
 OtherLineIsUnreadable = (w : World) (line : List ℕ) → ((s : Step) → IsText line s → ⊥) → lineTaken w line ≡ answered w unreadable
 
--- A line answered 2 is the text of a step with natural numbers of any size, one of them outside its
+-- A line answered 2 is a text of a step with natural numbers of any size, one of them outside its
 -- limits.
 abbrev pub Answered2IsOutside : Type 0
 Answered2IsOutside =

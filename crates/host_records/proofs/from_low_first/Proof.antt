@@ -19,11 +19,11 @@ abbrev μ-loop : tie.MeasureT-loop
 loop-holds : tie.Need-loop-holds Inv-loop μ-loop
 loop-holds c = (omega arith, omega arith, rw (drop-of-length-le (c .before .args .bytes .now) {i = updateBytes} (omega arith)))
 
-fits : (c : tie.After-wide Inv-loop μ-loop) → c .wide .result + byteValues * c .before .before .before .loop .u < byteValues ^ updateBytes
+fits : (c : tie.After-update-byte Inv-loop μ-loop) → c .update-byte .result + byteValues * c .before .before .before .loop .u < byteValues ^ updateBytes
 fits c =
     let l = c .before .before .before .loop in
     let byte = c .before .before .before .before .shared-slice-known .given (updateBytes - (l .read + 1)) in
-    read-fits (c .before .before .before .before .before .args .bytes .now) (omega arith) (omega arith) (c .wide .ensures) (byte .fits) (l .inv .1)
+    read-fits (c .before .before .before .before .before .args .bytes .now) (omega arith) (omega arith) (c .update-byte .ensures) (byte .fits) (l .inv .1)
 
 mul-u : tie.Need-mul-u Inv-loop μ-loop
 mul-u c = record { fits = omega (arith, fits c) }
@@ -36,7 +36,7 @@ loop-again c =
     let l = c .before .before .before .loop in
     let bytes = c .before .before .before .before .before .args .bytes .now in
     let byte = c .before .before .before .before .shared-slice-known .given (updateBytes - (l .read + 1)) in
-    (omega arith, read-bound bytes (omega arith) (omega arith) (c .wide .ensures) (byte .fits) (l .inv .1), read-more bytes (omega arith) (omega arith) (c .wide .ensures) (l .inv .2))
+    (omega arith, read-bound bytes (omega arith) (omega arith) (c .update-byte .ensures) (byte .fits) (l .inv .1), read-more bytes (omega arith) (omega arith) (c .update-byte .ensures) (l .inv .2))
 
 returns : tie.Need-returns Inv-loop μ-loop
 returns c =

@@ -1,5 +1,5 @@
 use mathlib.Core.Path.{_∙_, ap}
-use Rattle.text_entry.specs.Kinds.{list, proc, upd, voteKind}
+use Rattle.text_entry.specs.Kinds.{list, proc, updateForm, voteKind}
 use Rattle.text_entry.specs.Read.{Part, readField, valueAfter}
 use Rattle.text_entry.specs.Seen.{capped}
 use Rattle.text_entry.proofs.Follows.{are-parts}
@@ -21,7 +21,7 @@ returns c =
               c .before .before .before .before .list-digits .ensures ∙ ap (valueAfter (list .form)) (c .before .before .before .before .before .keyed .ensures),
               (
                 c .before .before .before .said .ensures,
-                (c .update-digits .ensures ∙ ap (valueAfter (upd .form)) (c .before .keyed2 .ensures), tt),
+                (c .update-digits .ensures ∙ ap (valueAfter updateForm) (c .before .keyed2 .ensures), tt),
               ),
             ),
           ),

@@ -6,6 +6,7 @@ use mathlib.Core.Path.{_≡_, refl, sym, _∙_, ap, subst}
 use lib.Dec.{lit<}
 use lib.ListN.{drop, getD, length}
 use borrow.Author.Tests.{not-true, not-false}
+use Rattle.log_entry.specs.Limits.{updates}
 use Rattle.text_ascii.specs.Hex.{beginsHexDigit, isHexDigit}
 use Rattle.text_ascii.proofs.Hexes.{hex-digit-bound}
 use Rattle.text_entry.specs.Fields.{inHex}
@@ -48,7 +49,7 @@ small c = subst (λ (d : ℕ). d < 16) (sym (c .hex-number .ensures)) (hex-digit
 grown-at : (c : tie.Else2 Inv-loop μ-loop) (d : ℕ) → d < 16 → let l = c .before .before .before .loop in l .number * 16 + d < 16 ^ ((c .before .before .before .before .before .before .before .args .count - l .count) + 1)
 grown-at c d h = hex-grown _ _ d (c .before .before .before .loop .inv .1) h
 
-grows : (c : tie.Else2 Inv-loop μ-loop) (d : ℕ) → d < 16 → c .before .before .before .loop .number * 16 + d < 2 ^ 32
+grows : (c : tie.Else2 Inv-loop μ-loop) (d : ℕ) → d < 16 → c .before .before .before .loop .number * 16 + d < updates
 grows c d h = hex-fits _ _ (omega arith) (grown-at c d h)
 
 loop-holds : tie.Need-loop-holds Inv-loop μ-loop
