@@ -1,6 +1,6 @@
 """Step files of `plain` about the log itself: document 01's cases, each refusal at its limits,
 groups, take-overs, the longest lists. make_plain_cases.py puts them among its own."""
-from plain_log import joined
+from plain_log import SHORT_DIGITS, UPDATE_DIGITS, joined, update_text
 
 files = {}
 
@@ -20,10 +20,11 @@ def take(process, store):
     put("do=take proc=%d store=%d" % (process, store))
 
 
-def vote(process, by, store, tx, list_, say, update=0):
+def vote(process, by, store, tx, list_, say, update=0, digits=UPDATE_DIGITS):
+    says = {"c": "commit", "a": "abort"}[say]
     put(
-        "do=vote proc=%d by=%d store=%d tx=%d list=%02x say=%s upd=%08x"
-        % (process, by, store, tx, list_, {"c": "commit", "a": "abort"}[say], update)
+        "do=vote proc=%d by=%d store=%d tx=%d list=%02x say=%s upd=%s"
+        % (process, by, store, tx, list_, says, update_text(update, digits))
     )
 
 
@@ -57,13 +58,16 @@ case("vote-limits")
 for p, by, s, tx in ((0, 0, 0, 0), (16, 0, 0, 0), (255, 0, 0, 0), (1, 8, 0, 0), (1, 255, 0, 0), (1, 0, 8, 0), (1, 0, 255, 0), (1, 0, 0, 32), (1, 0, 0, 255), (16, 8, 8, 32), (1, 0, 0, 31), (8, 7, 7, 0)):
     vote(p, by, s, tx, 0xFF, "c", 1)
 case("largest-numbers")
-commit(0, 0, 0xFF, 0xFFFFFFFF); commit(7, 31, 0x80, 0); commit(7, 30, 0xFF, 0x80000000)
+commit(0, 0, 0xFF, 2**64 - 1); commit(7, 31, 0x80, 0); commit(7, 30, 0xFF, 2**63)
 
-# 7: list without store, without by, with neither; commit on behalf; abort with an update
+# 7: list without store, without by, with neither; commit on behalf; abort with an update, also one
+# that has its high half alone
 case("ill-formed")
 vote(1, 0, 0, 0, 0x02, "c"); vote(1, 0, 1, 0, 0x02, "a"); vote(1, 0, 1, 0, 0x01, "a"); vote(1, 0, 1, 0, 0x04, "a"); vote(1, 0, 1, 0, 0x00, "a")
 vote(1, 0, 1, 0, 0x03, "c"); vote(1, 0, 0, 0, 0x01, "a", 1); vote(1, 0, 1, 0, 0x03, "a", 7)
+vote(1, 0, 0, 0, 0x01, "a", 2**32); vote(1, 0, 0, 0, 0x01, "a", 2**63); vote(1, 0, 1, 0, 0x03, "a", 2**32)
 vote(1, 0, 0, 0, 0x01, "a", 0); vote(1, 0, 1, 0, 0x03, "a", 0)
+vote(1, 0, 0, 1, 0x01, "a", 1, SHORT_DIGITS); vote(1, 0, 0, 1, 0x01, "a", 0, SHORT_DIGITS)
 # 7 before 8, 9 and 10
 case("ill-formed-first")
 commit(0, 0, 0x01); vote(2, 0, 0, 0, 0x02, "c"); vote(1, 0, 0, 0, 0x02, "c")
@@ -89,6 +93,10 @@ vote(3, 2, 3, 5, 0x0C, "a")
 case("kept-already")
 commit(0, 0, 0x03, 1); commit(0, 0, 0x03, 1); commit(0, 0, 0x03, 2); abort(0, 0, 0x01); vote(2, 1, 0, 0, 0x03, "a")
 vote(1, 0, 1, 0, 0x03, "a"); commit(1, 0, 0x03)
+# and the same number in eight and in sixteen digits, or one that differs in a half
+case("kept-in-either-form")
+for tx, first, then in ((0, SHORT_DIGITS, UPDATE_DIGITS), (1, UPDATE_DIGITS, SHORT_DIGITS)):
+    vote(1, 0, 0, tx, 0x01, "c", 10, first); vote(1, 0, 0, tx, 0x01, "c", 10, then); vote(1, 0, 0, tx, 0x01, "c", 2**32 + 10); vote(1, 0, 0, tx, 0x01, "c", 11)
 
 # 11: holds it, holds another, held it before; a process that lost a store may take one it never
 # held
@@ -126,7 +134,7 @@ for tx in range(32):
     commit(tx % 8, tx, 1 << (tx % 8) | 1 << ((tx + 1) % 8), tx)
 for tx in range(32):
     s = (tx + 1) % 8
-    commit(s, tx, 1 << (tx % 8) | 1 << s, 0xFFFFFFFF - tx)
+    commit(s, tx, 1 << (tx % 8) | 1 << s, 2**64 - 1 - tx)
 
 # two at a time: groups of two, 16 of them; aborted ones between
 case("groups-of-two")

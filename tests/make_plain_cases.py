@@ -6,12 +6,13 @@ with args (the names) and stdout (each name, what plain_reference.py prints, and
 import case_files
 import log_cases
 import plain_reference as reference
-from plain_log import STORES, TXS, Log, joined, printed
+import update_texts
+from plain_log import SHORT_DIGITS, STORES, TXS, UPDATE_DIGITS, Log, joined, printed, update_text
 
 INVOLVED = {"no": "0", "yes": "1", "unknown": "2"}
 
 
-def vote(p=1, by=0, store=0, tx=0, lst="01", say="commit", upd="00000001"):
+def vote(p=1, by=0, store=0, tx=0, lst="01", say="commit", upd=update_text(1)):
     return ("do=vote proc=%s by=%s store=%s tx=%s list=%s say=%s upd=%s" % (p, by, store, tx, lst, say, upd)).encode()
 
 
@@ -28,6 +29,12 @@ def long_take(length):
     return take("9" * (length - len(take(""))))
 
 
+def long_vote(length, digits):
+    """The same of a vote, its update with so many digits."""
+    update = update_text(1, digits)
+    return vote("9" * (length - len(vote("", upd=update))), upd=update)
+
+
 def shape_cases():
     good = take()
     yield "empty", b""
@@ -38,6 +45,7 @@ def shape_cases():
     for n in (99, 100, 101, 102):
         yield "bytes-%d" % n, long_take(n)
         yield "bytes-%d-lf" % n, long_take(n) + b"\n" + good + b"\n"
+    yield "bytes-of-votes", lines(*[long_vote(n, digits) for digits in (SHORT_DIGITS, UPDATE_DIGITS) for n in (99, 100, 101, 102)])
     for n in (999, 1000, 1001, 1002):
         yield "lines-%d" % n, lines(*[take(1 + i % 15, i % 8) for i in range(n)])
         yield "lines-%d-no-lf" % n, lines(*[take(1 + i % 15, i % 8) for i in range(n)])[:-1]
@@ -63,37 +71,45 @@ def value_cases():
     yield "tx-numbers", lines(take(), *[vote(tx=n) for n in numbers])
     lists = ["00", "01", "ff", "FF", "fF", "0", "1", "001", "0g", "g0", "1 ", " 1", "", "/0", ":0", "`0", "{0", "@0"]
     yield "lists", lines(take(), *[vote(tx=i, lst=x) for i, x in enumerate(lists)])
-    updates = ["00000000", "ffffffff", "FFFFFFFF", "0000000", "000000000", "0000000g", "12345678", "9abcdef0", "deadbeeF", "", "0000 000"]
-    yield "updates", lines(take(), *[vote(tx=i, upd=x) for i, x in enumerate(updates)])
     says = ["commit", "abort", "Commit", "commits", "commi", "", "aborted", "open", "abort "]
-    yield "says", lines(take(), *[vote(tx=i, say=x, upd="00000000") for i, x in enumerate(says)])
+    yield "says", lines(take(), *[vote(tx=i, say=x, upd=update_text(0)) for i, x in enumerate(says)])
     yield "ninety-digits", lines(take("9" * 79, 0), take("1" + "0" * 76, 0), b"do=vote proc=1 by=0 store=0 tx=" + b"9" * 40 + b" list=01 say=abort upd=00000000",
                                  take("0" * 76, 0), b"do=take proc=" + b"9" * 80 + b" store=0")
     yield "unreadable-before-outside", lines(take(99, "x"), take("x", 99), vote(p=99, upd="x"), vote(tx=99, say="no"), vote(by=300, lst="FF"), take(99, 99))
 
 
+def update_cases():
+    for name, texts in update_texts.reading():
+        yield name, lines(take(), *[vote(tx=i % TXS, upd="") + text for i, text in enumerate(texts)])
+    yield "updates", lines(take(), *[vote(tx=i, upd=text) for i, text in enumerate(update_texts.values())])
+
+
 def step_cases():
+    yield "document-01", lines(
+        take(1, 0), take(2, 1), vote(1, 0, 0, 4, "03", upd="0000000a"), vote(2, 1, 1, 4, "03", upd="0000000b"), vote(2, 1, 1, 4, "03", "abort", "00000000"))
     yield "words", lines(b"do=take", b"do=", b"do", b"", b"do=taken proc=1 store=0", b"do= take proc=1 store=0", b"Do=take proc=1 store=0",
                          b"do=take  proc=1 store=0", b"do=take proc=1  store=0", b"do=take proc=1 store=0 ", b" do=take proc=1 store=0", b"do=take store=0 proc=1",
                          b"do=take proc=1", b"do=take proc=1 store=0 to=0", b"do=take proc=1 proc=1 store=0", b"do=take\tproc=1 store=0", b"do=take proc=1 store=0\r",
                          b"do=take proc=1 store=0\0", b"\xef\xbb\xbfdo=take proc=1 store=0", b"do=setup acceptors=3", b"do=vote", b"do=take,proc=1,store=0", take())
     yield "refusals", lines(
         b"bad", take(0, 0), take(1, 0), take(1, 1), take(2, 1), take(3, 2),
-        vote(p=1, by=0, store=0, tx=1, lst="02"), vote(p=1, by=0, store=1, tx=1, lst="03"), vote(p=1, by=0, store=1, tx=1, lst="03", say="abort", upd="00000001"),
+        vote(p=1, by=0, store=0, tx=1, lst="02"), vote(p=1, by=0, store=1, tx=1, lst="03"), vote(p=1, by=0, store=1, tx=1, lst="03", say="abort"),
         vote(p=2, by=0, store=0, tx=1, lst="01"), vote(p=1, by=0, store=0, tx=1, lst="03"), vote(p=2, by=1, store=1, tx=1, lst="07"),
-        vote(p=3, by=2, store=2, tx=1, lst="04", say="abort", upd="00000000"), vote(p=1, by=0, store=0, tx=1, lst="03"), vote(p=2, by=1, store=1, tx=1, lst="03"),
+        vote(p=3, by=2, store=2, tx=1, lst="04", say="abort", upd=update_text(0)), vote(p=1, by=0, store=0, tx=1, lst="03"), vote(p=2, by=1, store=1, tx=1, lst="03"),
         take(4, 0), take(1, 0), vote(p=1, by=0, store=0, tx=2), take(1, 3), take(5, 0), take(4, 0))
     yield "groups", lines(
         *[take(s + 1, s) for s in range(8)],
         vote(1, 0, 0, 1, "03"), vote(1, 0, 0, 2, "03"), vote(2, 1, 1, 1, "03"), vote(1, 0, 0, 3, "03"), vote(2, 1, 1, 2, "03"), vote(2, 1, 1, 3, "03"),
-        *[vote(s + 1, s, s, 31, "ff", "commit", "%08x" % (s * 0x11111111)) for s in range(8)],
-        *[vote(s + 1, s, s, 30, "ff", "commit", "ffffffff") for s in range(7)], vote(1, 0, 7, 30, "81", "abort", "00000000"))
-    yield "full-log", lines(*[take(s + 1, s) for s in range(8)], *[vote(s + 1, s, s, t, "ff", "commit", "%08x" % (t * 8 + s)) for t in range(32) for s in range(8)])
-    yield "one-store-each", lines(*[take(s + 1, s) for s in range(8)], *[vote(s + 1, s, s, t, "%02x" % (1 << s), "commit", "ffffffff") for t in range(32) for s in (t % 8,)])
+        *[vote(s + 1, s, s, 31, "ff", "commit", update_text(s * 0x1111111111111111)) for s in range(8)],
+        *[vote(s + 1, s, s, 30, "ff", "commit", update_text(2**64 - 1)) for s in range(7)], vote(1, 0, 7, 30, "81", "abort", update_text(0)))
+    # 256 updates, each of two digits again and again: each digit at each place
+    yield "full-log", lines(*[take(s + 1, s) for s in range(8)], *[
+        vote(s + 1, s, s, t, "ff", "commit", update_text((t * 8 + s) * 0x0101010101010101)) for t in range(32) for s in range(8)])
+    yield "one-store-each", lines(*[take(s + 1, s) for s in range(8)], *[vote(s + 1, s, s, t, "%02x" % (1 << s), "commit", update_text(2**64 - 1)) for t in range(32) for s in (t % 8,)])
 
 
 def cases():
-    for group in (shape_cases, value_cases, step_cases, log_cases.cases):
+    for group in (shape_cases, value_cases, update_cases, step_cases, log_cases.cases):
         yield from group()
 
 

@@ -6,16 +6,18 @@ with args (the names) and stdout (each name, then what world_reference.py prints
 world_by_hand.py have their output reasoned by hand: where the reference differs from it, nothing is
 written."""
 import case_files
+import update_texts
 import world_reference as reference
-from plain_log import FORMS, TXS, joined as lines
+from plain_log import FORMS, SHORT_DIGITS, TXS, joined as lines, update_text
 from world_by_hand import BY_HAND, parts
 from world_random import followed_script, guided_script, random_script
 from world_script import Script, step
 
 GOOD = {
-    "setup": (3,), "take": (1, 0, 0), "vote": (1, 0, 0, 4, "01", "commit", "0000000a", 0), "open": (1, 0, 25), "propose": (1, 0, 25),
+    "setup": (3,), "take": (1, 0, 0), "vote": (1, 0, 0, 4, "01", "commit", update_text(10), 0), "open": (1, 0, 25), "propose": (1, 0, 25),
     "deliver": (12,), "tell": (1, 12, 31), "restore": (1, 12), "follow": (1, 12, 31), "crash": ("acceptor", 1),
 }
+SHORT_VOTE = step("vote", 1, 0, 0, 4, "01", "commit", update_text(10, SHORT_DIGITS), 0)
 
 
 # Bytes and lines
@@ -58,7 +60,7 @@ def line_cases():
 # Reading: every kind of step with one thing wrong
 
 def reading_cases():
-    good = [step(name, *values) for name, values in GOOD.items()]
+    good = [step(name, *values) for name, values in GOOD.items()] + [SHORT_VOTE]
     every = [(row, i) for row in good for i in range(len(row))]
     yield "one-byte-less", lines((row[:i] + row[i + 1:]).encode() for row, i in every)
     yield "one-byte-twice", lines((row[:i] + row[i] + row[i:]).encode() for row, i in every)
@@ -79,6 +81,9 @@ def reading_cases():
         "do=crash role=acceptors id=0", "do=crash role=coordinator id=0", "do=crash role=process id=1", "do=crash role= id=1", "do=crash id=1 role=proc",
         "do=followed coord=0 proc=1 tx=0", "do=follow coord=0 proc=1", "do=back proc=1 turn=2", "do=setup acceptors=three", "do=setup acceptors=3,5", "do=deliver msg=0x1",
         "\ufeffdo=setup acceptors=3", "do=setup acceptors=３", "do=setup acceptors=3"))
+    vote = step("vote", 1, 0, 0, 4, "01", "commit", "", 0).encode()
+    for name, texts in update_texts.reading():
+        yield name, lines([b"do=setup acceptors=3"] + [vote.replace(b"upd=", b"upd=" + text) for text in texts])
 
 
 NUMBERS = ["0", "1", "2", "3", "4", "5", "6", "7", "8", "14", "15", "16", "17", "30", "31", "32", "33", "126", "127", "128", "129", "254", "255", "256",
@@ -128,8 +133,8 @@ def sweep(script):
         script.take(p, s, to)
     for p in (1, 2, 15):
         for by, s, stores in ((0, 0, "01"), (0, 0, "02"), (0, 1, "03"), (1, 1, "02"), (1, 0, "01"), (7, 7, "ff")):
-            for say, update in (("commit", "00000005"), ("abort", "00000000"), ("abort", "00000005")):
-                script.step("vote", p, by, s, 9, stores, say, update, p % 3)
+            for say, update in (("commit", 5), ("abort", 0), ("abort", 2**32)):
+                script.step("vote", p, by, s, 9, stores, say, update_text(update), p % 3)
     for name in ("open", "propose"):
         for c in range(3):
             now = script.world.coordinators[c].applied
@@ -268,7 +273,7 @@ def eight_stores_two_down():
     script.learn(1, 4, (2, 0, 1))
     for p in range(1, 9):
         script.deliver(*script.restore(1, p))
-    script.queue(*(script.commit(s + 1, s, 31, "ff", 0xffffffff - s, 1) for s in range(8)))
+    script.queue(*(script.commit(s + 1, s, 31, "ff", 2**64 - 1 - s, 1) for s in range(8)))
     script.learn(1, 253, (1, 2, 0))
     script.learn(1, 1, (0, 1, 2))
     script.deliver(*script.tell(1, 15, 31), *script.restore(1, 8))
@@ -374,7 +379,7 @@ def restores_of_three_stores():
         script.deliver(n)
         for p in (1, 2):
             for s in range(3):
-                script.step("vote", p, s, s, 1, "00", "commit", "00000000", 0)  # 7 where it believes, else 5
+                script.step("vote", p, s, s, 1, "00", "commit", update_text(0), 0)  # 7 where it believes, else 5
     yield "restores-of-three-stores", script.data()
 
 
@@ -411,7 +416,7 @@ def many_follows():
     script = Script()
     script.hold((1, 0), (2, 1))
     txs = [0, 1, 2, 3, 9, 10, 11, 19, 28, 29, 30, 31]
-    entries = [(script.commit, 1, 0, tx, "03", 0xffffffff - tx) for tx in txs] + [(script.take, 3, 0)]
+    entries = [(script.commit, 1, 0, tx, "03", 2**64 - 1 - tx) for tx in txs] + [(script.take, 3, 0)]
     entries += [(script.commit, 2, 1, tx, "03", tx) if tx % 3 else (script.abort, 2, 1, 1, tx, "03") for tx in txs]
     for at, (send, *values) in enumerate(entries, 1):
         script.queue(send(*values))
@@ -462,7 +467,7 @@ def entries_that_differ_in_one_value():
     script = Script()
     script.hold((1, 0))
     votes = [script.abort(1, 0, s, tx, stores, 1) for s, tx, stores in ((1, 4, "0f"), (2, 4, "0f"), (1, 5, "0f"), (1, 4, "1f"), (0, 4, "0f"))]
-    votes += [script.commit(1, 0, 4, "0f", update, 1) for update in (0, 1)]
+    votes += [script.commit(1, 0, 4, "0f", update, 1) for update in (0, 2**32)]
     script.hold((2, 0))
     votes += [script.abort(2, 0, 1, 4, "0f", 1)]
     script.hold((1, 1))

@@ -1,7 +1,7 @@
 """The plain log of document 01, and how step files are read and answered: what the references
-share.
+share. An update is as wide as document 02, request 3, makes it.
 
-It is written from the document's sentences alone and shares no code, table or layout with the
+It is written from the documents' sentences alone and shares no code, table or layout with the
 crates."""
 import os
 import re
@@ -10,6 +10,7 @@ from collections import namedtuple
 
 LINES, BYTES = 1000, 100
 TXS, STORES, PROCESSES = 32, 8, 15
+UPDATE_DIGITS, SHORT_DIGITS = 16, 8  # of an update: as written, and as also read
 
 Take = namedtuple("Take", "process store")
 Vote = namedtuple("Vote", "process by store tx stores commit update")
@@ -149,7 +150,14 @@ class Log:
 
 
 def replay_lines(store, rows):
-    return ["store=%d group=%d tx=%d upd=%08x" % ((store,) + row) for row in rows]
+    return [
+        "store=%d group=%d tx=%d upd=%s" % (store, group, tx, update_text(update))
+        for group, tx, update in rows
+    ]
+
+
+def update_text(update, digits=UPDATE_DIGITS):
+    return "%0*x" % (digits, update)
 
 
 # Step files
@@ -157,7 +165,7 @@ def replay_lines(store, rows):
 DECIMAL = "0|[1-9][0-9]*"
 FORMS = {
     "list": "[0-9a-f]{2}",
-    "upd": "[0-9a-f]{8}",
+    "upd": "|".join("[0-9a-f]{%d}" % digits for digits in (SHORT_DIGITS, UPDATE_DIGITS)),
     "say": "commit|abort",
     "role": "acceptor|coord|proc",
 }

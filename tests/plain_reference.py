@@ -1,5 +1,5 @@
 #!/usr/bin/env python3
-"""The program `plain`, written from document 01 alone, to derive expected outputs.
+"""The program `plain`, written from documents 01 and 02 alone, to derive expected outputs.
 
     plain_reference.py < STEPS          prints what `plain` prints
     plain_reference.py check DIR        compares each DIR/NAME.steps with DIR/NAME.out

@@ -2,7 +2,8 @@
 02: a check on world_reference.py.
 
 A row is a step, its answer after an arrow, and after a # the numbers of the messages that it sends,
-or why it is answered so. The report stands after a row of dashes."""
+or why it is answered so. The report stands after a row of dashes. Most votes have their update in
+eight digits, which are still read; a report has it in sixteen."""
 
 NOTHING = "coord=0 applied=0\ncoord=1 applied=0\ncoord=2 applied=0\n"
 
@@ -62,12 +63,12 @@ deliver msg=11 -> 0 # position 1 is not above 2
 coord=0 applied=2
 tx=4 outcome=commit group=1
 store=0 holder=1
-store=0 group=1 tx=4 upd=0000000a
+store=0 group=1 tx=4 upd=000000000000000a
 coord=1 applied=0
 coord=2 applied=0
 proc=2 tx=4 heard=commit
 proc=1 store=0 position=2
-store=0 group=1 tx=4 upd=0000000a
+store=0 group=1 tx=4 upd=000000000000000a
 """
 
 # Two of five accepted coordinator 1's take under 1, one accepted coordinator 2's under 2:
@@ -281,16 +282,20 @@ crash role=acceptor id=2 -> 3
 ---
 """ + NOTHING
 
-# Process 2 takes over store 0 while votes of process 1 are on the wire. The one before the take is
-# kept, the ones after it are refused 8 when applied, though process 1 still believes. Transaction
-# 1 ran when nothing had committed: group 1; transaction 2 commits by its first vote: group 2.
-TAKEOVER = """
+# Process 1 holds store 0 and is restored: instance 0, messages 0 to 11.
+ONE_HOLDER = """
 setup acceptors=3 -> 0
 take proc=1 store=0 to=0 -> 0 # 0
 deliver msg=0 -> 0
 """ + learn(0, 0, 3, 1) + """
 restore coord=0 proc=1 -> 0 # 11
 deliver msg=11 -> 0
+"""
+
+# Process 2 takes over store 0 while votes of process 1 are on the wire. The one before the take is
+# kept, the ones after it are refused 8 when applied, though process 1 still believes. Transaction
+# 1 ran when nothing had committed: group 1; transaction 2 commits by its first vote: group 2.
+TAKEOVER = ONE_HOLDER + """
 vote proc=1 by=0 store=0 tx=1 list=03 say=commit upd=0000000a to=0 -> 0 # 12
 vote proc=1 by=0 store=1 tx=2 list=03 say=abort upd=00000000 to=0 -> 0 # 13
 take proc=2 store=0 to=0 -> 0 # 14
@@ -324,16 +329,16 @@ tx=1 outcome=commit group=1
 tx=2 outcome=commit group=2
 store=0 holder=2
 store=1 holder=3
-store=0 group=1 tx=1 upd=0000000a
-store=0 group=2 tx=2 upd=0000000d
-store=1 group=1 tx=1 upd=0000000c
+store=0 group=1 tx=1 upd=000000000000000a
+store=0 group=2 tx=2 upd=000000000000000d
+store=1 group=1 tx=1 upd=000000000000000c
 coord=1 applied=0
 coord=2 applied=0
 proc=1 tx=1 heard=commit
 proc=1 store=0 position=1
 proc=2 store=0 position=3
-store=0 group=1 tx=1 upd=0000000a
-store=0 group=2 tx=2 upd=0000000d
+store=0 group=1 tx=1 upd=000000000000000a
+store=0 group=2 tx=2 upd=000000000000000d
 proc=3 store=1 position=2
 """
 
@@ -369,7 +374,7 @@ coord=0 applied=4
 tx=0 outcome=commit group=1
 store=0 holder=2
 store=1 holder=1
-store=1 group=1 tx=0 upd=00000000
+store=1 group=1 tx=0 upd=0000000000000000
 coord=1 applied=0
 coord=2 applied=0
 proc=1 store=1 position=3
@@ -512,13 +517,7 @@ store=1 holder=2
 
 # All parties crash: nothing is lost from the report, every step is 3 but a second setup, a number
 # not sent and one outside its limits.
-ALL_DOWN = ("""
-setup acceptors=3 -> 0
-take proc=1 store=0 to=0 -> 0 # 0
-deliver msg=0 -> 0
-""" + learn(0, 0, 3, 1) + """
-restore coord=0 proc=1 -> 0 # 11
-deliver msg=11 -> 0
+ALL_DOWN = (ONE_HOLDER + """
 vote proc=1 by=0 store=0 tx=0 list=01 say=abort upd=00000000 to=0 -> 0 # 12
 deliver msg=12 -> 0
 """ + learn(0, 1, 3, 13) + """
@@ -558,13 +557,7 @@ proc=1 store=0 position=1
 # A sent vote: the lowest of 1, 2, 3, 5, 6 and 7. Process 1 believes in store 0; coordinator 2 is
 # down; 35 opens use up the numbers: 12 before, 1 + 1 votes, 35 * 3 = 105 opens, 9 takes, 128 in
 # all.
-VOTES = ("""
-setup acceptors=3 -> 0
-take proc=1 store=0 to=0 -> 0 # 0
-deliver msg=0 -> 0
-""" + learn(0, 0, 3, 1) + """
-restore coord=0 proc=1 -> 0 # 11
-deliver msg=11 -> 0
+VOTES = (ONE_HOLDER + """
 crash role=coord id=2 -> 0
 vote proc=1 by=0 store=0 tx=0 list=02 say=commit upd=00000000 to=0 -> 7
 vote proc=1 by=0 store=1 tx=0 list=02 say=abort upd=00000000 to=0 -> 7
@@ -770,8 +763,8 @@ tx=6 outcome=abort group=0
 store=0 holder=1
 store=1 holder=2
 store=2 holder=3
-store=0 group=1 tx=4 upd=00000001
-store=1 group=1 tx=4 upd=00000003
+store=0 group=1 tx=4 upd=0000000000000001
+store=1 group=1 tx=4 upd=0000000000000003
 coord=1 applied=0
 coord=2 applied=0
 proc=3 tx=5 heard=abort
@@ -871,9 +864,9 @@ tx=6 outcome=commit group=2
 tx=7 outcome=abort group=0
 store=0 holder=3
 store=1 holder=2
-store=0 group=1 tx=4 upd=0000000a
-store=1 group=1 tx=4 upd=0000000c
-store=1 group=2 tx=6 upd=0000000d
+store=0 group=1 tx=4 upd=000000000000000a
+store=1 group=1 tx=4 upd=000000000000000c
+store=1 group=2 tx=6 upd=000000000000000d
 coord=1 applied=0
 coord=2 applied=0
 proc=1 store=0 position=1
@@ -881,8 +874,8 @@ proc=2 store=1 position=1
 proc=3 store=0 position=2
 running=4
 running=5
-follow=4 outcome=commit upd=0000000a
-follow=5 outcome=abort upd=00000000
+follow=4 outcome=commit upd=000000000000000a
+follow=5 outcome=abort upd=0000000000000000
 """
 
 # The lowest of 1, 2, 3, 5 and 6. Transaction 4 is committed by store 0 alone. Process 2 and
@@ -933,7 +926,7 @@ follow coord=0 proc=1 tx=4 -> 3
 coord=0 applied=2
 tx=4 outcome=commit group=1
 store=0 holder=1
-store=0 group=1 tx=4 upd=0000000a
+store=0 group=1 tx=4 upd=000000000000000a
 coord=1 applied=0
 coord=2 applied=0
 proc=1 store=0 position=1
@@ -977,16 +970,16 @@ tx=1 outcome=commit group=1
 tx=2 outcome=abort group=0
 store=0 holder=3
 store=1 holder=2
-store=0 group=1 tx=1 upd=0000000a
-store=1 group=1 tx=1 upd=0000000c
+store=0 group=1 tx=1 upd=000000000000000a
+store=1 group=1 tx=1 upd=000000000000000c
 coord=1 applied=0
 coord=2 applied=0
 proc=1 store=0 position=1
 proc=2 store=1 position=1
 proc=3 store=0 position=3
-store=0 group=1 tx=1 upd=0000000a
+store=0 group=1 tx=1 upd=000000000000000a
 running=2
-follow=2 outcome=abort upd=00000000
+follow=2 outcome=abort upd=0000000000000000
 """
 
 # Restores of positions 2 and 3 both list 1, which store 2's vote commits afterwards. Processes 3
@@ -1029,16 +1022,16 @@ tx=1 outcome=commit group=1
 store=0 holder=3
 store=1 holder=4
 store=2 holder=5
-store=0 group=1 tx=1 upd=0000000a
-store=1 group=1 tx=1 upd=0000000b
-store=2 group=1 tx=1 upd=0000000c
+store=0 group=1 tx=1 upd=000000000000000a
+store=1 group=1 tx=1 upd=000000000000000b
+store=2 group=1 tx=1 upd=000000000000000c
 coord=1 applied=0
 coord=2 applied=0
 proc=1 store=0 position=1
 proc=2 store=1 position=1
 proc=3 store=0 position=3
 running=1
-follow=1 outcome=commit upd=0000000a
+follow=1 outcome=commit upd=000000000000000a
 proc=4 store=1 position=3
 running=1
 proc=5 store=2 position=3
@@ -1082,16 +1075,16 @@ tx=1 outcome=commit group=1
 store=0 holder=3
 store=1 holder=4
 store=2 holder=5
-store=0 group=1 tx=1 upd=0000000a
-store=1 group=1 tx=1 upd=0000000b
-store=2 group=1 tx=1 upd=0000000c
+store=0 group=1 tx=1 upd=000000000000000a
+store=1 group=1 tx=1 upd=000000000000000b
+store=2 group=1 tx=1 upd=000000000000000c
 coord=1 applied=0
 coord=2 applied=0
 proc=1 store=0 position=1
 proc=2 store=1 position=1
 proc=3 store=0 position=3
 running=1
-follow=1 outcome=commit upd=0000000a
+follow=1 outcome=commit upd=000000000000000a
 proc=5 store=2 position=3
 """
 
@@ -1138,28 +1131,212 @@ tx=1 outcome=commit group=1
 tx=2 outcome=commit group=1
 store=0 holder=4
 store=1 holder=2
-store=0 group=1 tx=1 upd=0000000a
-store=0 group=1 tx=2 upd=0000000b
-store=1 group=1 tx=1 upd=0000000c
-store=1 group=1 tx=2 upd=0000000d
+store=0 group=1 tx=1 upd=000000000000000a
+store=0 group=1 tx=2 upd=000000000000000b
+store=1 group=1 tx=1 upd=000000000000000c
+store=1 group=1 tx=2 upd=000000000000000d
 coord=1 applied=3
 tx=1 outcome=commit group=1
 tx=2 outcome=open group=0
 store=0 holder=3
 store=1 holder=2
-store=0 group=1 tx=1 upd=0000000a
-store=1 group=1 tx=1 upd=0000000c
+store=0 group=1 tx=1 upd=000000000000000a
+store=1 group=1 tx=1 upd=000000000000000c
 coord=2 applied=0
 proc=1 store=0 position=1
 proc=2 store=1 position=1
 proc=3 store=0 position=2
 running=1
 running=2
-follow=1 outcome=commit upd=0000000a
+follow=1 outcome=commit upd=000000000000000a
 proc=4 store=0 position=4
-store=0 group=1 tx=1 upd=0000000a
+store=0 group=1 tx=1 upd=000000000000000a
 running=2
-follow=2 outcome=commit upd=0000000b
+follow=2 outcome=commit upd=000000000000000b
+"""
+
+# An update is a number of 64 bits. Eight digits and sixteen that mean the same number make one
+# entry, which joins once. One that differs in the high half alone, or in the low half alone, is
+# another: the eighth fills the queue. The first four are learned, and the first of them is kept.
+UPDATES_QUEUED = ONE_HOLDER + """
+vote proc=1 by=0 store=0 tx=4 list=01 say=commit upd=0000000a to=0 -> 0 # 12
+vote proc=1 by=0 store=0 tx=4 list=01 say=commit upd=000000000000000a to=0 -> 0 # 13, as 12
+vote proc=1 by=0 store=0 tx=4 list=01 say=commit upd=000000010000000a to=0 -> 0 # 14, the high half
+vote proc=1 by=0 store=0 tx=4 list=01 say=commit upd=000000000000000b to=0 -> 0 # 15, the low half
+vote proc=1 by=0 store=0 tx=4 list=01 say=commit upd=0000000a00000000 to=0 -> 0 # 16
+vote proc=1 by=0 store=0 tx=4 list=01 say=commit upd=0000000a0000000a to=0 -> 0 # 17
+vote proc=1 by=0 store=0 tx=4 list=01 say=commit upd=800000000000000a to=0 -> 0 # 18
+vote proc=1 by=0 store=0 tx=4 list=01 say=commit upd=0000000000000000 to=0 -> 0 # 19
+vote proc=1 by=0 store=0 tx=4 list=01 say=commit upd=00000000ffffffff to=0 -> 0 # 20
+vote proc=1 by=0 store=0 tx=4 list=01 say=commit upd=ffffffff to=0 -> 0 # 21, as 20
+vote proc=1 by=0 store=0 tx=4 list=01 say=commit upd=ffffffffffffffff to=0 -> 0 # 22
+deliver msg=12 -> 0
+deliver msg=13 -> 0 # there already
+deliver msg=14 -> 0
+deliver msg=15 -> 0
+deliver msg=16 -> 0
+deliver msg=17 -> 0
+deliver msg=18 -> 0
+deliver msg=19 -> 0
+deliver msg=20 -> 0 # the eighth
+deliver msg=22 -> 6
+deliver msg=13 -> 0 # there already
+deliver msg=21 -> 0 # there already
+""" + learn(0, 1, 3, 23) + """
+deliver msg=22 -> 0 # the fifth, after 17 to 20
+deliver msg=13 -> 0 # queued again
+deliver msg=12 -> 0 # there already
+deliver msg=14 -> 0
+deliver msg=15 -> 0 # the eighth
+deliver msg=16 -> 6
+---
+coord=0 applied=2
+tx=4 outcome=commit group=1
+store=0 holder=1
+store=0 group=1 tx=4 upd=000000000000000a
+coord=1 applied=0
+coord=2 applied=0
+proc=1 store=0 position=1
+"""
+
+# Coordinator 1 has the vote in sixteen digits, coordinators 0 and 2 have it in eight. Coordinator 1
+# proposes it, and all three learn it. It leaves coordinator 0's queue, which is empty then. In
+# coordinator 2's full queue it makes one place: the votes with another high or low half stay.
+UPDATES_LEARNED = ONE_HOLDER + """
+vote proc=1 by=0 store=0 tx=4 list=01 say=commit upd=89abcdef to=0 -> 0 # 12
+vote proc=1 by=0 store=0 tx=4 list=01 say=commit upd=0000000089abcdef to=1 -> 0 # 13
+vote proc=1 by=0 store=0 tx=4 list=01 say=commit upd=0000000189abcdef to=2 -> 0 # 14
+vote proc=1 by=0 store=0 tx=4 list=01 say=commit upd=0000000089abcdee to=2 -> 0 # 15
+vote proc=1 by=0 store=0 tx=4 list=01 say=commit upd=89abcdef to=2 -> 0 # 16
+take proc=2 store=1 to=2 -> 0 # 17
+take proc=3 store=2 to=2 -> 0 # 18
+take proc=4 store=3 to=2 -> 0 # 19
+take proc=5 store=4 to=2 -> 0 # 20
+take proc=6 store=5 to=2 -> 0 # 21
+take proc=7 store=6 to=2 -> 0 # 22
+take proc=8 store=7 to=2 -> 0 # 23
+""" + "".join("deliver msg=%d -> 0\n" % n for n in range(12, 22)) + """
+deliver msg=22 -> 6 # 14 to 21 are queued
+""" + learn(1, 0, 4, 24) + learn(1, 1, 1, 34) + learn(0, 1, 3, 44) + """
+open coord=0 inst=2 ballot=3 -> 0 # 54 55 56
+deliver msg=54 -> 0 # 57
+deliver msg=55 -> 0 # 58
+deliver msg=57 -> 0
+deliver msg=58 -> 0
+propose coord=0 inst=2 ballot=3 -> 5 # nothing to propose
+""" + learn(2, 0, 5, 59) + learn(2, 1, 5, 69) + """
+deliver msg=22 -> 0 # in the place of 16
+deliver msg=23 -> 6
+---
+coord=0 applied=2
+tx=4 outcome=commit group=1
+store=0 holder=1
+store=0 group=1 tx=4 upd=0000000089abcdef
+coord=1 applied=2
+tx=4 outcome=commit group=1
+store=0 holder=1
+store=0 group=1 tx=4 upd=0000000089abcdef
+coord=2 applied=2
+tx=4 outcome=commit group=1
+store=0 holder=1
+store=0 group=1 tx=4 upd=0000000089abcdef
+proc=1 store=0 position=1
+"""
+
+# All 64 bits stand in the log's rows, in a restore's rows and in follows. 6 commits while 4 and 5
+# run, which join its group; 7 and 8 commit by their first vote.
+UPDATES_PRINTED = TWO_HOLDERS + """
+vote proc=1 by=0 store=0 tx=4 list=03 say=commit upd=0123456789abcdef to=0 -> 0 # 14
+vote proc=1 by=0 store=0 tx=5 list=03 say=commit upd=fedcba9876543210 to=0 -> 0 # 15
+take proc=3 store=0 to=0 -> 0 # 16
+vote proc=2 by=1 store=1 tx=6 list=02 say=commit upd=8000000000000000 to=0 -> 0 # 17
+deliver msg=14 -> 0
+deliver msg=15 -> 0
+deliver msg=16 -> 0
+deliver msg=17 -> 0
+""" + learn(0, 1, 3, 18) + """
+restore coord=0 proc=3 -> 0 # 28: no row, lists 4 and 5
+deliver msg=28 -> 0
+vote proc=2 by=1 store=1 tx=4 list=03 say=commit upd=0000000100000000 to=0 -> 0 # 29
+vote proc=2 by=1 store=1 tx=5 list=03 say=commit upd=ffffffff00000000 to=0 -> 0 # 30
+vote proc=2 by=1 store=1 tx=7 list=02 say=commit upd=89abcdef to=0 -> 0 # 31
+vote proc=2 by=1 store=1 tx=8 list=02 say=commit upd=ffffffffffffffff to=0 -> 0 # 32
+deliver msg=29 -> 0
+deliver msg=30 -> 0
+deliver msg=31 -> 0
+deliver msg=32 -> 0
+""" + learn(0, 2, 3, 33) + """
+follow coord=0 proc=3 tx=4 -> 0 # 43
+follow coord=0 proc=3 tx=5 -> 0 # 44
+deliver msg=44 -> 0
+deliver msg=43 -> 0
+restore coord=0 proc=2 -> 0 # 45
+deliver msg=45 -> 0
+---
+coord=0 applied=3
+tx=4 outcome=commit group=1
+tx=5 outcome=commit group=1
+tx=6 outcome=commit group=1
+tx=7 outcome=commit group=2
+tx=8 outcome=commit group=3
+store=0 holder=3
+store=1 holder=2
+store=0 group=1 tx=4 upd=0123456789abcdef
+store=0 group=1 tx=5 upd=fedcba9876543210
+store=1 group=1 tx=4 upd=0000000100000000
+store=1 group=1 tx=5 upd=ffffffff00000000
+store=1 group=1 tx=6 upd=8000000000000000
+store=1 group=2 tx=7 upd=0000000089abcdef
+store=1 group=3 tx=8 upd=ffffffffffffffff
+coord=1 applied=0
+coord=2 applied=0
+proc=1 store=0 position=1
+proc=2 store=1 position=3
+store=1 group=1 tx=4 upd=0000000100000000
+store=1 group=1 tx=5 upd=ffffffff00000000
+store=1 group=1 tx=6 upd=8000000000000000
+store=1 group=2 tx=7 upd=0000000089abcdef
+store=1 group=3 tx=8 upd=ffffffffffffffff
+proc=3 store=0 position=2
+running=4
+running=5
+follow=4 outcome=commit upd=0123456789abcdef
+follow=5 outcome=commit upd=fedcba9876543210
+"""
+
+# An abort's update is 0 in all 64 bits, else 7. Only eight or sixteen digits in lower case read.
+UPDATES_REFUSED = ONE_HOLDER + """
+vote proc=1 by=0 store=0 tx=4 list=01 say=abort upd=0000000100000000 to=0 -> 7
+vote proc=1 by=0 store=0 tx=4 list=01 say=abort upd=8000000000000000 to=0 -> 7
+vote proc=1 by=0 store=0 tx=4 list=01 say=abort upd=0000000000000001 to=0 -> 7
+vote proc=1 by=0 store=0 tx=4 list=01 say=abort upd=00000001 to=0 -> 7
+vote proc=1 by=0 store=1 tx=4 list=03 say=abort upd=0000000100000000 to=0 -> 7
+vote proc=2 by=1 store=1 tx=4 list=02 say=abort upd=0000000100000000 to=0 -> 5 # also 7
+vote proc=1 by=0 store=0 tx=32 list=01 say=abort upd=0000000100000000 to=0 -> 2 # also 7
+vote proc=1 by=0 store=0 tx=4 list=01 say=commit upd= to=0 -> 1
+vote proc=1 by=0 store=0 tx=4 list=01 say=commit upd=000000a to=0 -> 1 # seven
+vote proc=1 by=0 store=0 tx=4 list=01 say=commit upd=00000000a to=0 -> 1 # nine
+vote proc=1 by=0 store=0 tx=4 list=01 say=commit upd=00000000000000a to=0 -> 1 # fifteen
+vote proc=1 by=0 store=0 tx=4 list=01 say=commit upd=0000000000000000a to=0 -> 1 # seventeen
+vote proc=1 by=0 store=0 tx=4 list=01 say=commit upd=00000000 0000000a to=0 -> 1
+vote proc=1 by=0 store=0 tx=4 list=01 say=commit upd=0000000A to=0 -> 1
+vote proc=1 by=0 store=0 tx=4 list=01 say=commit upd=000000000000000A to=0 -> 1
+vote proc=1 by=0 store=0 tx=32 list=01 say=commit upd=000000000000000A to=0 -> 1 # also 2
+vote proc=1 by=0 store=0 tx=4 list=01 say=abort upd=0000000000000000 to=0 -> 0 # 12
+vote proc=1 by=0 store=0 tx=4 list=01 say=abort upd=00000000 to=0 -> 0 # 13
+deliver msg=12 -> 0
+deliver msg=13 -> 0 # there already
+""" + learn(0, 1, 3, 14) + """
+tell coord=0 proc=1 tx=4 -> 0 # 24
+deliver msg=24 -> 0
+---
+coord=0 applied=2
+tx=4 outcome=abort group=0
+store=0 holder=1
+coord=1 applied=0
+coord=2 applied=0
+proc=1 tx=4 heard=abort
+proc=1 store=0 position=1
 """
 
 BY_HAND = {
@@ -1169,6 +1346,7 @@ BY_HAND = {
     "replies-to-one-down": REPLIES, "vote-lists": LISTS, "accepts-without-a-number": ACCEPTS,
     "follow": FOLLOW, "follow-refused": FOLLOW_REFUSED, "follow-before-restore": FOLLOW_BEFORE_RESTORE,
     "follow-newer-restore": FOLLOW_NEWER_RESTORE, "follow-other-store": FOLLOW_OTHER_STORE, "follow-replaced": FOLLOW_REPLACED,
+    "updates-queued": UPDATES_QUEUED, "updates-learned": UPDATES_LEARNED, "updates-printed": UPDATES_PRINTED, "updates-refused": UPDATES_REFUSED,
 }
 
 

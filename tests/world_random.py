@@ -1,5 +1,6 @@
 """Drawn step files for `world`: traffic of every kind, from a seed."""
-from plain_log import STORES, TXS
+from plain_log import SHORT_DIGITS, STORES, TXS, UPDATE_DIGITS, Vote, update_text
+from update_texts import BORDERS
 from world_script import Script
 
 
@@ -15,6 +16,44 @@ class Draw:
 
     def of(self, values):
         return values[self.below(len(values))]
+
+    def update(self):
+        """A small one, which often comes again, one at a border, or any of 32 or of 64 bits."""
+        bits = sum(self.below(1 << 16) << 16 * k for k in range(4))
+        return self.of([self.below(4), self.below(16), self.of(BORDERS), bits, bits >> 32])
+
+    def digits(self, update):
+        """How many to write it with: at times the fewer, where these are enough."""
+        fits = update < 16**SHORT_DIGITS
+        return SHORT_DIGITS if fits and self.below(2) else UPDATE_DIGITS
+
+
+def commit(script, draw, p, by, tx, stores, c):
+    update = draw.update()
+    return script.commit(p, by, tx, stores, update, c, draw.digits(update))
+
+
+def abort(script, draw, p, by, store, tx, stores, c):
+    """Mostly with update 0, without which it is refused."""
+    update = 0 if draw.below(6) else draw.update()
+    return script.abort(p, by, store, tx, stores, c, update, draw.digits(update))
+
+
+def vote_again(script, draw):
+    """A vote that was sent, once more: its update in either form, or with a bit changed. At times
+    it has digits that do not read."""
+    sent = [(m.values, m.id) for m in script.world.messages[-60:] if isinstance(m.values, Vote)]
+    if not sent:
+        return []
+    vote, to = draw.of(sent)
+    update = vote.update ^ draw.of([0, 0, 0, 1, 1 << 32, 1 << 63])
+    text = update_text(update, draw.digits(update))
+    if not draw.below(8):
+        text = draw.of([text[1:], text + "0", "0" * SHORT_DIGITS + text, text.upper()])
+    stores = "%02x" % sum(1 << s for s in vote.stores)
+    says = "commit" if vote.commit else "abort"
+    values = vote.process, vote.by, vote.store, vote.tx, stores, says, text
+    return script.step("vote", *values, draw.of([to, to, draw.below(3)]))
 
 
 def random_step(script, draw, hostile):
@@ -35,10 +74,12 @@ def random_step(script, draw, hostile):
         p = draw.of(believers)
         by = world.processes[p].store or 0
         tx, stores = draw.below(4), draw.of(["01", "03", "03", "07", "06", "%02x" % (1 << by)])
-        if draw.below(3):
-            script.commit(p, by, tx, stores, draw.below(16), c)
+        if not draw.below(4):
+            vote_again(script, draw)
+        elif draw.below(3):
+            commit(script, draw, p, by, tx, stores, c)
         else:
-            script.abort(p, by, store, tx, stores, c)
+            abort(script, draw, p, by, store, tx, stores, c)
     elif kind == 14:
         script.open(
             c, coordinator.applied, (c or 3) + 3 * ((coordinator.opened + 2) // 3 + draw.below(2))
@@ -228,8 +269,8 @@ def stores_held(script, draw):
 def one_vote(script, draw, p, tx, stores, c):
     by = script.world.processes[p].store
     if draw.below(8):
-        return script.commit(p, by, tx, stores, draw.below(1 << 20) ** 2 % (1 << 32), c)
-    return script.abort(p, by, draw.of([by, draw.below(4)]), tx, stores, c)
+        return commit(script, draw, p, by, tx, stores, c)
+    return abort(script, draw, p, by, draw.of([by, draw.below(4)]), tx, stores, c)
 
 
 def believers_of(script):
@@ -254,6 +295,8 @@ def transaction(script, draw):
         tx = draw.of([0, 1, 2, 3, 30, 31])
         stores = list_of(script, believers)
         votes = [one_vote(script, draw, p, tx, stores, c) for p in believers]
+        if not draw.below(4):
+            votes.append(vote_again(script, draw))
         learned(script, draw, c, votes)
         script.deliver(*script.tell(c, draw.of(believers), tx), *script.tell(c, 9, draw.below(32)))
         script.deliver(*script.restore(c, draw.of(believers)))
@@ -271,7 +314,7 @@ def takeover(script, draw):
     tx = draw.of([tx for tx in range(TXS) if tx not in log.txs() or not draw.below(8)])
     store, stores = processes[old].store, list_of(script, [old] + others)
     early = some_follow(script, draw, c)
-    vote = script.commit(old, store, tx, stores, 1 + draw.below(1 << 31), c)
+    vote = commit(script, draw, old, store, tx, stores, c)
     learned(script, draw, c, [vote, script.take(new, store, c)])
     script.deliver(*script.restore(c, new), *early)
     script.deliver(*script.follow(c, new, tx))  # refused, where the transaction runs
@@ -282,12 +325,36 @@ def takeover(script, draw):
     script.deliver(*sent * draw.of([1, 1, 2]), *early)
 
 
+ALIKE = [high << 32 | low for high in (0, 1, 1 << 31) for low in (0, 1, 1 << 31)]
+
+
+def votes_alike(script, draw):
+    """Votes that differ in their update or its form alone, in the queues of two coordinators. One
+    learns some of them, the other learns that, and all are delivered again."""
+    believers = believers_of(script)
+    if not script.world.acceptors or not believers:
+        return
+    first = furthest(script, draw)
+    second = (first + 1 + draw.below(2)) % 3
+    p, tx = draw.of(believers), draw.below(TXS)
+    by, sent = script.world.processes[p].store, []
+    for _ in range(draw.of([8, 20, 30])):
+        update = draw.of(ALIKE)
+        to = draw.of([first, second])
+        sent += script.commit(p, by, tx, list_of(script, [p]), update, to, draw.digits(update))
+    script.deliver(*sent)
+    for c in first, second, second, second:
+        if script.world.left() > 12:
+            learned(script, draw, c, [])
+    script.deliver(*sent)
+
+
 def setups(script, draw):
     script.setup(draw.of([3, 4, 5]))
 
 
 PARTS = [transaction, transaction, transaction, takeover, takeover]
-PARTS += [stores_held, instances, traffic, hostile_lines]
+PARTS += [stores_held, instances, traffic, hostile_lines, votes_alike]
 RARE = [numbers_used_up, crashes, setups, full_queue, all_again, hostile_lines]
 
 

@@ -18,6 +18,7 @@ from plain_log import (
     printed,
     reference_main,
     replay_lines,
+    update_text,
 )
 
 MESSAGES, QUEUE, BATCH = 128, 8, 4
@@ -287,8 +288,8 @@ class World:
                 yield "proc=%d store=%d position=%d" % (i, p.store, p.position)
                 yield from replay_lines(p.store, p.rows)
                 yield from ("running=%d" % tx for tx in p.running)
-                for tx in sorted(p.follows):
-                    yield "follow=%d outcome=%s upd=%08x" % (tx, *p.follows[tx])
+                for tx, (outcome, update) in sorted(p.follows.items()):
+                    yield "follow=%d outcome=%s upd=%s" % (tx, outcome, update_text(update))
 
 
 # Step files

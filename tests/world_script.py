@@ -1,6 +1,6 @@
 """Step files for `world`, built step by step."""
 import world_reference as reference
-from plain_log import joined
+from plain_log import UPDATE_DIGITS, joined, update_text
 
 step = reference.STEPS.text  # a step's text from its name and values
 
@@ -29,11 +29,11 @@ class Script:
     def take(self, p, s, to=0):
         return self.step("take", p, s, to)
 
-    def commit(self, p, s, tx, stores, update=1, to=0):
-        return self.step("vote", p, s, s, tx, stores, "commit", "%08x" % update, to)
+    def commit(self, p, s, tx, stores, update=1, to=0, digits=UPDATE_DIGITS):
+        return self.step("vote", p, s, s, tx, stores, "commit", update_text(update, digits), to)
 
-    def abort(self, p, by, s, tx, stores, to=0):
-        return self.step("vote", p, by, s, tx, stores, "abort", "0" * 8, to)
+    def abort(self, p, by, s, tx, stores, to=0, update=0, digits=UPDATE_DIGITS):
+        return self.step("vote", p, by, s, tx, stores, "abort", update_text(update, digits), to)
 
     def open(self, c, i, b):
         return self.step("open", c, i, b)

@@ -1,16 +1,17 @@
 """Step files for the tests of reading and writing."""
 import plain_reference
 import world_reference
-from plain_log import joined
+from plain_log import SHORT_DIGITS, UPDATE_DIGITS, joined, update_text
 from world_script import Script
 
 LINES, BYTES = 1000, 100
-# A piece is as long as the buffer for the output.
-PIECES = {"plain": 51880, "world": 153080}
+# A piece is as long as the buffer for the output: 1,297 lines or 3,827, each of 48 bytes.
+PIECES = {"plain": 62256, "world": 183696}
+LARGEST = 2**64 - 1
 
 
-def plain_vote(process, store, tx, stores="ff", update=0):
-    values = process, store, store, tx, stores, "commit", "%08x" % update
+def plain_vote(process, store, tx, stores="ff", update=0, digits=UPDATE_DIGITS):
+    values = process, store, store, tx, stores, "commit", update_text(update, digits)
     return plain_reference.STEPS.text("vote", *values).encode()
 
 
@@ -21,7 +22,8 @@ def plain_take(process, store):
 def short(name):
     """A few lines of each sort; the last lacks its LF."""
     if name == "plain":
-        rows = [plain_take(1, 0), plain_vote(1, 0, 4, "01", 10), b"do=take proc=1 store=9"]
+        rows = [plain_take(1, 0), plain_vote(1, 0, 4, "01", LARGEST)]
+        rows += [plain_vote(1, 0, 5, "01", 10, SHORT_DIGITS), b"do=take proc=1 store=9"]
     else:
         script = Script()
         script.queue(script.take(1, 0))
@@ -60,7 +62,7 @@ def longest_plain():
     holders = range(8, 16)
     rows = [plain_take(p, s) for s, p in enumerate(holders)]
     rows += [
-        plain_vote(p, s, tx, "ff", 0xFFFFFFFF) for tx in range(32) for s, p in enumerate(holders)
+        plain_vote(p, s, tx, "ff", LARGEST) for tx in range(32) for s, p in enumerate(holders)
     ]
     return rows + rows[-1:] * (LINES + 1 - len(rows))
 
@@ -77,7 +79,7 @@ def handed_on(votes):
     script = Script()
     script.hold((15, 0))
     for tx in range(31, 31 - votes, -1):
-        script.queue(script.commit(15, 0, tx, "01", 0xFFFFFFFF))
+        script.queue(script.commit(15, 0, tx, "01", LARGEST))
         if tx % 4 == 0:
             script.learn(0, 3)
     script.deliver(*script.restore(0, 15))
