@@ -5,8 +5,8 @@ from plain_log import SHORT_DIGITS, UPDATE_DIGITS, joined, update_text
 from world_script import Script
 
 LINES, BYTES = 1000, 100
-# A piece is as long as the buffer for the output: 1,297 lines or 3,827, each of 48 bytes.
-PIECES = {"plain": 62256, "world": 183696}
+# A piece is as long as the buffer for the output.
+PIECES = {"plain": 36230, "world": 131270}
 LARGEST = 2**64 - 1
 
 

@@ -16,6 +16,7 @@ use text_lines::Answers;
 use text_lines::Line;
 use text_lines::MAX_LINE_BYTES;
 use text_lines::MAX_LINES;
+use text_report::ANSWER_BYTES;
 use text_report::LINE_BYTES;
 use text_report::LOG_LINES;
 
@@ -175,7 +176,7 @@ impl Input {
 
 // No output is longer: 1,001 answers, then a line for each transaction and each store, and for each
 // store a line for each transaction.
-pub const OUTPUT_BYTES: usize = LINE_BYTES * (ANSWERED_LINES as usize + LOG_LINES);
+pub const OUTPUT_BYTES: usize = ANSWERED_LINES as usize * ANSWER_BYTES + LOG_LINES * LINE_BYTES;
 
 // What is printed for the bytes that were fed: the first bytes of the buffer, as many as the answer
 // says.

@@ -2,25 +2,24 @@
 use Prim.Native.Nat.{ℕ}
 use mathlib.Core.Bool.{true, false}
 use mathlib.Core.List.{[]}
-use mathlib.Core.Path.{_≡_, _∙_, ap}
+use mathlib.Core.Path.{_≡_, ap}
 use borrow.Author.Tests.{eq-eqb, ne-eqb}
-use Rattle.log_core.specs.declared.Log.{Log}
 use Rattle.log_votes.specs.declared.Outcome.{Outcome}
-use Rattle.log_core.specs.Log.{groupOf, holderOf, rowOf, outcomeOf}
-use Rattle.log_votes.specs.Outcome.{isKept}
+use Rattle.log_votes.specs.declared.Row.{Row}
+use Rattle.log_votes.specs.Outcome.{isKept, outcomeOfVotes}
 use Rattle.log_votes.specs.Scan.{anyFrom}
-use Rattle.text_report.specs.Report.{holderLine, holderText, txLine, txText}
+use Rattle.text_report.specs.Report.{heldText, holderLine, rowText, txLine}
 
-module _ (l : Log) (tx : ℕ) where
-  pub not-voted : anyFrom isKept 0 (rowOf l tx .votes) ≡ false → [] ≡ txText l tx
+module _ (r : Row) (tx : ℕ) where
+  pub not-voted : anyFrom isKept 0 (r .votes) ≡ false → [] ≡ rowText r tx
   not-voted h = rw h
 
-  pub voted : (o : Outcome) → anyFrom isKept 0 (rowOf l tx .votes) ≡ true → o ≡ outcomeOf l tx → txLine tx o (groupOf l tx) ≡ txText l tx
-  voted o h e = rw h (ap (λ (x : Outcome). txLine tx x (groupOf l tx)) e)
+  pub voted : (o : Outcome) → anyFrom isKept 0 (r .votes) ≡ true → o ≡ outcomeOfVotes (r .votes) → txLine tx o (r .group) ≡ rowText r tx
+  voted o h e = rw h (ap (λ (x : Outcome). txLine tx x (r .group)) e)
 
-module _ (l : Log) (store : ℕ) where
-  pub not-held : holderOf l store ≡ 0 → [] ≡ holderText l store
-  not-held h = rw (eq-eqb (holderOf l store) 0 h)
+module _ (holder store : ℕ) where
+  pub not-held : holder ≡ 0 → [] ≡ heldText holder store
+  not-held h = rw (eq-eqb holder 0 h)
 
-  pub held : (h : ℕ) → h ≡ holderOf l store → (h ≡ 0 → ⊥) → holderLine store h ≡ holderText l store
-  held h e n = ap (holderLine store) e ∙ rw (ne-eqb (holderOf l store) 0 (λ (z : holderOf l store ≡ 0). n (e ∙ z)))
+  pub held : (holder ≡ 0 → ⊥) → holderLine store holder ≡ heldText holder store
+  held h = rw (ne-eqb holder 0 h)

@@ -15,8 +15,9 @@ use Rattle.log_votes.specs.declared.Outcome.{Outcome}
 use Rattle.log_votes.specs.declared.Outcome.the-variants.{Open, Commit, Abort}
 use Rattle.log_core.specs.declared.Replay.{Replay}
 use Rattle.log_core.specs.declared.Replayed.{Replayed}
-use Rattle.log_core.specs.Log.{groupOf, holderOf, rowOf, outcomeOf}
-use Rattle.log_votes.specs.Outcome.{isKept}
+use Rattle.log_votes.specs.declared.Row.{Row}
+use Rattle.log_core.specs.Log.{holderOf, rowOf}
+use Rattle.log_votes.specs.Outcome.{isKept, outcomeOfVotes}
 use Rattle.log_core.specs.Replay.{noReplayed, replayRows}
 use Rattle.log_votes.specs.Scan.{anyFrom}
 
@@ -51,16 +52,22 @@ outcomeField key outcome = key ++ outcomeWord outcome
 abbrev pub txLine : ℕ → Outcome → ℕ → List ℕ
 txLine tx outcome group = field (ascii "tx=") tx ++ outcomeField (ascii " outcome=") outcome ++ field (ascii " group=") group ++ end
 
--- of a transaction with a kept vote
+-- of a transaction with this row, if a vote is kept
+abbrev pub rowText : Row → ℕ → List ℕ
+rowText r tx = cond (anyFrom isKept 0 (r .votes)) (txLine tx (outcomeOfVotes (r .votes)) (r .group)) []
+
 abbrev pub txText : Log → ℕ → List ℕ
-txText l tx = cond (anyFrom isKept 0 (rowOf l tx .votes)) (txLine tx (outcomeOf l tx) (groupOf l tx)) []
+txText l tx = rowText (rowOf l tx) tx
 
 abbrev pub holderLine : ℕ → ℕ → List ℕ
 holderLine store holder = field (ascii "store=") store ++ field (ascii " holder=") holder ++ end
 
--- of a store that is held
+-- of a store with this holder, if it is held
+abbrev pub heldText : ℕ → ℕ → List ℕ
+heldText holder store = cond (eqb holder 0) [] (holderLine store holder)
+
 abbrev pub holderText : Log → ℕ → List ℕ
-holderText l store = cond (eqb (holderOf l store) 0) [] (holderLine store (holderOf l store))
+holderText l store = heldText (holderOf l store) store
 
 -- a key and an update
 abbrev pub updateField : List ℕ → ℕ → List ℕ

@@ -27,6 +27,14 @@ outcomeBytes = length (ascii "commit")
 abbrev pub longestLine : ℕ
 longestLine = longestField (ascii "store=") + longestField (ascii " group=") + longestField (ascii " tx=") + length (ascii " upd=") + updateDigits + length end
 
+-- no number of a line has more digits
+abbrev pub numberDigits : ℕ
+numberDigits = 5
+
+-- no answer's line is longer
+abbrev pub longestAnswer : ℕ
+longestAnswer = length (ascii "step=") + numberDigits + longestField (ascii " answer=") + length end
+
 -- no replay prints as more: a line for each row
 abbrev pub longestReplay : ℕ
 longestReplay = transactions * longestLine
@@ -37,4 +45,4 @@ longestLog = (transactions + stores) * longestLine + stores * longestReplay
 
 -- no answers print as more
 abbrev pub longestAnswers : ℕ
-longestAnswers = answeredLines * longestLine
+longestAnswers = answeredLines * longestAnswer

@@ -1,6 +1,6 @@
 // What is printed of a log and of answers, line by line into a buffer. Each function answers the
 // next place in the buffer.
-ghost use Prim.Native.Nat.{_*_, _+_, _<_};
+ghost use Prim.Native.Nat.{_*_, _+_};
 ghost use mathlib.Core.List.{_++_};
 ghost use lib.ListN.{length};
 ghost use Rattle.log_entry.specs.Limits.{stores, transactions};
@@ -8,8 +8,8 @@ ghost use Rattle.text_ascii.specs.Hex.{updateDigits};
 ghost use Rattle.text_ascii.specs.Wrote.{Wrote};
 ghost use Rattle.log_core.specs.Replay.{replayRows};
 ghost use Rattle.text_lines.specs.Answers.{answersOf};
-ghost use Rattle.text_report.specs.Report.{answersText, each, end as end·end, field, holderLine, holderText, logText, outcomeField, outcomeWord, replayLine, replayText, rowsOf, stepLine, txLine, txText, updateField};
-ghost use Rattle.text_report.specs.Within.{Within, longestAnswers, longestField, longestLine, longestLog, longestReplay, outcomeBytes};
+ghost use Rattle.text_report.specs.Report.{answersText, each, end as end·end, field, heldText, holderLine, holderText, logText, outcomeField, outcomeWord, replayLine, replayText, rowText, rowsOf, stepLine, txLine, txText, updateField};
+ghost use Rattle.text_report.specs.Within.{Within, longestAnswer, longestAnswers, longestField, longestLine, longestLog, longestReplay, outcomeBytes};
 use log_core::Log;
 use log_core::Replay;
 use log_entry::limits::STORE_PLACES;
@@ -18,12 +18,16 @@ use log_entry::limits::TRANSACTION_PLACES;
 use log_entry::limits::TRANSACTIONS;
 use log_entry::limits::Update;
 use log_votes::Outcome;
+use log_votes::Row;
 use text_ascii::UPDATE_DIGITS;
 use text_lines::ANSWERED_LINES;
 use text_lines::Answers;
 
 // No printed line is longer than a replay's: three fields of a byte, an update and the LF.
 pub const LINE_BYTES: usize = 32 + UPDATE_DIGITS as usize;
+
+// No answer's line is longer: its number has at most five digits, and its answer is a byte.
+pub const ANSWER_BYTES: usize = 22;
 
 // No log has more lines.
 pub const LOG_LINES: usize = TRANSACTION_PLACES + STORE_PLACES + STORE_PLACES * TRANSACTION_PLACES;
@@ -85,7 +89,7 @@ pub fn end(out: &mut [u8], at: usize) -> usize
 }
 
 pub fn step_line(out: &mut [u8], at: usize, number: u16, answer: u8) -> usize
-    ensures { λ r. ⌜ Within longestLine (now (out .entry)) at (stepLine number answer) (now (out .exit)) r ⌝ }
+    ensures { λ r. ⌜ Within longestAnswer (now (out .entry)) at (stepLine number answer) (now (out .exit)) r ⌝ }
 {
     let at = field(out, at, b"step=", number as u32);
     let at = byte_field(out, at, b" answer=", answer);
@@ -117,23 +121,20 @@ pub fn replay_line(out: &mut [u8], at: usize, store: u8, group: u8, tx: u8, upda
     end(out, at)
 }
 
-// The transaction's line, if a vote is kept.
-fn tx(out: &mut [u8], at: usize, log: Log, tx: u8) -> usize
-    requires { ⌜ tx < transactions ⌝ }
-    ensures { λ r. ⌜ Within longestLine (now (out .entry)) at (txText log tx) (now (out .exit)) r ⌝ }
+// The line of a transaction with this row, if a vote is kept.
+fn tx(out: &mut [u8], at: usize, row: Row, tx: u8) -> usize
+    ensures { λ r. ⌜ Within longestLine (now (out .entry)) at (rowText row tx) (now (out .exit)) r ⌝ }
 {
-    let row = log.rows[tx as usize];
     if !row.any_kept() {
         return at;
     }
     tx_line(out, at, tx, row.outcome(), row.group)
 }
 
-// The store's line, if it is held.
-fn holder(out: &mut [u8], at: usize, log: Log, store: u8) -> usize
-    ensures { λ r. ⌜ Within longestLine (now (out .entry)) at (holderText log store) (now (out .exit)) r ⌝ }
+// The line of a store with this holder, if it is held.
+fn holder(out: &mut [u8], at: usize, holder: u8, store: u8) -> usize
+    ensures { λ r. ⌜ Within longestLine (now (out .entry)) at (heldText holder store) (now (out .exit)) r ⌝ }
 {
-    let holder = log.holder(store);
     if holder == 0 {
         return at;
     }
@@ -166,7 +167,8 @@ fn outcomes(out: &mut [u8], mut at: usize, log: Log) -> usize
 {
     let mut i: u8 = 0;
     while i < TRANSACTIONS {
-        at = tx(out, at, log, i);
+        let row = log.rows[i as usize];
+        at = tx(out, at, row, i);
         i += 1;
     }
     at
@@ -177,7 +179,7 @@ fn holders(out: &mut [u8], mut at: usize, log: Log) -> usize
 {
     let mut i: u8 = 0;
     while i < STORES {
-        at = holder(out, at, log, i);
+        at = holder(out, at, log.holders[i as usize], i);
         i += 1;
     }
     at

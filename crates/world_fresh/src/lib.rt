@@ -170,6 +170,8 @@ pub fn fresh_world() -> World
     let none = no_message();
     let replay = Replay::none();
     let follows = no_follows();
+    // Named before the world, since built within it the compiler copies them once more.
+    let replays = [replay; MESSAGE_PLACES];
     World {
         acceptors: 0,
         slots: [slot; SLOT_PLACES],
@@ -180,7 +182,7 @@ pub fn fresh_world() -> World
         follows: [follows; PROCESS_PLACES],
         down: all_up(),
         messages: [none; MESSAGE_PLACES],
-        replays: [replay; MESSAGE_PLACES],
+        replays: replays,
         sent: 0,
     }
 }

@@ -2,7 +2,7 @@
 ghost use Prim.Native.Nat.{_*_};
 ghost use Rattle.log_entry.specs.Limits.{processes};
 ghost use Rattle.text_report.specs.Within.{Within, longestLine};
-ghost use Rattle.world_report.specs.Longest.{longestForEach, longestRestore};
+ghost use Rattle.world_report.specs.Longest.{longestFollows, longestHeard, longestHeardLine, longestRestore, longestRunning, longestRunningLine};
 ghost use Rattle.world_report.specs.Processes.{byProcess, followLine, followText, followsText, heardLine, heardText, listedText, outcomeText, restoreLine, restoreText, restoresText, runningLine, runningText};
 use log_core::Replay;
 use log_entry::limits::PROCESSES;
@@ -15,7 +15,7 @@ use model_protocol::Process;
 use model_protocol::limits::PROCESS_PLACES;
 
 pub fn heard_line(out: &mut [u8], at: usize, proc: u8, tx: u8, outcome: Outcome) -> usize
-    ensures { λ r. ⌜ Within longestLine (now (out .entry)) at (heardLine proc tx outcome) (now (out .exit)) r ⌝ }
+    ensures { λ r. ⌜ Within longestHeardLine (now (out .entry)) at (heardLine proc tx outcome) (now (out .exit)) r ⌝ }
 {
     let at = text_report::byte_fields(out, at, b"proc=", proc, b" tx=", tx);
     let at = text_report::outcome_field(out, at, b" heard=", outcome);
@@ -24,7 +24,7 @@ pub fn heard_line(out: &mut [u8], at: usize, proc: u8, tx: u8, outcome: Outcome)
 
 // The transaction's line, if its outcome was heard.
 pub fn put_outcome(out: &mut [u8], at: usize, proc: u8, tx: u8, outcome: Outcome) -> usize
-    ensures { λ r. ⌜ Within longestLine (now (out .entry)) at (outcomeText proc tx outcome) (now (out .exit)) r ⌝ }
+    ensures { λ r. ⌜ Within longestHeardLine (now (out .entry)) at (outcomeText proc tx outcome) (now (out .exit)) r ⌝ }
 {
     if let Outcome::Open = outcome {
         return at;
@@ -34,7 +34,7 @@ pub fn put_outcome(out: &mut [u8], at: usize, proc: u8, tx: u8, outcome: Outcome
 
 // What the process heard.
 pub fn put_heard(out: &mut [u8], mut at: usize, proc: u8, p: Process) -> usize
-    ensures { λ r. ⌜ Within longestForEach (now (out .entry)) at (heardText proc p) (now (out .exit)) r ⌝ }
+    ensures { λ r. ⌜ Within longestHeard (now (out .entry)) at (heardText proc p) (now (out .exit)) r ⌝ }
 {
     let mut i: u8 = 0;
     while i < TRANSACTIONS {
@@ -48,7 +48,7 @@ pub fn put_heard(out: &mut [u8], mut at: usize, proc: u8, p: Process) -> usize
 
 // What all processes heard.
 pub fn put_all_heard(out: &mut [u8], mut at: usize, ps: [Process; PROCESS_PLACES]) -> usize
-    ensures { λ r. ⌜ Within (processes * longestForEach) (now (out .entry)) at (byProcess heardText ps) (now (out .exit)) r ⌝ }
+    ensures { λ r. ⌜ Within (processes * longestHeard) (now (out .entry)) at (byProcess heardText ps) (now (out .exit)) r ⌝ }
 {
     let mut i: u8 = 0;
     while i < PROCESSES {
@@ -68,7 +68,7 @@ pub fn restore_line(out: &mut [u8], at: usize, proc: u8, store: u8, position: u8
 }
 
 pub fn running_line(out: &mut [u8], at: usize, tx: u8) -> usize
-    ensures { λ r. ⌜ Within longestLine (now (out .entry)) at (runningLine tx) (now (out .exit)) r ⌝ }
+    ensures { λ r. ⌜ Within longestRunningLine (now (out .entry)) at (runningLine tx) (now (out .exit)) r ⌝ }
 {
     let at = text_report::byte_field(out, at, b"running=", tx);
     text_report::end(out, at)
@@ -76,7 +76,7 @@ pub fn running_line(out: &mut [u8], at: usize, tx: u8) -> usize
 
 // The transaction's line, if the set of those listed as running has it.
 pub fn put_listed(out: &mut [u8], at: usize, running: u32, tx: u8) -> usize
-    ensures { λ r. ⌜ Within longestLine (now (out .entry)) at (listedText running tx) (now (out .exit)) r ⌝ }
+    ensures { λ r. ⌜ Within longestRunningLine (now (out .entry)) at (listedText running tx) (now (out .exit)) r ⌝ }
 {
     if !sets::has32(running, tx) {
         return at;
@@ -86,7 +86,7 @@ pub fn put_listed(out: &mut [u8], at: usize, running: u32, tx: u8) -> usize
 
 // What the restore listed as running.
 pub fn put_running(out: &mut [u8], mut at: usize, running: u32) -> usize
-    ensures { λ r. ⌜ Within longestForEach (now (out .entry)) at (runningText running) (now (out .exit)) r ⌝ }
+    ensures { λ r. ⌜ Within longestRunning (now (out .entry)) at (runningText running) (now (out .exit)) r ⌝ }
 {
     let mut i: u8 = 0;
     while i < TRANSACTIONS {
@@ -118,7 +118,7 @@ pub fn put_follow(out: &mut [u8], at: usize, followed: u32, tx: u8, f: Followed)
 
 // The follows that were taken since the restore.
 pub fn put_follows(out: &mut [u8], mut at: usize, followed: u32, follows: Follows) -> usize
-    ensures { λ r. ⌜ Within longestForEach (now (out .entry)) at (followsText followed follows) (now (out .exit)) r ⌝ }
+    ensures { λ r. ⌜ Within longestFollows (now (out .entry)) at (followsText followed follows) (now (out .exit)) r ⌝ }
 {
     let mut i: u8 = 0;
     while i < TRANSACTIONS {

@@ -9,11 +9,11 @@ use model_steps::Commands;
 use model_steps::limits::COMMAND_PLACES;
 use text_lines::ANSWERED_LINES;
 use text_lines::Answers;
-use text_report::LINE_BYTES;
+use text_report::ANSWER_BYTES;
 use world_engine::advance::advance;
 use world_fresh::fresh_world;
 use world_input::Input;
-use world_report::WORLD_LINES;
+use world_report::WORLD_BYTES;
 
 // The world, and the answers to the lines.
 pub struct Session {
@@ -56,7 +56,7 @@ pub fn run_fed(input: Input) -> Session
 }
 
 // No output is longer: 1,001 answers, and the lines of a world.
-pub const OUTPUT_BYTES: usize = LINE_BYTES * (ANSWERED_LINES as usize + WORLD_LINES);
+pub const OUTPUT_BYTES: usize = ANSWERED_LINES as usize * ANSWER_BYTES + WORLD_BYTES;
 
 // What is printed for the bytes that were fed: the first bytes of the buffer, as many as the answer
 // says.

@@ -8,14 +8,14 @@ use Rattle.text_lines.proofs.Good.{answers-length}
 use Rattle.text_lines.specs.Answers.{answersOf}
 use Rattle.text_lines.specs.Lines.{answeredLines}
 use Rattle.text_report.specs.Report.{stepLine}
-use Rattle.text_report.specs.Within.{longestLine}
+use Rattle.text_report.specs.Within.{longestAnswer}
 use Rattle.text_report.proofs.Each.{Put, came-to-bound, counted, first-bound, none-put, put-all, put-length, put-more, second-bound}
 use Rattle.text_report.proofs.put_answers.Statement.{statement}
 use Rattle.text_report.proofs.put_answers.Tie as tie
 
 abbrev Inv-loop : tie.InvT-loop
 Inv-loop out₀ at₀ answers i₀ out at i =
-    Put (length (answersOf answers)) longestLine (λ j. stepLine (suc j) (getD (answersOf answers) j 0)) out₀ at₀ out at i
+    Put (length (answersOf answers)) longestAnswer (λ j. stepLine (suc j) (getD (answersOf answers) j 0)) out₀ at₀ out at i
 
 abbrev μ-loop : tie.MeasureT-loop
 μ-loop out₀ at₀ answers i₀ out at i = answers .count - i

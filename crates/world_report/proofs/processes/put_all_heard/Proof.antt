@@ -4,7 +4,7 @@ use borrow.Author.Needs.{needs}
 use lib.ListN.{getD}
 use Rattle.log_entry.specs.Limits.{processes}
 use Rattle.model_protocol.specs.World.{freshProcess}
-use Rattle.world_report.specs.Longest.{longestForEach}
+use Rattle.world_report.specs.Longest.{longestHeard}
 use Rattle.world_report.specs.Processes.{heardText}
 use Rattle.world_report.proofs.Elements.{element-from-1}
 use Rattle.text_report.proofs.Each.{Put, none-put, put-all, put-length, put-more}
@@ -13,7 +13,7 @@ use Rattle.world_report.proofs.processes.put_all_heard.Tie as tie
 
 abbrev Inv-loop : tie.InvT-loop
 Inv-loop out₀ at₀ ps i₀ out at i =
-    Put processes longestForEach (λ j. heardText (suc j) (getD ps (suc j) freshProcess)) out₀ at₀ out at i
+    Put processes longestHeard (λ j. heardText (suc j) (getD ps (suc j) freshProcess)) out₀ at₀ out at i
 
 abbrev μ-loop : tie.MeasureT-loop
 μ-loop out₀ at₀ ps i₀ out at i = processes - i

@@ -5,7 +5,7 @@ use borrow.Author.Needs.{needs}
 use lib.ListN.{getD}
 use Rattle.log_entry.specs.Limits.{transactions}
 use Rattle.log_votes.specs.declared.Outcome.the-variants.{Open}
-use Rattle.text_report.specs.Within.{longestLine}
+use Rattle.world_report.specs.Longest.{longestHeardLine}
 use Rattle.world_report.specs.Processes.{outcomeText}
 use Rattle.text_report.proofs.Each.{Put, none-put, put-all, put-length, put-more}
 use Rattle.world_report.proofs.processes.put_heard.Statement.{statement}
@@ -13,7 +13,7 @@ use Rattle.world_report.proofs.processes.put_heard.Tie as tie
 
 abbrev Inv-loop : tie.InvT-loop
 Inv-loop out₀ at₀ proc p i₀ out at i =
-    Put transactions longestLine (λ tx. outcomeText proc tx (getD (p .heard) tx (record { outcome = Open }) .outcome)) out₀ at₀ out at i
+    Put transactions longestHeardLine (λ tx. outcomeText proc tx (getD (p .heard) tx (record { outcome = Open }) .outcome)) out₀ at₀ out at i
 
 abbrev μ-loop : tie.MeasureT-loop
 μ-loop out₀ at₀ proc p i₀ out at i = transactions - i

@@ -3,14 +3,14 @@ use mathlib.Core.Path.{refl}
 use native.Mathlib.Omega.{arith}
 use borrow.Author.Needs.{needs}
 use Rattle.log_entry.specs.Limits.{transactions}
-use Rattle.text_report.specs.Within.{longestLine}
+use Rattle.world_report.specs.Longest.{longestRunningLine}
 use Rattle.text_report.proofs.Each.{Put, none-put, put-all, put-length, put-more}
 use Rattle.world_report.specs.Processes.{listedText}
 use Rattle.world_report.proofs.processes.put_running.Statement.{statement}
 use Rattle.world_report.proofs.processes.put_running.Tie as tie
 
 abbrev Inv-loop : tie.InvT-loop
-Inv-loop out₀ at₀ running i₀ out at i = Put transactions longestLine (listedText running) out₀ at₀ out at i
+Inv-loop out₀ at₀ running i₀ out at i = Put transactions longestRunningLine (listedText running) out₀ at₀ out at i
 
 abbrev μ-loop : tie.MeasureT-loop
 μ-loop out₀ at₀ running i₀ out at i = transactions - i
