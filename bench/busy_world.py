@@ -1,12 +1,13 @@
 #!/usr/bin/env python3
 """Prints a busy step file of 1,000 lines for `world`: eight stores taken, sixteen votes, two
 coordinators, until all 128 numbers are used; then every message that is still answered 0 is
-delivered again, in turn."""
+delivered again, in turn. The updates use all 64 bits."""
 import os
 import sys
 
 sys.dont_write_bytecode = True
 sys.path.insert(0, os.path.join(os.path.dirname(os.path.abspath(__file__)), "..", "tests"))
+from busy_plain import spread
 from plain_log import LINES
 from world_script import Script
 
@@ -21,7 +22,8 @@ def busy():
     for instance in range(4):  # two transactions of two stores each
         pairs = [(2 * instance + k, s) for k in (0, 1) for s in (2 * instance, 2 * instance + 1)]
         stores = "%02x" % (3 << 2 * instance)
-        script.queue(*(script.commit(s + 1, s, tx, stores, 16 * tx + s) for tx, s in pairs))
+        votes = (script.commit(s + 1, s, tx, stores, spread(16 * tx + s)) for tx, s in pairs)
+        script.queue(*votes)
         script.learn(0, 3)
     script.learn(1, 4, (1, 2))
     script.learn(1, 4, (0, 2))

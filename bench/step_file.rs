@@ -33,15 +33,20 @@ impl<'a> Fields<'a> {
         Some(value as u8)
     }
 
-    fn hex(&mut self, key: &[u8], count: usize) -> Option<u32> {
+    fn hex(&mut self, key: &[u8], counts: &[usize]) -> Option<u64> {
         self.key(key)?;
-        let (digits, rest) = self.rest.split_at_checked(count)?;
-        self.rest = rest;
-        digits.iter().try_fold(0, |v, c| match c {
-            b'0'..=b'9' => Some(v << 4 | (c - b'0') as u32),
-            b'a'..=b'f' => Some(v << 4 | (c - b'a' + 10) as u32),
-            _ => None,
-        })
+        let (mut value, mut count) = (0, 0);
+        for c in self.rest {
+            let digit = match c {
+                b'0'..=b'9' => c - b'0',
+                b'a'..=b'f' => c - b'a' + 10,
+                _ => break,
+            };
+            value = value << 4 | digit as u64;
+            count += 1;
+        }
+        self.rest = &self.rest[count..];
+        counts.contains(&count).then_some(value)
     }
 
     pub fn word<T: Copy>(&mut self, key: &[u8], words: &[(&[u8], T)]) -> Option<T> {
@@ -62,9 +67,9 @@ impl<'a> Fields<'a> {
             by: self.decimal(b" by=", 0..=7)?,
             store: self.decimal(b" store=", 0..=7)?,
             tx: self.decimal(b" tx=", 0..=31)?,
-            list: self.hex(b" list=", 2)? as u8,
+            list: self.hex(b" list=", &[2])? as u8,
             commit: self.word(b" say=", &[(b"commit", true), (b"abort", false)])?,
-            update: self.hex(b" upd=", 8)?,
+            update: self.hex(b" upd=", &[16, 8])?,
         }))
     }
 }
@@ -99,11 +104,11 @@ pub fn answers(input: &[u8], out: &mut Vec<u8>, mut answer: impl FnMut(&[u8]) ->
 }
 
 /// Group, tx and update.
-pub type Row = (u8, u8, u32);
+pub type Row = (u8, u8, u64);
 
 pub fn print_rows(out: &mut Vec<u8>, store: u8, rows: &[Row]) {
     for (group, tx, update) in rows {
-        writeln!(out, "store={store} group={group} tx={tx} upd={update:08x}").unwrap();
+        writeln!(out, "store={store} group={group} tx={tx} upd={update:016x}").unwrap();
     }
 }
 

@@ -53,7 +53,7 @@ enum Message {
 #[derive(Clone, Copy)]
 struct Followed {
     outcome: Outcome,
-    update: u32,
+    update: u64,
 }
 
 impl Message {
@@ -171,7 +171,7 @@ impl Process {
         }
         for (tx, followed) in self.follows.iter().enumerate() {
             if let Some(Followed { outcome, update }) = followed {
-                writeln!(out, "follow={} outcome={} upd={:08x}", tx, outcome.word(), update)
+                writeln!(out, "follow={} outcome={} upd={:016x}", tx, outcome.word(), update)
                     .unwrap();
             }
         }

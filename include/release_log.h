@@ -16,10 +16,22 @@
  *     byte  5      list      bit s for store s
  *     byte  6      say       0 abort, 1 commit
  *     byte  7      0
- *     bytes 8-11   update    low byte first
+ *     bytes 8-15   update    low byte first
  *
  * A take has a kind, a process and a store. Its other numbers are 0, in a
  * record and in a call.
+ *
+ * Records of version 1
+ *   In version 1 of this header an update had four bytes, and a record twelve.
+ *   Such records are not read any more, and a buffer has no mark by which the
+ *   library could know them. So a host converts what it keeps, once: behind
+ *   each record of 12 bytes come four zero bytes. The update is low byte
+ *   first, so the first twelve bytes stay. examples/host/convert.c does this
+ *   for the file of the example host.
+ *   A host that forgets it hears of it. Two or more such records, lent with
+ *   their count, are refused: RELEASE_LOG_OUTSIDE if the buffer ends too early,
+ *   else RELEASE_LOG_UNREADABLE. The first record of a log is a take, and its
+ *   update would have bytes of the second record.
  *
  * Buffers
  *   Every buffer is the host's before, during and after a call. The library
@@ -59,7 +71,7 @@ extern "C" {
  * or a value is another, or a call answers otherwise. MINOR changes if
  * something is added.
  */
-#define RELEASE_LOG_VERSION_MAJOR 1
+#define RELEASE_LOG_VERSION_MAJOR 2
 #define RELEASE_LOG_VERSION_MINOR 0
 
 /* The answer of a call: RELEASE_LOG_OK, or the refusal. */
@@ -119,8 +131,8 @@ enum {
 #define RELEASE_LOG_TRANSACTIONS 32
 
 /* The bytes of a record, and of a row that release_log_replay writes. */
-#define RELEASE_LOG_RECORD_SIZE 12
-#define RELEASE_LOG_ROW_SIZE 6
+#define RELEASE_LOG_RECORD_SIZE 16
+#define RELEASE_LOG_ROW_SIZE 10
 
 /*
  * The most records that a log accepts: each process takes each store at most
@@ -161,7 +173,7 @@ enum {
  */
 uint32_t release_log_add(uint8_t *records, size_t records_len, size_t count,
     uint32_t kind, uint32_t process, uint32_t by, uint32_t store, uint32_t tx,
-    uint32_t list, uint32_t say, uint32_t update);
+    uint32_t list, uint32_t say, uint64_t update);
 
 /*
  * The outcome of a transaction.
@@ -211,11 +223,11 @@ uint32_t release_log_involvement(const uint8_t *records, size_t records_len,
  *   RELEASE_LOG_OUTSIDE     count records are more than records_len bytes
  *   a record's refusal      the first lent record that is refused: 1, 2, 7-11
  *   RELEASE_LOG_OUTSIDE     a store above 7
- *   RELEASE_LOG_NO_PLACE    out_len is below 1 + 6 times the number of rows
+ *   RELEASE_LOG_NO_PLACE    out_len is below 1 + 10 times the number of rows
  *   RELEASE_LOG_OK
  *
  * Writes, if OK, the number of rows to out[0], and then each row in
- * RELEASE_LOG_ROW_SIZE bytes: group, tx, and the update in four bytes, low
+ * RELEASE_LOG_ROW_SIZE bytes: group, tx, and the update in eight bytes, low
  * byte first. The rest of `out` stays.
  */
 uint32_t release_log_replay(const uint8_t *records, size_t records_len,
@@ -237,7 +249,7 @@ struct release_log_vote {
 	uint32_t tx;
 	uint32_t list;
 	uint32_t say;
-	uint32_t update;
+	uint64_t update;
 };
 
 /* A new vote: release_log_add with these numbers. `vote` is not NULL. */

@@ -7,13 +7,11 @@
  * Each line of the input is a command, and each command is answered. The
  * commands are in the table `commands` below. Between two words is one space.
  * Numbers are written as in step files: decimals without leading zeros, LIST
- * as two and UPDATE as eight lower-case hexadecimal digits. A line that is no
- * such command is answered by an error and changes nothing.
+ * as two lower-case hexadecimal digits, UPDATE as sixteen or eight of them. A
+ * line that is no such command is answered by an error and changes nothing.
  *
- * The file is a row of slots, one for each record, oldest first. A slot is the
- * record and then four bytes of checksum, low byte first. The record by itself
- * has no sign by which damage shows: with one byte spoiled it may well be
- * another record that the log accepts.
+ * The file is a row of slots, one for each record: slots.h says what is in
+ * them.
  *
  * An entry is on the disk before it is answered. So whoever kills the host, or
  * pulls the plug, loses no entry that was answered. A slot that was being
@@ -22,248 +20,68 @@
  * with the file is damage: the host names the record, leaves the file as it is
  * and stops. One damage cannot be told from that: a file that lost bytes at its
  * end looks as if its last entries had not been written.
+ *
+ * The file of an earlier host, with records of 12 bytes, is left as it is too.
+ * convert.c makes a new file of it.
  */
 #define _XOPEN_SOURCE 700
-#include <errno.h>
-#include <fcntl.h>
-#include <inttypes.h>
-#include <libgen.h>
-#include <stdio.h>
-#include <stdlib.h>
-#include <string.h>
-#include <sys/file.h>
-#include <sys/stat.h>
-#include <sys/types.h>
-#include <unistd.h>
-
-#include "release_log.h"
-
-/* A slot never lies in two sectors of the disk, since its size divides theirs. */
-#define CHECKSUM_SIZE 4
-#define SLOT_SIZE (RELEASE_LOG_RECORD_SIZE + CHECKSUM_SIZE)
+#include "slots.h"
 
 /* The most bytes of a line, without its LF, and the most words of a command. */
 #define LINE_MOST 100
 #define WORDS_MOST 8
 
-static uint8_t records[RELEASE_LOG_RECORDS_ROOM];
-static size_t count;
-static const char *path;
-static int file;
-
-/* Ends the host because of a system call. What it was asked stays unanswered. */
-static void fail(const char *what)
-{
-	perror(what);
-	exit(1);
-}
-
-/* What an answer of the library says. */
-static const char *meaning(uint32_t answer)
-{
-	switch (answer) {
-	case RELEASE_LOG_OK: return "accepted";
-	case RELEASE_LOG_UNREADABLE: return "does not read as an entry";
-	case RELEASE_LOG_OUTSIDE: return "a number outside its limits";
-	case RELEASE_LOG_NO_PLACE: return "no place left";
-	case RELEASE_LOG_ILL_FORMED: return "an ill-formed vote";
-	case RELEASE_LOG_NOT_HOLDER: return "the process does not hold that store";
-	case RELEASE_LOG_OTHER_LIST: return "a commit vote with another list is kept";
-	case RELEASE_LOG_KEPT_ALREADY: return "a vote of that store is kept already";
-	case RELEASE_LOG_HOLDS_OR_HELD: return "holds or held a store";
-	default: return "unknown";
-	}
-}
+static struct slots kept;
 
 /* --- The file ----------------------------------------------------------- */
-
-static uint32_t crc(uint32_t sum, uint8_t byte)
-{
-	sum ^= byte;
-	for (int bit = 0; bit < 8; bit++)
-		sum = (sum >> 1) ^ ((sum & 1) != 0 ? 0xedb88320u : 0);
-	return sum;
-}
-
-/*
- * The CRC-32 of the record's index (four bytes, low byte first) and the
- * record, with its highest and its lowest bit set. Any single byte that is
- * spoiled shows, and so does a record in another's place. The two bits are in
- * two bytes, so one spoiled byte does not make the checksum 0, which stands
- * for a checksum that was not written.
- */
-static uint32_t checksum(size_t index, const uint8_t *record)
-{
-	uint32_t sum = 0xffffffffu;
-	for (unsigned i = 0; i < 4; i++)
-		sum = crc(sum, (uint8_t)(index >> (8 * i)));
-	for (size_t i = 0; i < RELEASE_LOG_RECORD_SIZE; i++)
-		sum = crc(sum, record[i]);
-	return ~sum | 0x80000001u;
-}
-
-static uint8_t *record_at(size_t index)
-{
-	return records + index * RELEASE_LOG_RECORD_SIZE;
-}
-
-static off_t slot_at(size_t index)
-{
-	return (off_t)(index * SLOT_SIZE);
-}
-
-static void make_slot(size_t index, uint8_t *slot)
-{
-	uint32_t sum = checksum(index, record_at(index));
-	memcpy(slot, record_at(index), RELEASE_LOG_RECORD_SIZE);
-	for (unsigned i = 0; i < CHECKSUM_SIZE; i++)
-		slot[RELEASE_LOG_RECORD_SIZE + i] = (uint8_t)(sum >> (8 * i));
-}
-
-/* All that was written to `fd` goes to the disk. */
-static void sync_to_disk(int fd, const char *name)
-{
-	while (fsync(fd) < 0)
-		if (errno != EINTR)
-			fail(name);
-}
 
 /* The record goes to the disk. */
 static void keep(size_t index)
 {
 	uint8_t slot[SLOT_SIZE];
-	size_t done = 0;
-	make_slot(index, slot);
-	while (done < SLOT_SIZE) {
-		ssize_t put = pwrite(file, slot + done, SLOT_SIZE - done, slot_at(index) + (off_t)done);
-		if (put > 0)
-			done += (size_t)put;
-		else if (put == 0 || errno != EINTR)
-			fail(path);
-	}
-	sync_to_disk(file, path);
-}
-
-/* The name of a new file is on the disk when its folder is. */
-static void sync_folder(void)
-{
-	char *name = realpath(path, NULL);
-	if (name == NULL)
-		fail(path);
-	const char *folder = dirname(name);
-	int fd = open(folder, O_RDONLY | O_DIRECTORY);
-	if (fd < 0)
-		fail(folder);
-	sync_to_disk(fd, folder);
-	close(fd);
-	free(name);
-}
-
-/* One host at a time, since each has the records in memory. Its end, however it comes, frees
-   the file. */
-static void open_file(void)
-{
-	struct stat about;
-	file = open(path, O_RDWR | O_CREAT, 0666);
-	if (file < 0 || fstat(file, &about) < 0)
-		fail(path);
-	if (file <= STDERR_FILENO) {
-		/* Such a stream was closed, and what is printed to it would go to the file. */
-		close(file);
-		fprintf(stderr, "%s: standard input, output or error is closed\n", path);
-		exit(1);
-	}
-	if (!S_ISREG(about.st_mode)) {
-		fprintf(stderr, "%s: not a regular file\n", path);
-		exit(1);
-	}
-	if (flock(file, LOCK_EX | LOCK_NB) < 0) {
-		if (errno != EWOULDBLOCK)
-			fail(path);
-		fprintf(stderr, "%s: in use by another host\n", path);
-		exit(1);
-	}
-}
-
-/* The slot, and how many of its bytes the file has; the others are 0. */
-static size_t read_slot(size_t index, uint8_t *slot)
-{
-	size_t done = 0;
-	memset(slot, 0, SLOT_SIZE);
-	while (done < SLOT_SIZE) {
-		ssize_t got = pread(file, slot + done, SLOT_SIZE - done, slot_at(index) + (off_t)done);
-		if (got == 0)
-			break;
-		if (got > 0)
-			done += (size_t)got;
-		else if (errno != EINTR)
-			fail(path);
-	}
-	return done;
+	make_slot(&form_now, index, record_at(&kept, index), slot);
+	write_to_disk(kept.fd, kept.path, slot, SLOT_SIZE, index * SLOT_SIZE);
 }
 
 /*
- * Whether a last slot is one that was not written to its end. Then the file
- * ends within it; or, if the file was made longer before the bytes came, its
- * checksum is 0. In both cases it begins as every slot does, with a kind.
+ * The file of an earlier host is known by its first slot. Where that has its
+ * checksum, which is never 0, the first slot of this host has zeros: its record
+ * is a take, and a take has no update. So neither is taken for the other. An
+ * earlier file whose first slot was not written to its end is not known, but
+ * holds no entry that was answered.
  */
-static int is_torn(const uint8_t *slot, size_t length)
+static void refuse_earlier_form(void)
 {
-	static const uint8_t unwritten[CHECKSUM_SIZE];
-	int no_checksum = memcmp(slot + RELEASE_LOG_RECORD_SIZE, unwritten, CHECKSUM_SIZE) == 0;
-	return slot[0] <= RELEASE_LOG_KIND_VOTE && (length < SLOT_SIZE || no_checksum);
-}
-
-/* The slot becomes record `count`, or the host ends. */
-static void load_slot(const uint8_t *slot)
-{
-	uint8_t whole[SLOT_SIZE], value;
-	if (count == RELEASE_LOG_RECORDS_MOST) {
-		fprintf(stderr, "%s: record %zu is damaged: a log has no more than %d\n", path, count + 1,
-		    RELEASE_LOG_RECORDS_MOST);
-		exit(1);
-	}
-	memcpy(record_at(count), slot, RELEASE_LOG_RECORD_SIZE);
-	make_slot(count, whole);
-	int same = memcmp(slot, whole, SLOT_SIZE) == 0;
-	/* Every query goes through the records first, so any will do. */
-	uint32_t answer = release_log_outcome(records, sizeof records, count + 1, 0, &value, 1);
-	if (!same || answer != RELEASE_LOG_OK) {
-		fprintf(stderr, "%s: record %zu is damaged: checksum %s, answer=%" PRIu32 " %s\n", path,
-		    count + 1, same ? "right" : "wrong", answer, meaning(answer));
-		exit(1);
-	}
-	count++;
+	uint8_t slot[SLOT_SIZE];
+	size_t length = read_slot(&kept, &form_now, 0, slot);
+	if (length < form_before.slot_size || is_made_so(&form_now, 0, slot, SLOT_SIZE) ||
+	    !is_made_so(&form_before, 0, slot, form_before.slot_size))
+		return;
+	fprintf(stderr, "%s: records of %zu bytes, of an earlier host; convert it with: convert %s NEW\n",
+	    kept.path, form_before.record_size, kept.path);
+	exit(1);
 }
 
 static void drop_last_slot(void)
 {
-	fprintf(stderr, "%s: record %zu was not written to its end and is dropped\n", path, count + 1);
-	if (ftruncate(file, slot_at(count)) < 0)
-		fail(path);
-	sync_to_disk(file, path);
+	fprintf(stderr, "%s: record %zu was not written to its end and is dropped\n", kept.path,
+	    kept.count + 1);
+	if (ftruncate(kept.fd, (off_t)(kept.count * SLOT_SIZE)) < 0)
+		fail(kept.path);
+	sync_to_disk(kept.fd, kept.path);
 }
 
 /* Nothing is written until every slot is known to be good. */
 static void load(void)
 {
-	uint8_t slot[SLOT_SIZE], next[SLOT_SIZE];
-	size_t length = read_slot(0, slot);
-	while (length > 0) {
-		size_t next_length = read_slot(count + 1, next);
-		if (next_length == 0 && is_torn(slot, length)) {
-			drop_last_slot();
-			break;
-		}
-		load_slot(slot);
-		memcpy(slot, next, SLOT_SIZE);
-		length = next_length;
-	}
+	refuse_earlier_form();
+	if (load_slots(&kept, &form_now))
+		drop_last_slot();
 	/* The last record may be in the file and not yet on the disk: its host was killed just then,
 	   or could not sync it. It goes there before anybody hears of it. */
-	if (count > 0)
-		keep(count - 1);
-	sync_folder();
+	if (kept.count > 0)
+		keep(kept.count - 1);
+	sync_folder(kept.path);
 }
 
 /* --- Answers ------------------------------------------------------------ */
@@ -277,8 +95,8 @@ static void print_answer(uint32_t answer)
 static void answer_entry(uint32_t answer)
 {
 	if (answer == RELEASE_LOG_OK) {
-		keep(count);
-		count++;
+		keep(kept.count);
+		kept.count++;
 	}
 	print_answer(answer);
 }
@@ -301,16 +119,36 @@ static int decimal(const char *word, uint32_t *number)
 	return 1;
 }
 
-static int hexadecimal(const char *word, size_t digits, uint32_t *number)
+static int is_hexadecimal(const char *word, size_t digits)
 {
-	uint32_t value = 0;
-	if (strlen(word) != digits || strspn(word, "0123456789abcdef") != digits) {
-		printf("error: '%s' is not %zu lower-case hexadecimal digits\n", word, digits);
+	return strlen(word) == digits && strspn(word, "0123456789abcdef") == digits;
+}
+
+static uint64_t hexadecimal(const char *word)
+{
+	uint64_t value = 0;
+	for (; *word != '\0'; word++)
+		value = 16 * value + (uint64_t)(*word <= '9' ? *word - '0' : *word - 'a' + 10);
+	return value;
+}
+
+static int list(const char *word, uint32_t *number)
+{
+	if (!is_hexadecimal(word, 2)) {
+		printf("error: '%s' is not 2 lower-case hexadecimal digits\n", word);
 		return 0;
 	}
-	for (const char *at = word; *at != '\0'; at++)
-		value = 16 * value + (uint32_t)(*at <= '9' ? *at - '0' : *at - 'a' + 10);
-	*number = value;
+	*number = (uint32_t)hexadecimal(word);
+	return 1;
+}
+
+static int update(const char *word, uint64_t *number)
+{
+	if (!is_hexadecimal(word, 16) && !is_hexadecimal(word, 8)) {
+		printf("error: '%s' is not 16 or 8 lower-case hexadecimal digits\n", word);
+		return 0;
+	}
+	*number = hexadecimal(word);
 	return 1;
 }
 
@@ -332,17 +170,18 @@ static void take(char *const *words)
 	uint32_t process, store;
 	if (!decimal(words[1], &process) || !decimal(words[2], &store))
 		return;
-	answer_entry(release_log_add_take(records, sizeof records, count, process, store));
+	answer_entry(
+	    release_log_add_take(kept.records, sizeof kept.records, kept.count, process, store));
 }
 
 static void vote(char *const *words)
 {
 	struct release_log_vote v;
 	if (!decimal(words[1], &v.process) || !decimal(words[2], &v.by) || !decimal(words[3], &v.store) ||
-	    !decimal(words[4], &v.tx) || !hexadecimal(words[5], 2, &v.list) ||
-	    !commit_or_abort(words[6], &v.say) || !hexadecimal(words[7], 8, &v.update))
+	    !decimal(words[4], &v.tx) || !list(words[5], &v.list) ||
+	    !commit_or_abort(words[6], &v.say) || !update(words[7], &v.update))
 		return;
-	answer_entry(release_log_add_vote(records, sizeof records, count, &v));
+	answer_entry(release_log_add_vote(kept.records, sizeof kept.records, kept.count, &v));
 }
 
 static void outcome(char *const *words)
@@ -356,7 +195,7 @@ static void outcome(char *const *words)
 	uint8_t value;
 	if (!decimal(words[1], &tx))
 		return;
-	answer = release_log_outcome(records, sizeof records, count, tx, &value, 1);
+	answer = release_log_outcome(kept.records, sizeof kept.records, kept.count, tx, &value, 1);
 	if (answer == RELEASE_LOG_OK)
 		printf("tx=%" PRIu32 " outcome=%s\n", tx, names[value]);
 	else
@@ -374,11 +213,21 @@ static void involvement(char *const *words)
 	uint8_t value;
 	if (!decimal(words[1], &tx) || !decimal(words[2], &store))
 		return;
-	answer = release_log_involvement(records, sizeof records, count, tx, store, &value, 1);
+	answer = release_log_involvement(kept.records, sizeof kept.records, kept.count, tx, store,
+	    &value, 1);
 	if (answer == RELEASE_LOG_OK)
 		printf("tx=%" PRIu32 " store=%" PRIu32 " involved=%s\n", tx, store, names[value]);
 	else
 		print_answer(answer);
+}
+
+/* The update of a row: all its bytes from the third on. */
+static uint64_t row_update(const uint8_t *row)
+{
+	uint64_t number = 0;
+	for (size_t i = RELEASE_LOG_ROW_SIZE; i > 2; i--)
+		number = number << 8 | row[i - 1];
+	return number;
 }
 
 static void replay(char *const *words)
@@ -387,15 +236,16 @@ static void replay(char *const *words)
 	uint32_t store, answer;
 	if (!decimal(words[1], &store))
 		return;
-	answer = release_log_replay(records, sizeof records, count, store, out, sizeof out);
+	answer = release_log_replay(kept.records, sizeof kept.records, kept.count, store, out,
+	    sizeof out);
 	if (answer != RELEASE_LOG_OK) {
 		print_answer(answer);
 		return;
 	}
 	for (size_t i = 0; i < out[0]; i++) {
 		const uint8_t *row = out + 1 + i * RELEASE_LOG_ROW_SIZE;
-		printf("store=%" PRIu32 " group=%u tx=%u upd=%02x%02x%02x%02x\n", store, row[0], row[1],
-		    row[5], row[4], row[3], row[2]);
+		printf("store=%" PRIu32 " group=%u tx=%u upd=%016" PRIx64 "\n", store, row[0], row[1],
+		    row_update(row));
 	}
 	printf("rows=%u\n", out[0]);
 }
@@ -487,8 +337,8 @@ int main(int argc, char **argv)
 		fprintf(stderr, "usage: %s FILE\n", argv[0]);
 		return 2;
 	}
-	path = argv[1];
-	open_file();
+	/* One host at a time, since each has the records in memory. */
+	open_slots(&kept, argv[1], O_RDWR | O_CREAT, LOCK_EX);
 	load();
 	while (read_line(line, &length)) {
 		obey(line, length);

@@ -6,8 +6,8 @@ mod longest;
 mod plain_log;
 mod random;
 
-use plain_log::{log_behind, Numbers, RECORD, ROW};
-use random::{sensible, History, Random};
+use plain_log::{log_behind, Numbers, RECORD, ROW, TRANSACTIONS};
+use random::{sensible, update, History, Random};
 
 const CALLS: usize = 200_000;
 const HISTORIES: usize = 300;
@@ -45,7 +45,7 @@ fn damage(r: &mut Random, bytes: &mut [u8], h: &History) {
     }
 }
 
-/// A count: mostly the right one, at times one more or less, or one whose product with 12 wraps.
+/// A count: mostly the right one, at times one more or less, or one whose bytes wrap a usize.
 fn count_for(r: &mut Random, right: usize, len: usize) -> usize {
     const WRAPS: usize = usize::MAX / RECORD + 1;
     match r.below(40) {
@@ -64,10 +64,14 @@ fn numbers_for(r: &mut Random, holders: &[u8; 8]) -> Numbers {
     let mut n = sensible(r, holders).numbers();
     if r.once_in(2) {
         let field = r.below(8);
-        n[field] = match r.below(4) {
+        let Some(number) = n.first.get_mut(field) else {
+            n.update = update(r);
+            return n;
+        };
+        *number = match r.below(4) {
             0 => r.pick(&[0, 1, 2, 7, 8, 15, 16, 31, 32, 255]),
             1 => r.pick(&[256, 257, 512, 65536, 1 << 31, u32::MAX]),
-            2 => n[field].wrapping_add(256),
+            2 => number.wrapping_add(256),
             _ => r.below(40) as u32,
         };
     }
@@ -91,6 +95,10 @@ struct Seen {
     involvements: [usize; 3],
     /// Replays without and with rows, and the most rows of one.
     rows: [usize; 3],
+    /// Rows by the halves of their update that are not 0: none, the low, the high, both.
+    halves: [usize; 4],
+    /// New entries with an update of a high half alone, by their answer.
+    high_alone: [usize; ANSWERS],
 }
 
 const CALL_NAMES: [&str; 4] = ["add", "outcome", "involvement", "replay"];
@@ -105,6 +113,16 @@ impl Seen {
             &mut self.own
         };
         row[call][answer as usize] += 1;
+    }
+
+    fn note_replay(&mut self, out: &[u8]) {
+        let rows = out[0] as usize;
+        self.rows[(rows > 0) as usize] += 1;
+        self.rows[2] = self.rows[2].max(rows);
+        for row in out[1..].chunks_exact(ROW).take(rows) {
+            let [low, high] = [&row[2..6], &row[6..]].map(|half| half != [0; 4]);
+            self.halves[low as usize + 2 * high as usize] += 1;
+        }
     }
 
     fn print_and_judge(&self) -> bool {
@@ -135,7 +153,13 @@ impl Seen {
         println!("involvements no {no}, yes {yes}, unknown {unknown}");
         let [none, some, most] = self.rows;
         println!("replays of no row {none}, of rows {some}, most rows {most}");
-        whole && self.outcomes.iter().chain(&self.involvements).all(|&n| n > 0) && most > 8
+        let [zero, low, high, both] = self.halves;
+        println!("updates of rows: 0 {zero}, low half {low}, high half {high}, both {both}");
+        let [accepted, take, abort] = [0, 1, 7].map(|answer| self.high_alone[answer]);
+        println!("new updates of a high half alone: accepted {accepted}, 1: {take}, 7: {abort}");
+        let seen = [&self.outcomes[..], &self.involvements, &self.halves].concat();
+        let must = [accepted, take, abort];
+        whole && seen.iter().chain(&must).all(|&n| n > 0) && most > 8
     }
 }
 
@@ -171,17 +195,23 @@ fn one(r: &mut Random, histories: &[History], seen: &mut Seen) {
             damage(r, &mut records, h);
         }
     }
-    let tail = r.pick(&[0, 1, 11, 12, 12, 12, 13, 24, 40]);
+    let tail = r.pick(&[0, 1, RECORD - 1, RECORD, RECORD, RECORD, RECORD + 1, 2 * RECORD, 50]);
     records.extend(r.bytes(tail));
     let count = count_for(r, k, records.len());
-    let out_len = r.pick(&[0, 1, 1, 2, 7, 12, 13, 19, 193, 200]);
+    let rows = r.pick(&[0, 0, 1, 2, 3, TRANSACTIONS]);
+    let out_len = (1 + rows * ROW + r.below(3)).saturating_sub(1);
     let c = Call { records, count, out: r.bytes(out_len) };
     let (tx, store) = (number_for(r, 32), number_for(r, 8));
     let call = r.pick(&[0, 0, 1, 2, 3]);
     let (answer, out) = match call {
         0 => {
             let n = numbers_for(r, &h.holders(k));
-            both(&c, |b, _| library::add(b, count, &n), |b, _| plain_log::add(b, count, &n))
+            let (answer, out) =
+                both(&c, |b, _| library::add(b, count, &n), |b, _| plain_log::add(b, count, &n));
+            if n.update != 0 && n.update as u32 == 0 && log_behind(&c.records, count).is_ok() {
+                seen.high_alone[answer as usize] += 1;
+            }
+            (answer, out)
         }
         1 => both(
             &c,
@@ -204,10 +234,7 @@ fn one(r: &mut Random, histories: &[History], seen: &mut Seen) {
         match call {
             1 => seen.outcomes[out[0] as usize] += 1,
             2 => seen.involvements[out[0] as usize] += 1,
-            3 => {
-                seen.rows[(out[0] > 0) as usize] += 1;
-                seen.rows[2] = seen.rows[2].max(out[0] as usize);
-            }
+            3 => seen.note_replay(&out),
             _ => {}
         }
     }

@@ -29,12 +29,15 @@ SAME(RELEASE_LOG_INVOLVED_UNKNOWN, 2);
 SAME(RELEASE_LOG_PROCESSES, 15);
 SAME(RELEASE_LOG_STORES, 8);
 SAME(RELEASE_LOG_TRANSACTIONS, 32);
-SAME(RELEASE_LOG_RECORD_SIZE, 12);
-SAME(RELEASE_LOG_ROW_SIZE, 6);
+SAME(RELEASE_LOG_RECORD_SIZE, 16);
+SAME(RELEASE_LOG_ROW_SIZE, 10);
 SAME(RELEASE_LOG_RECORDS_MOST, 376);
-SAME(RELEASE_LOG_RECORDS_ROOM, 4512);
-SAME(RELEASE_LOG_REPLAY_ROOM, 193);
-SAME(RELEASE_LOG_VERSION_MAJOR, 1);
+SAME(RELEASE_LOG_RECORDS_ROOM, 6016);
+SAME(RELEASE_LOG_REPLAY_ROOM, 321);
+SAME(RELEASE_LOG_VERSION_MAJOR, 2);
+
+/* All eight bytes differ. */
+#define UPDATE UINT64_C(0x0102030405060708)
 
 int main(void)
 {
@@ -48,14 +51,15 @@ int main(void)
 	vote.tx = 9;
 	vote.list = 0x20;
 	vote.say = RELEASE_LOG_SAY_COMMIT;
-	vote.update = 0x01020304;
+	vote.update = UPDATE;
 
 	same = release_log_add_take(ours, sizeof ours, 0, 3, 5) == RELEASE_LOG_OK;
 	same &= release_log_add_vote(ours, sizeof ours, 1, &vote) == RELEASE_LOG_OK;
 	same &= release_log_add(plain, sizeof plain, 0, 0, 3, 0, 5, 0, 0, 0, 0) == RELEASE_LOG_OK;
-	same &= release_log_add(plain, sizeof plain, 1, 1, 3, 5, 5, 9, 0x20, 1, 0x01020304) ==
+	same &= release_log_add(plain, sizeof plain, 1, 1, 3, 5, 5, 9, 0x20, 1, UPDATE) ==
 	    RELEASE_LOG_OK;
 	same &= memcmp(ours, plain, sizeof ours) == 0;
+	same &= ours[RELEASE_LOG_RECORD_SIZE + 8] == 8 && ours[sizeof ours - 1] == 1;
 	same &= release_log_outcome(ours, sizeof ours, 2, 9, &value, 1) == RELEASE_LOG_OK;
 	same &= value == RELEASE_LOG_OUTCOME_COMMIT;
 	same &= release_log_add_take(ours, sizeof ours, 2, 3, 6) == RELEASE_LOG_HOLDS_OR_HELD;

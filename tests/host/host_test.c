@@ -10,6 +10,17 @@
 /* What the header says of a call, and here also of all that a thread has on its stack. */
 #define STACK_SIZE (48 * 1024)
 
+/* The bytes of an update, and where it begins in a record and in a row. */
+#define UPDATE_SIZE 8
+#define RECORD_UPDATE 8
+#define ROW_UPDATE 2
+
+/* An update of which only the top byte is set. */
+#define TOP_BYTE ((uint64_t)1 << 56)
+
+/* The size of a record in version 1, with an update of four bytes. */
+#define OLD_RECORD_SIZE 12
+
 static int failures;
 
 static void expect(const char *what, uint32_t got, uint32_t wanted)
@@ -39,15 +50,45 @@ static uint8_t *lent(const void *bytes, size_t n)
 
 /* Process 1 holds store 0 and 2 holds store 1; they commit tx 4 with list 03. */
 static const uint8_t story[4][RELEASE_LOG_RECORD_SIZE] = {
-	{0, 1, 0, 0, 0, 0, 0, 0, 0, 0, 0, 0},
-	{0, 2, 0, 1, 0, 0, 0, 0, 0, 0, 0, 0},
-	{1, 1, 0, 0, 4, 3, 1, 0, 0x0d, 0x0c, 0x0b, 0x0a},
-	{1, 2, 1, 1, 4, 3, 1, 0, 0x0e, 0, 0, 0},
+	{0, 1},
+	{0, 2, 0, 1},
+	{1, 1, 0, 0, 4, 3, 1, 0, 0x0d, 0x0c, 0x0b, 0x0a, 0x04, 0x03, 0x02, 0x01},
+	{1, 2, 1, 1, 4, 3, 1, 0, 0x0e},
 };
 
-static uint32_t add(uint8_t *records, size_t len, size_t count, const uint32_t n[8])
+/* The numbers of an entry: kind, process, by, store, tx, list and say, and the update. */
+struct numbers {
+	uint32_t first[7];
+	uint64_t update;
+};
+
+static const struct numbers third_take = {{0, 3, 0, 2, 0, 0, 0}, 0};
+
+static uint32_t add(uint8_t *records, size_t len, size_t count, const struct numbers *n)
 {
-	return release_log_add(records, len, count, n[0], n[1], n[2], n[3], n[4], n[5], n[6], n[7]);
+	const uint32_t *f = n->first;
+	return release_log_add(records, len, count, f[0], f[1], f[2], f[3], f[4], f[5], f[6], n->update);
+}
+
+/* Every call on these records gives the refusal, whatever its own numbers and place, and writes
+   nothing. */
+static void expect_refused(const char *what, const void *bytes, size_t len, size_t count,
+    uint32_t answer)
+{
+	static const struct numbers unreadable = {{9, 0, 0, 0, 0, 0, 0}, 0};
+	uint8_t *records = lent(bytes, len), *out = lent("x", 1);
+	expect(what, add(records, len, count, &third_take), answer);
+	expect(what, add(records, len, count, &unreadable), answer);
+	expect(what, release_log_outcome(records, len, count, 4, out, 1), answer);
+	expect(what, release_log_outcome(records, len, count, 99, out, 0), answer);
+	expect(what, release_log_involvement(records, len, count, 4, 0, out, 1), answer);
+	expect(what, release_log_involvement(records, len, count, 99, 99, out, 0), answer);
+	expect(what, release_log_replay(records, len, count, 2, out, 1), answer);
+	expect(what, release_log_replay(records, len, count, 99, out, 0), answer);
+	expect_bytes(what, records, bytes, len);
+	expect(what, out[0], 'x');
+	free(records);
+	free(out);
 }
 
 /* The queries on a buffer as long as the story. */
@@ -71,17 +112,17 @@ static uint32_t replay(const uint8_t *records, size_t count, uint32_t store, uin
 /* The story, entry by entry, into a buffer that grows by one record of bytes never written. */
 static void test_add(void)
 {
-	static const uint32_t calls[4][8] = {
-		{0, 1, 0, 0, 0, 0, 0, 0},
-		{0, 2, 0, 1, 0, 0, 0, 0},
-		{1, 1, 0, 0, 4, 3, 1, 0x0a0b0c0d},
-		{1, 2, 1, 1, 4, 3, 1, 0x0e},
+	static const struct numbers calls[4] = {
+		{{0, 1, 0, 0, 0, 0, 0}, 0},
+		{{0, 2, 0, 1, 0, 0, 0}, 0},
+		{{1, 1, 0, 0, 4, 3, 1}, 0x010203040a0b0c0d},
+		{{1, 2, 1, 1, 4, 3, 1}, 0x0e},
 	};
 	for (size_t n = 0; n < 4; n++) {
 		size_t len = (n + 1) * RELEASE_LOG_RECORD_SIZE;
 		uint8_t *records = malloc(len);
 		memcpy(records, story, n * RELEASE_LOG_RECORD_SIZE);
-		expect("add", add(records, len, n, calls[n]), RELEASE_LOG_OK);
+		expect("add", add(records, len, n, &calls[n]), RELEASE_LOG_OK);
 		expect_bytes("add", records, story[0], len);
 		free(records);
 	}
@@ -91,24 +132,27 @@ static void test_add(void)
 static void test_add_refused(void)
 {
 	static const struct {
-		uint32_t answer, numbers[8];
+		uint32_t answer;
+		struct numbers numbers;
 	} cases[] = {
-		{1, {2, 3, 0, 2, 0, 0, 0, 0}},      {1, {1, 1, 0, 0, 5, 1, 2, 0}},
-		{1, {0, 3, 1, 2, 0, 0, 0, 0}},      {1, {0, 3, 0, 2, 0, 0, 0, 1u << 31}},
-		{1, {0, 99, 0, 2, 256, 0, 0, 0}},   {2, {0, 0, 0, 2, 0, 0, 0, 0}},
-		{2, {0, 16, 0, 2, 0, 0, 0, 0}},     {2, {0, 259, 0, 2, 0, 0, 0, 0}},
-		{2, {0, 3, 0, 8, 0, 0, 0, 0}},      {2, {1, 1, 256, 0, 5, 1, 1, 0}},
-		{2, {1, 1, 0, 0, 32, 1, 1, 0}},     {2, {1, 1, 0, 0, 5, 257, 1, 0}},
-		{7, {1, 1, 0, 0, 5, 2, 1, 0}},      {7, {1, 1, 0, 1, 5, 3, 1, 0}},
-		{7, {1, 1, 0, 0, 5, 1, 0, 1}},      {8, {1, 2, 0, 0, 5, 1, 1, 0}},
-		{9, {1, 2, 1, 1, 4, 7, 1, 0}},      {10, {1, 2, 1, 1, 4, 3, 0, 0}},
-		{11, {0, 1, 0, 2, 0, 0, 0, 0}},     {11, {0, 1, 0, 0, 0, 0, 0, 0}},
+		{1, {{2, 3, 0, 2, 0, 0, 0}, 0}},        {1, {{1, 1, 0, 0, 5, 1, 2}, 0}},
+		{1, {{0, 3, 1, 2, 0, 0, 0}, 0}},        {1, {{0, 99, 0, 2, 256, 0, 0}, 0}},
+		{1, {{0, 3, 0, 2, 0, 0, 0}, 1}},        {1, {{0, 3, 0, 2, 0, 0, 0}, TOP_BYTE}},
+		{2, {{0, 0, 0, 2, 0, 0, 0}, 0}},        {2, {{0, 16, 0, 2, 0, 0, 0}, 0}},
+		{2, {{0, 259, 0, 2, 0, 0, 0}, 0}},      {2, {{0, 3, 0, 8, 0, 0, 0}, 0}},
+		{2, {{1, 1, 256, 0, 5, 1, 1}, 0}},      {2, {{1, 1, 0, 0, 32, 1, 1}, 0}},
+		{2, {{1, 1, 0, 0, 5, 257, 1}, 0}},      {7, {{1, 1, 0, 0, 5, 2, 1}, 0}},
+		{7, {{1, 1, 0, 1, 5, 3, 1}, 0}},        {8, {{1, 2, 0, 0, 5, 1, 1}, 0}},
+		{7, {{1, 1, 0, 0, 5, 1, 0}, 1}},        {7, {{1, 1, 0, 0, 5, 1, 0}, TOP_BYTE}},
+		{9, {{1, 2, 1, 1, 4, 7, 1}, 0}},        {10, {{1, 2, 1, 1, 4, 3, 0}, 0}},
+		{11, {{0, 1, 0, 2, 0, 0, 0}, 0}},       {11, {{0, 1, 0, 0, 0, 0, 0}, 0}},
 	};
 	for (size_t i = 0; i < sizeof cases / sizeof *cases; i++) {
 		for (size_t more = 0; more <= RELEASE_LOG_RECORD_SIZE; more += RELEASE_LOG_RECORD_SIZE) {
 			uint8_t *records = malloc(sizeof story + more);
 			memcpy(records, story, sizeof story);
-			expect("add refused", add(records, sizeof story + more, 4, cases[i].numbers), cases[i].answer);
+			expect("add refused", add(records, sizeof story + more, 4, &cases[i].numbers),
+			    cases[i].answer);
 			expect_bytes("add refused", records, story[0], sizeof story);
 			free(records);
 		}
@@ -118,76 +162,117 @@ static void test_add_refused(void)
 /* An accepted entry without place, one byte short of it, and in no buffer at all. */
 static void test_no_place(void)
 {
-	static const uint32_t take[8] = {0, 3, 0, 2, 0, 0, 0, 0};
 	uint8_t *records = lent(story, sizeof story);
-	expect("full", add(records, sizeof story, 4, take), RELEASE_LOG_NO_PLACE);
+	expect("full", add(records, sizeof story, 4, &third_take), RELEASE_LOG_NO_PLACE);
 	expect_bytes("full", records, story[0], sizeof story);
 	free(records);
 	size_t short_of_it = sizeof story + RELEASE_LOG_RECORD_SIZE - 1;
 	records = malloc(short_of_it);
 	memcpy(records, story, sizeof story);
-	expect("a byte short", add(records, short_of_it, 4, take), RELEASE_LOG_NO_PLACE);
+	expect("a byte short", add(records, short_of_it, 4, &third_take), RELEASE_LOG_NO_PLACE);
 	free(records);
-	expect("no buffer", add(NULL, 0, 0, take), RELEASE_LOG_NO_PLACE);
+	expect("no buffer", add(NULL, 0, 0, &third_take), RELEASE_LOG_NO_PLACE);
+}
+
+/* An update has these bytes in its record, and in its row of a replay. */
+static void expect_update(uint64_t update, const uint8_t bytes[UPDATE_SIZE])
+{
+	const struct numbers vote = {{1, 1, 0, 0, 5, 1, 1}, update};
+	uint8_t record[RELEASE_LOG_RECORD_SIZE] = {1, 1, 0, 0, 5, 1, 1, 0};
+	uint8_t value[1 + RELEASE_LOG_ROW_SIZE] = {1, 1, 5};
+	const size_t len = 2 * sizeof record;
+	uint8_t *records = malloc(len), *out = malloc(sizeof value);
+	memcpy(record + RECORD_UPDATE, bytes, UPDATE_SIZE);
+	memcpy(value + 1 + ROW_UPDATE, bytes, UPDATE_SIZE);
+	memcpy(records, story[0], sizeof record);
+	expect("update", add(records, len, 1, &vote), RELEASE_LOG_OK);
+	expect_bytes("update of a record", records + sizeof record, record, sizeof record);
+	expect("update", release_log_replay(records, len, 2, 0, out, sizeof value), RELEASE_LOG_OK);
+	expect_bytes("update of a row", out, value, sizeof value);
+	free(records);
+	free(out);
+}
+
+/* Each of the eight bytes alone, and all of them. */
+static void test_update(void)
+{
+	static const uint8_t all[UPDATE_SIZE] = {1, 2, 3, 4, 5, 6, 7, 8};
+	for (size_t i = 0; i < UPDATE_SIZE; i++) {
+		uint8_t bytes[UPDATE_SIZE] = {0};
+		bytes[i] = 0xa5;
+		expect_update((uint64_t)0xa5 << (8 * i), bytes);
+	}
+	expect_update(0x0807060504030201, all);
 }
 
 /* Counts beyond the buffer, among them those whose bytes wrap a size_t. */
 static void test_count(void)
 {
-	static const uint32_t take[8] = {0, 3, 0, 2, 0, 0, 0, 0};
 	size_t wraps = SIZE_MAX / RELEASE_LOG_RECORD_SIZE + 1;
 	size_t counts[] = {5, SIZE_MAX, SIZE_MAX - 1, SIZE_MAX / 2, wraps - 1, wraps, wraps + 1,
 	    wraps + 4, 2 * wraps};
-	uint8_t *records = lent(story, sizeof story), *out = lent("x", 1);
-	for (size_t i = 0; i < sizeof counts / sizeof *counts; i++) {
-		expect("count", add(records, sizeof story, counts[i], take), RELEASE_LOG_OUTSIDE);
-		expect("count", outcome(records, counts[i], 4, out, 1), RELEASE_LOG_OUTSIDE);
-		expect("count", involvement(records, counts[i], 4, 0, out, 1), RELEASE_LOG_OUTSIDE);
-		expect("count", replay(records, counts[i], 0, out, 1), RELEASE_LOG_OUTSIDE);
-	}
-	expect("count of no buffer", release_log_outcome(NULL, 0, 1, 4, out, 1), RELEASE_LOG_OUTSIDE);
-	expect_bytes("count", records, story[0], sizeof story);
-	expect("count", out[0], 'x');
-	free(records);
-	free(out);
+	uint8_t out;
+	for (size_t i = 0; i < sizeof counts / sizeof *counts; i++)
+		expect_refused("count", story, sizeof story, counts[i], RELEASE_LOG_OUTSIDE);
+	expect_refused("a byte short of a record", story, RELEASE_LOG_RECORD_SIZE - 1, 1,
+	    RELEASE_LOG_OUTSIDE);
+	expect("count of no buffer", release_log_outcome(NULL, 0, 1, 4, &out, 1), RELEASE_LOG_OUTSIDE);
 }
 
-/* One record spoiled: its refusal, whatever the call's own numbers and place. */
+/* One byte of a record spoiled. */
 static void test_records(void)
 {
 	static const struct {
 		uint32_t answer;
-		size_t at;
+		size_t record, at;
 		uint8_t byte;
 	} faults[] = {
-		{1, 0, 2},  {1, 2, 1},  {1, 7, 1},   {1, 11, 1}, {1, 24 + 6, 2}, {1, 36 + 7, 9}, {2, 1, 0},
-		{2, 13, 16}, {2, 3, 8}, {2, 24 + 4, 32}, {2, 24 + 2, 8}, {7, 24 + 5, 2}, {8, 24 + 1, 2},
-		{9, 36 + 5, 7}, {11, 13, 1},
+		{1, 0, 0, 2},  {1, 0, 2, 1},  {1, 0, 7, 1},  {1, 0, 8, 1},  {1, 0, 15, 1}, {1, 2, 6, 2},
+		{1, 3, 7, 9},  {2, 0, 1, 0},  {2, 1, 1, 16}, {2, 0, 3, 8},  {2, 2, 4, 32}, {2, 2, 2, 8},
+		{7, 2, 5, 2},  {7, 2, 6, 0},  {8, 2, 1, 2},  {9, 3, 5, 7},  {11, 1, 1, 1},
 	};
-	static const uint32_t bad[8] = {9, 0, 0, 0, 0, 0, 0, 0};
+	uint8_t records[4][RELEASE_LOG_RECORD_SIZE];
 	for (size_t i = 0; i < sizeof faults / sizeof *faults; i++) {
-		uint8_t *records = lent(story, sizeof story), *before, out = 'x';
-		records[faults[i].at] = faults[i].byte;
-		before = lent(records, sizeof story);
-		expect("records", add(records, sizeof story, 4, bad), faults[i].answer);
-		expect("records", outcome(records, 4, 99, &out, 0), faults[i].answer);
-		expect("records", involvement(records, 4, 99, 99, &out, 0), faults[i].answer);
-		expect("records", replay(records, 4, 99, &out, 0), faults[i].answer);
-		expect_bytes("records", records, before, sizeof story);
-		expect("records", out, 'x');
-		free(records);
-		free(before);
+		memcpy(records, story, sizeof story);
+		records[faults[i].record][faults[i].at] = faults[i].byte;
+		expect_refused("records", records, sizeof records, 4, faults[i].answer);
 	}
-	/* The same vote twice is 10, and what stands after the counted records is not looked at. */
-	uint8_t *records = malloc(sizeof story);
+	/* An abort of whose update only the top byte is set. */
+	memcpy(records, story, sizeof story);
+	memset(records[2] + RECORD_UPDATE, 0, UPDATE_SIZE);
+	records[2][6] = RELEASE_LOG_SAY_ABORT;
+	records[2][15] = 1;
+	expect_refused("an abort with an update", records, sizeof records, 3, RELEASE_LOG_ILL_FORMED);
+	memcpy(records, story, sizeof story);
+	memcpy(records[3], story[2], sizeof story[2]);
+	expect_refused("twice", records, sizeof records, 4, RELEASE_LOG_KEPT_ALREADY);
+}
+
+/* What stands after the counted records is not looked at. */
+static void test_records_counted(void)
+{
+	uint8_t *records = malloc(sizeof story), *out = malloc(1);
 	memcpy(records, story, 3 * RELEASE_LOG_RECORD_SIZE);
-	uint8_t *out = malloc(1);
 	expect("three", outcome(records, 3, 4, out, 1), RELEASE_LOG_OK);
 	expect("three", out[0], RELEASE_LOG_OUTCOME_OPEN);
-	memcpy(records + 36, story[2], RELEASE_LOG_RECORD_SIZE);
-	expect("twice", outcome(records, 4, 4, out, 1), RELEASE_LOG_KEPT_ALREADY);
 	free(records);
 	free(out);
+}
+
+/* Records of version 1, lent with their count: the buffer is too short for so many, or the first
+   one, a take, has an update, which is the start of the second one. */
+static void test_old_records(void)
+{
+	uint8_t old[RELEASE_LOG_RECORDS_ROOM] = {0};
+	const size_t len = 4 * OLD_RECORD_SIZE;
+	for (size_t n = 0; n < 4; n++)
+		memcpy(old + n * OLD_RECORD_SIZE, story[n], OLD_RECORD_SIZE);
+	for (size_t count = 1; count <= 4; count++) {
+		uint32_t answer = count <= len / RELEASE_LOG_RECORD_SIZE ? 1 : 2;
+		expect_refused("old records", old, len, count, answer);
+		expect_refused("old records in a long buffer", old, sizeof old, count, 1);
+	}
+	expect_refused("one old record", old, OLD_RECORD_SIZE, 1, RELEASE_LOG_OUTSIDE);
 }
 
 static void test_outcome(void)
@@ -228,15 +313,17 @@ static void test_involvement(void)
 
 static void test_replay(void)
 {
-	static const uint8_t row[7] = {1, 1, 4, 0x0d, 0x0c, 0x0b, 0x0a};
-	uint8_t *records = lent(story, sizeof story), *out = lent("........", 8), *exact = malloc(7);
-	expect("replay", replay(records, 4, 0, exact, 7), RELEASE_LOG_OK);
-	expect_bytes("replay", exact, row, 7);
-	expect("replay a byte short", replay(records, 4, 0, out, 6), RELEASE_LOG_NO_PLACE);
-	expect_bytes("replay a byte short", out, (const uint8_t *)"........", 8);
-	expect("replay", replay(records, 4, 0, out, 8), RELEASE_LOG_OK);
-	expect_bytes("replay", out, row, 7);
-	expect("replay", out[7], '.');
+	static const uint8_t value[11] = {1, 1, 4, 0x0d, 0x0c, 0x0b, 0x0a, 0x04, 0x03, 0x02, 0x01};
+	static const char dots[12] = "............";
+	const size_t size = sizeof value;
+	uint8_t *records = lent(story, sizeof story), *out = lent(dots, size + 1), *exact = malloc(size);
+	expect("replay", replay(records, 4, 0, exact, size), RELEASE_LOG_OK);
+	expect_bytes("replay", exact, value, size);
+	expect("replay a byte short", replay(records, 4, 0, out, size - 1), RELEASE_LOG_NO_PLACE);
+	expect_bytes("replay a byte short", out, (const uint8_t *)dots, size + 1);
+	expect("replay", replay(records, 4, 0, out, size + 1), RELEASE_LOG_OK);
+	expect_bytes("replay", out, value, size);
+	expect("replay", out[size], '.');
 	expect("replay of no row", replay(records, 4, 2, out, 1), RELEASE_LOG_OK);
 	expect("replay of no row", out[0], 0);
 	expect("replay of store 8", replay(records, 4, 8, out, 0), RELEASE_LOG_OUTSIDE);
@@ -256,7 +343,8 @@ static void *many_calls(void *nothing)
 		expect("many takes", release_log_add_take(records, room, count, s + 1, s), RELEASE_LOG_OK);
 	for (uint32_t i = 0; i < RELEASE_LOG_STORES * RELEASE_LOG_TRANSACTIONS; i++, count++) {
 		uint32_t s = i % RELEASE_LOG_STORES, tx = i / RELEASE_LOG_STORES;
-		struct release_log_vote vote = {s + 1, s, s, tx, 0xff, RELEASE_LOG_SAY_COMMIT, i};
+		struct release_log_vote vote = {
+			s + 1, s, s, tx, 0xff, RELEASE_LOG_SAY_COMMIT, i * UINT64_C(0x0101010101010101)};
 		expect("many votes", release_log_add_vote(records, room, count, &vote), RELEASE_LOG_OK);
 	}
 	expect("many", release_log_outcome(records, room, count, 31, out, 1), RELEASE_LOG_OK);
@@ -286,8 +374,11 @@ int main(void)
 	test_add();
 	test_add_refused();
 	test_no_place();
+	test_update();
 	test_count();
 	test_records();
+	test_records_counted();
+	test_old_records();
 	test_outcome();
 	test_involvement();
 	test_replay();

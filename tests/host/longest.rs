@@ -24,7 +24,7 @@ pub fn longest() -> Vec<Entry> {
                 tx,
                 list: 0xff,
                 commit: true,
-                update: votes * 0x0101_0101,
+                update: (votes as u64).wrapping_mul(0x9e37_79b9_7f4a_7c15),
             }));
             votes += 1;
         }

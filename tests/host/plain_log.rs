@@ -1,11 +1,15 @@
-//! The plain log of document 01 and the hosts' calls on it, written from the document by itself.
-//! The tests set the library and the example host beside it, and the benchmarks measure with it.
+//! The plain log of document 01, with the updates of document 02, request 3, and the hosts' calls
+//! on it, written from the documents by themselves. The tests set the library and the example host
+//! beside it, and the benchmarks measure with it.
 
 // A program that uses this module need not use all of it.
 #![allow(dead_code)]
 
-pub const RECORD: usize = 12;
-pub const ROW: usize = 6;
+/// Bytes of a record, and of a replay's row.
+pub const RECORD: usize = 16;
+pub const ROW: usize = 10;
+/// Where a record's update begins.
+const UPDATE: usize = 8;
 
 pub const STORES: usize = 8;
 pub const TRANSACTIONS: usize = 32;
@@ -50,7 +54,7 @@ pub struct Vote {
     pub tx: u8,
     pub list: u8,
     pub commit: bool,
-    pub update: u32,
+    pub update: u64,
 }
 
 impl Vote {
@@ -69,15 +73,20 @@ pub enum Entry {
     Vote(Vote),
 }
 
-/// An entry's numbers in the order of a record: kind, process, by, store, tx, list, say, update.
-pub type Numbers = [u32; 8];
+/// An entry's numbers as a call has them.
+#[derive(Clone, Copy, PartialEq, Eq, Debug)]
+pub struct Numbers {
+    /// Kind, process, by, store, tx, list and say, as at the start of a record.
+    pub first: [u32; 7],
+    pub update: u64,
+}
 
 impl Entry {
     /// The entry that the numbers stand for, or refusal 1 or 2.
     pub fn read(n: &Numbers) -> Result<Entry, u32> {
-        let [kind, process, by, store, tx, list, say, update] = *n;
+        let [kind, process, by, store, tx, list, say] = n.first;
         match kind {
-            0 if by | tx | list | say | update == 0 => {}
+            0 if by | tx | list | say == 0 && n.update == 0 => {}
             1 if say <= 1 => {}
             _ => return Err(UNREADABLE),
         }
@@ -100,45 +109,39 @@ impl Entry {
             tx: tx as u8,
             list: list as u8,
             commit: say == 1,
-            update,
+            update: n.update,
         }))
     }
 
     pub fn numbers(&self) -> Numbers {
-        match *self {
-            Entry::Take { process, store } => [0, process as u32, 0, store as u32, 0, 0, 0, 0],
-            Entry::Vote(v) => [
-                1,
-                v.process as u32,
-                v.by as u32,
-                v.store as u32,
-                v.tx as u32,
-                v.list as u32,
-                v.commit as u32,
-                v.update,
-            ],
-        }
+        let (first, update) = match *self {
+            Entry::Take { process, store } => ([0, process, 0, store, 0, 0, 0], 0),
+            Entry::Vote(v) => {
+                ([1, v.process, v.by, v.store, v.tx, v.list, v.commit as u8], v.update)
+            }
+        };
+        Numbers { first: first.map(u32::from), update }
     }
 
     pub fn from_record(r: &[u8]) -> Result<Entry, u32> {
         if r[7] != 0 {
             return Err(UNREADABLE);
         }
-        let mut n: Numbers = [0; 8];
+        let mut first = [0; 7];
         for i in 0..7 {
-            n[i] = r[i] as u32;
+            first[i] = r[i] as u32;
         }
-        n[7] = u32::from_le_bytes([r[8], r[9], r[10], r[11]]);
-        Entry::read(&n)
+        let update = u64::from_le_bytes(r[UPDATE..RECORD].try_into().expect("eight bytes"));
+        Entry::read(&Numbers { first, update })
     }
 
     pub fn to_record(&self) -> [u8; RECORD] {
         let n = self.numbers();
         let mut r = [0; RECORD];
         for i in 0..7 {
-            r[i] = n[i] as u8;
+            r[i] = n.first[i] as u8;
         }
-        r[8..].copy_from_slice(&n[7].to_le_bytes());
+        r[UPDATE..].copy_from_slice(&n.update.to_le_bytes());
         r
     }
 }
@@ -284,7 +287,7 @@ impl Log {
     }
 
     /// Group, tx and update of each row.
-    pub fn replay(&self, store: u8) -> Vec<(u8, u8, u32)> {
+    pub fn replay(&self, store: u8) -> Vec<(u8, u8, u64)> {
         let mut rows = Vec::with_capacity(TRANSACTIONS);
         for tx in 0..TRANSACTIONS {
             if let Some(v) = self.votes[tx][store as usize] {

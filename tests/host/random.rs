@@ -45,6 +45,18 @@ fn list_of(r: &mut Random, tx: u8) -> u8 {
     }
 }
 
+/// An update whose low half, high half or both are set, or one at a border.
+pub fn update(r: &mut Random) -> u64 {
+    const BORDERS: [u64; 6] = [0, 1, u32::MAX as u64, 1 << 32, 1 << 63, u64::MAX];
+    let number = r.next();
+    match r.below(4) {
+        0 => number >> 32,
+        1 => number >> 32 << 32,
+        2 => number,
+        _ => r.pick(&BORDERS),
+    }
+}
+
 /// An entry within its limits that a log may well accept.
 pub fn sensible(r: &mut Random, holders: &[u8; 8]) -> Entry {
     let tx = r.below(32) as u8;
@@ -67,7 +79,7 @@ pub fn sensible(r: &mut Random, holders: &[u8; 8]) -> Entry {
         tx,
         list,
         commit,
-        update: if commit { r.next() as u32 } else { 0 },
+        update: if commit { update(r) } else { 0 },
     })
 }
 

@@ -1,5 +1,5 @@
 //! The calls of data/*.calls, by the library and by the Rust implementation, against data/*.out.
-//! README.md of data says what the lines hold.
+//! README.md of data says what the lines hold. Fails if one of the four calls never occurs.
 
 mod library;
 mod plain_log;
@@ -48,6 +48,8 @@ const HOSTS: [Host; 2] = [
     },
 ];
 
+const CALLS: [&str; 4] = ["apply", "outcome", "involvement", "replay"];
+
 fn called(host: &Host, line: &str) -> String {
     let words: Vec<&str> = line.split(' ').collect();
     let number = |i: usize| words[i].parse::<u32>().expect("a number");
@@ -57,10 +59,8 @@ fn called(host: &Host, line: &str) -> String {
     let mut out = if words[0] == "apply" { Vec::new() } else { vec![0xee; last] };
     let answer = match words[0] {
         "apply" => {
-            let mut n: Numbers = [0; 8];
-            for i in 0..8 {
-                n[i] = number(3 + i);
-            }
+            let update = words[10].parse().expect("an update");
+            let n = Numbers { first: std::array::from_fn(|i| number(3 + i)), update };
             (host.add)(&mut records, count, &n)
         }
         "outcome" => (host.outcome)(&records, count, number(3), &mut out),
@@ -79,7 +79,7 @@ fn main() {
         .filter(|f| f.ends_with(".calls"))
         .collect();
     names.sort();
-    let mut lines = 0;
+    let mut ran = [0; CALLS.len()];
     for name in &names {
         let calls = fs::read_to_string(name).expect("calls");
         let expected = fs::read_to_string(name.replace(".calls", ".out")).expect("expected lines");
@@ -88,9 +88,11 @@ fn main() {
             for host in &HOSTS {
                 assert_eq!(called(host, call), line, "{name}, line {}", i + 1);
             }
-            lines += 1;
+            ran[CALLS.iter().position(|name| call.starts_with(name)).expect("a call")] += 1;
         }
     }
-    assert!(lines > 0, "no calls in {dir}");
-    println!("{lines} calls of {} files as expected", names.len());
+    for (name, ran) in CALLS.iter().zip(ran) {
+        assert!(ran > 0, "no {name} in {dir}");
+    }
+    println!("{} calls of {} files as expected", ran.iter().sum::<usize>(), names.len());
 }

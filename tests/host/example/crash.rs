@@ -98,9 +98,8 @@ const RLIMIT_FSIZE: i32 = 1;
 const SIGXFSZ: i32 = 25;
 const SIG_IGN: usize = 1;
 
-/// No file of this host may become longer: writing is cut short there, and then fails.
-fn limited(b: &Bench, bytes: u64) -> Command {
-    let mut command = b.command(&b.file());
+/// No file of this program may become longer: writing is cut short there, and then fails.
+pub fn limited(mut command: Command, bytes: u64) -> Command {
     let limit = move || unsafe {
         signal(SIGXFSZ, SIG_IGN);
         assert_eq!(setrlimit(RLIMIT_FSIZE, &[bytes, bytes]), 0);
@@ -129,7 +128,8 @@ fn stops_after(b: &Bench, command: Command, fit: usize, there: usize, why: &str)
 fn full(b: &Bench) {
     for bytes in 0..5 * SLOT {
         let fit = bytes / SLOT;
-        stops_after(b, limited(b, bytes as u64), fit, fit, "File too large");
+        let limited = limited(b.command(&b.file()), bytes as u64);
+        stops_after(b, limited, fit, fit, "File too large");
         let full = b.faulty(&format!("full {bytes}"));
         stops_after(b, full, fit, fit, "No space left on device");
     }
@@ -188,7 +188,7 @@ fn two_hosts(b: &Bench) {
         let before = b.bytes();
         let second = b.run(b"take 9 0\noutcome 0\n");
         assert_eq!((second.code, &second.out[..]), (Some(1), ""));
-        assert!(second.err.ends_with(": in use by another host\n"), "{}", second.err);
+        assert!(second.err.ends_with(": in use by another program\n"), "{}", second.err);
         assert_eq!(b.bytes(), before);
         assert_eq!(first.ask("outcome 0"), "tx=0 outcome=open\n");
         first.kill();

@@ -1,9 +1,10 @@
 //! Files that are not as a host left them: what was not written to its end is dropped, and any
 //! other damage is named and left as it is.
 
-use crate::host::{answer, crc32, slot, slots, Bench, SLOT};
+use crate::host::{answer, checksum, crc32, slot, slots, Bench, FILLED, SLOT};
 use crate::longest::longest;
-use crate::plain_log::{Entry, Log, RECORD};
+use crate::plain_log::{Entry, RECORD};
+use std::collections::HashSet;
 
 /// The host starts, says that it drops this record, and leaves the file so.
 fn dropped(b: &Bench, bytes: &[u8], record: usize, left: &[u8]) {
@@ -31,7 +32,7 @@ fn with_tail(entries: &[Entry], tail: &[u8]) -> Vec<u8> {
     [&slots(entries), tail].concat()
 }
 
-/// A last slot that was cut short, of zeros, or begun and then zeros.
+/// A last slot that was cut short, within its zeros too, of zeros, or begun and then zeros.
 fn torn(b: &Bench) {
     let entries = longest();
     for n in [0, 1, 9, 375] {
@@ -42,7 +43,7 @@ fn torn(b: &Bench) {
             dropped(b, &with_tail(before, &[0; SLOT][..length]), n + 1, &good);
         }
         dropped(b, &with_tail(before, &[0; SLOT]), n + 1, &good);
-        for written in 1..SLOT {
+        for written in 1..FILLED {
             let begun = [&next[..written], &[0; SLOT][written..]].concat();
             if written <= RECORD {
                 dropped(b, &with_tail(before, &begun), n + 1, &good);
@@ -54,35 +55,78 @@ fn torn(b: &Bench) {
     }
 }
 
+/// What the host says if that byte of a slot is spoiled.
+fn spoiled_at(at: usize) -> &'static str {
+    if at < FILLED {
+        "checksum wrong, answer="
+    } else {
+        "a zero spoiled, answer=0 "
+    }
+}
+
+/// A last slot that the file ends within, and that is not the start of a slot.
+fn cut_and_spoiled(b: &Bench) {
+    let entries = longest();
+    let vote = entries.iter().position(|e| matches!(e, Entry::Vote(_))).expect("a vote");
+    for n in [0, 1, vote] {
+        let (before, next) = (&entries[..n], slot(n, &entries[n].to_record()));
+        for length in RECORD + 1..SLOT {
+            for at in RECORD..length {
+                let mut tail = next[..length].to_vec();
+                tail[at] ^= 0x10;
+                damaged(b, &with_tail(before, &tail), n + 1, spoiled_at(at));
+            }
+        }
+    }
+    /* A take is 0 but for its kind, process and store, and the first record is no vote. */
+    for at in [2].into_iter().chain(4..RECORD) {
+        let mut take = slot(0, &entries[0].to_record());
+        take[at] = 1;
+        damaged(b, &take[..=at], 1, "checksum wrong, answer=1");
+        let vote = slot(0, &entries[vote].to_record());
+        damaged(b, &vote[..=at], 1, "checksum wrong");
+    }
+    /* Without a checksum there are only zeros behind. */
+    for at in FILLED..SLOT {
+        let mut take = slot(0, &entries[0].to_record());
+        take[RECORD..FILLED].fill(0);
+        take[at] = 1;
+        damaged(b, &take[..=at], 1, "checksum wrong, answer=0");
+        damaged(b, &take, 1, "checksum wrong, answer=0");
+    }
+}
+
 /// Only the last slot can be one that was not written to its end.
 fn more_than_the_last(b: &Bench) {
     let entries = &longest()[..6];
     damaged(b, &with_tail(entries, &[0; 2 * SLOT]), 7, "checksum wrong, answer=2");
     damaged(b, &with_tail(entries, &[0; SLOT + 1]), 7, "checksum wrong");
-    damaged(b, &[0; 64], 1, "checksum wrong");
+    damaged(b, &[0; 2 * SLOT], 1, "checksum wrong");
     let mut cut = slots(entries);
     cut[3 * SLOT + RECORD..4 * SLOT].fill(0);
     damaged(b, &cut, 4, "checksum wrong, answer=0");
     for byte in 0..SLOT {
         let mut shorter = slots(entries);
         shorter.remove(2 * SLOT + byte);
-        damaged(b, &shorter, 3, "checksum wrong");
+        /* One zero less, and the 0 at which the next take begins: the slot is as it was. */
+        let record = if byte < FILLED { 3 } else { 4 };
+        damaged(b, &shorter, record, "checksum wrong");
     }
 }
 
-/// A byte spoiled, at every byte of every record; in the last one to every value.
+/// A byte spoiled, at every byte of every slot; of the last record and its checksum to every value.
 fn spoiled(b: &Bench) {
-    let entries = &longest()[..24];
+    let entries = &longest()[..12];
     let good = slots(entries);
     for at in 0..good.len() {
         let record = at / SLOT + 1;
-        let last = record == entries.len();
+        let last = record == entries.len() && at % SLOT < FILLED;
         for change in 1..=255u8 {
             let zeroed = good[at] ^ change == 0;
             if last || zeroed || [0x01, 0x10, 0x80, 0xff].contains(&change) {
                 let mut bytes = good.clone();
                 bytes[at] ^= change;
-                damaged(b, &bytes, record, "checksum wrong, answer=");
+                damaged(b, &bytes, record, spoiled_at(at % SLOT));
             }
         }
     }
@@ -118,27 +162,38 @@ fn garbage(b: &Bench) {
     damaged(b, &plain, 1, "checksum wrong, answer=0");
 }
 
+/// Two takes and a vote, and records that the log refuses after them, by their first eight bytes;
+/// the update is 0.
+pub const BEFORE_REFUSED: [[u8; 8]; 3] =
+    [[0, 1, 0, 0, 0, 0, 0, 0], [0, 2, 0, 1, 0, 0, 0, 0], [1, 1, 0, 0, 4, 3, 1, 0]];
+pub const REFUSED: [([u8; 8], u32); 9] = [
+    ([2, 3, 0, 2, 0, 0, 0, 0], 1),
+    ([0, 3, 0, 2, 0, 0, 0, 1], 1),
+    ([0, 16, 0, 2, 0, 0, 0, 0], 2),
+    ([0, 3, 0, 8, 0, 0, 0, 0], 2),
+    ([1, 2, 1, 1, 4, 1, 1, 0], 7),
+    ([1, 3, 1, 1, 4, 3, 1, 0], 8),
+    ([1, 2, 1, 1, 4, 7, 1, 0], 9),
+    ([1, 1, 0, 0, 4, 3, 1, 0], 10),
+    ([0, 1, 0, 2, 0, 0, 0, 0], 11),
+];
+
+/// The eight bytes, and zeros up to the size of a record.
+pub fn padded<const N: usize>(first: &[u8; 8]) -> [u8; N] {
+    std::array::from_fn(|i| *first.get(i).unwrap_or(&0))
+}
+
 /// Whole slots with a record that the log refuses: the record and its refusal are named.
 fn refused(b: &Bench) {
-    let start = [Entry::Take { process: 1, store: 0 }, Entry::Take { process: 2, store: 1 }];
-    let vote = [1, 1, 0, 0, 4, 3, 1, 0, 10, 0, 0, 0];
-    let mut before = slots(&start);
-    before.extend(slot(2, &vote));
-    for (record, refusal) in [
-        ([2, 3, 0, 2, 0, 0, 0, 0, 0, 0, 0, 0], 1),
-        ([0, 3, 0, 2, 0, 0, 0, 1, 0, 0, 0, 0], 1),
-        ([0, 16, 0, 2, 0, 0, 0, 0, 0, 0, 0, 0], 2),
-        ([0, 3, 0, 8, 0, 0, 0, 0, 0, 0, 0, 0], 2),
-        ([1, 2, 1, 1, 4, 1, 1, 0, 0, 0, 0, 0], 7),
-        ([1, 3, 1, 1, 4, 3, 1, 0, 0, 0, 0, 0], 8),
-        ([1, 2, 1, 1, 4, 7, 1, 0, 0, 0, 0, 0], 9),
-        (vote, 10),
-        ([0, 1, 0, 2, 0, 0, 0, 0, 0, 0, 0, 0], 11),
-    ] {
-        let mut bytes = [&before[..], &slot(3, &record)].concat();
-        let why = format!("checksum right, {}\n", answer(refusal));
+    let slot_of = |i: usize, first: &[u8; 8]| slot(i, &padded(first));
+    for (record, refusal) in &REFUSED {
+        let mut bytes: Vec<u8> = Vec::new();
+        for (i, first) in BEFORE_REFUSED.iter().chain([record]).enumerate() {
+            bytes.extend(slot_of(i, first));
+        }
+        let why = format!("checksum right, {}\n", answer(*refusal));
         damaged(b, &bytes, 4, &why);
-        bytes.extend(slot(4, &[0, 3, 0, 2, 0, 0, 0, 0, 0, 0, 0, 0]));
+        bytes.extend(slot_of(4, &[0, 3, 0, 2, 0, 0, 0, 0]));
         damaged(b, &bytes, 4, &why);
     }
 }
@@ -159,28 +214,32 @@ fn too_many(b: &Bench) {
     }
 }
 
-/// No change of one byte leaves a checksum as it was or makes it 0: all 12 bytes, all changes.
-fn checksum() {
+/// No change of one byte leaves a checksum as it was or makes it 0: all bytes of a record, all
+/// changes. In no two places has a record the same checksum.
+fn checksums() {
     assert_eq!(crc32(b"123456789"), 0xcbf4_3926);
-    let (mut log, entries) = (Log::new(), longest());
-    entries.iter().for_each(|e| assert_eq!(log.enter(e), 0));
-    for (index, e) in entries.iter().enumerate() {
+    for (index, e) in longest().iter().enumerate() {
         let record = e.to_record();
-        let sum = &slot(index, &record)[RECORD..];
+        let sum = checksum(index, &record);
         assert!(sum.iter().filter(|&&byte| byte != 0).count() >= 2);
         for at in 0..RECORD {
             for change in 1..=255 {
                 let mut other = record;
                 other[at] ^= change;
-                assert_ne!(&slot(index, &other)[RECORD..], sum);
+                assert_ne!(checksum(index, &other), sum);
             }
         }
+    }
+    for e in longest().iter().step_by(40) {
+        let sums: HashSet<_> = (0..376).map(|index| checksum(index, &e.to_record())).collect();
+        assert_eq!(sums.len(), 376);
     }
 }
 
 pub fn all(b: &Bench) {
-    checksum();
+    checksums();
     torn(b);
+    cut_and_spoiled(b);
     more_than_the_last(b);
     spoiled(b);
     misplaced(b);

@@ -1,5 +1,5 @@
 /*
- * Stands between the example host and the system (LD_PRELOAD). FAULT says what goes wrong:
+ * Stands between a program and the system (LD_PRELOAD). FAULT says what goes wrong:
  *
  *     pieces      reading and writing go byte by byte, and every second call is interrupted
  *     full N      N bytes can be written, and then the disk is full

@@ -1,15 +1,17 @@
-//! Runs of the example host, and the bytes of its file as the comment of host.c has them.
+//! Runs of the example host, and the bytes of its file as the comment of slots.h has them.
 
-use crate::plain_log::{Entry, RECORD};
+use crate::plain_log::{Entry, Log, RECORD, STORES, TRANSACTIONS};
 use std::fs;
 use std::io::{BufRead, BufReader, Write};
 use std::path::{Path, PathBuf};
 use std::process::{Child, ChildStdin, ChildStdout, Command, Stdio};
 
-pub const SLOT: usize = 16;
+pub const SLOT: usize = 32;
+/// The bytes of a slot before its zeros: the record and its checksum.
+pub const FILLED: usize = RECORD + 4;
 
 /// A file that is emptied first may go to the disk when it is closed, which takes a while.
-fn write_in_place(path: &Path, bytes: &[u8]) {
+pub fn write_in_place(path: &Path, bytes: &[u8]) {
     let file = fs::OpenOptions::new().write(true).create(true).truncate(false).open(path);
     let mut file = file.expect("a file");
     file.write_all(bytes).expect("its bytes");
@@ -23,9 +25,10 @@ pub struct Ran {
     pub code: Option<i32>,
 }
 
-/// The host's program, the library of faults, and a folder for files.
+/// The host's program, the converter's, the library of faults, and a folder for files.
 pub struct Bench {
     pub program: PathBuf,
+    pub converter: PathBuf,
     pub faults: PathBuf,
     pub dir: PathBuf,
 }
@@ -49,11 +52,14 @@ impl Bench {
         command
     }
 
-    /// A host to which the system does what FAULT says.
-    pub fn faulty(&self, fault: &str) -> Command {
-        let mut command = self.command(&self.file());
+    /// The system does to the command what FAULT says.
+    pub fn with_fault(&self, mut command: Command, fault: &str) -> Command {
         command.env("LD_PRELOAD", &self.faults).env("FAULT", fault);
         command
+    }
+
+    pub fn faulty(&self, fault: &str) -> Command {
+        self.with_fault(self.command(&self.file()), fault)
     }
 
     /// The input goes through a file, so that neither side waits for the other.
@@ -109,11 +115,16 @@ pub fn crc32(bytes: &[u8]) -> u32 {
     !bytes.iter().fold(!0, |sum, &b| (0..8).fold(sum ^ b as u32, |sum, _| step(sum)))
 }
 
+/// The checksum of a record, as a slot has it.
+pub fn checksum(index: usize, record: &[u8]) -> [u8; 4] {
+    let sum = crc32(&[&(index as u32).to_le_bytes()[..], record].concat());
+    (sum | 0x8000_0001).to_le_bytes()
+}
+
 pub fn slot(index: usize, record: &[u8; RECORD]) -> [u8; SLOT] {
     let mut slot = [0; SLOT];
     slot[..RECORD].copy_from_slice(record);
-    let sum = crc32(&[&(index as u32).to_le_bytes()[..], record].concat()) | 0x8000_0001;
-    slot[RECORD..].copy_from_slice(&sum.to_le_bytes());
+    slot[RECORD..FILLED].copy_from_slice(&checksum(index, record));
     slot
 }
 
@@ -129,9 +140,39 @@ pub fn line(e: &Entry) -> String {
         Entry::Vote(v) => {
             let say = if v.commit { "commit" } else { "abort" };
             let (process, by, store, tx) = (v.process, v.by, v.store, v.tx);
-            format!("vote {process} {by} {store} {tx} {:02x} {say} {:08x}", v.list, v.update)
+            format!("vote {process} {by} {store} {tx} {:02x} {say} {:016x}", v.list, v.update)
         }
     }
+}
+
+/// The log after these entries, all accepted.
+pub fn log_of(entries: &[Entry]) -> Log {
+    let mut log = Log::new();
+    entries.iter().for_each(|e| assert_eq!(log.enter(e), 0));
+    log
+}
+
+/// Every query of a log, and what the host prints.
+pub fn queries(log: &Log) -> (String, String) {
+    let (mut asked, mut expected) = (String::new(), String::new());
+    for store in 0..STORES as u8 {
+        let rows = log.replay(store);
+        asked += &format!("replay {store}\n");
+        for (group, tx, upd) in &rows {
+            expected += &format!("store={store} group={group} tx={tx} upd={upd:016x}\n");
+        }
+        expected += &format!("rows={}\n", rows.len());
+    }
+    for tx in 0..TRANSACTIONS as u8 {
+        asked += &format!("outcome {tx}\n");
+        expected += &format!("tx={tx} outcome={}\n", log.outcome(tx).word());
+        for store in 0..STORES as u8 {
+            let involved = ["no", "yes", "unknown"][log.involvement(tx, store) as usize];
+            asked += &format!("involvement {tx} {store}\n");
+            expected += &format!("tx={tx} store={store} involved={involved}\n");
+        }
+    }
+    (asked, expected)
 }
 
 /// The line that answers an entry.

@@ -1,8 +1,8 @@
 //! Lines, good and bad: what they are answered, and that a bad one changes nothing.
 
-use crate::host::{answer, line, slots, Bench};
+use crate::host::{answer, line, log_of, queries, slots, Bench};
 use crate::longest::longest;
-use crate::plain_log::{Entry, Log, STORES, TRANSACTIONS};
+use crate::plain_log::{Entry, Vote};
 
 const TAKES: [Entry; 2] =
     [Entry::Take { process: 1, store: 0 }, Entry::Take { process: 2, store: 1 }];
@@ -40,8 +40,30 @@ fn answers(b: &Bench) {
         involvement 5 0\ninvolvement 4 7\ninvolvement 6 0\nreplay 0\nreplay 1";
     let expected = "answer=0 accepted\nanswer=0 accepted\ntx=5 outcome=abort\ntx=6 outcome=open\n\
         tx=5 store=0 involved=yes\ntx=4 store=7 involved=no\ntx=6 store=0 involved=unknown\n\
-        store=0 group=1 tx=4 upd=0000000a\nrows=1\nrows=0\n";
+        store=0 group=1 tx=4 upd=000000000000000a\nrows=1\nrows=0\n";
     assert_eq!(b.run(more.as_bytes()).out, expected);
+}
+
+/// Eight digits and sixteen give the same record; sixteen are printed.
+fn updates(b: &Bench) {
+    for (digits, update) in [
+        ("00000000", 0),
+        ("0000000000000000", 0),
+        ("0a1b2c3d", 0x0a1b_2c3d),
+        ("000000000a1b2c3d", 0x0a1b_2c3d),
+        ("0000000100000000", 1 << 32),
+        ("8000000000000000", 1 << 63),
+        ("0123456789abcdef", 0x0123_4567_89ab_cdef),
+        ("ffffffffffffffff", u64::MAX),
+    ] {
+        b.put(b"");
+        let ran =
+            b.run(format!("take 1 0\nvote 1 0 0 4 01 commit {digits}\nreplay 0\n").as_bytes());
+        let row = format!("store=0 group=1 tx=4 upd={update:016x}\nrows=1\n");
+        assert_eq!(ran.out, (answer(0) + "\n").repeat(2) + &row);
+        let vote = Vote { process: 1, by: 0, store: 0, tx: 4, list: 1, commit: true, update };
+        assert_eq!(b.bytes(), slots(&[TAKES[0], Entry::Vote(vote)]));
+    }
 }
 
 const NO_DECIMALS: [&str; 19] = [
@@ -69,17 +91,26 @@ const NO_DECIMALS: [&str; 19] = [
 const NO_LISTS: [&str; 12] =
     ["1", "001", "100", "0g", "0A", "FF", "0x", "-1", "+1", "1\t", "\r1", "٣"];
 
-const NO_UPDATES: [&str; 11] = [
+const NO_UPDATES: [&str; 20] = [
+    "",
     "a",
     "0000000",
     "000000000",
     "10000000a",
+    "000000000000",
+    "000000000000000",
+    "00000000000000000",
+    "10000000000000000",
+    "00000000000000000000000000000000",
     "0000000A",
+    "000000000000000A",
+    "A000000000000000",
     "0x00000a",
+    "0x0000000000000a",
     "-0000001",
     "+000000a",
     "0000000g",
-    "100000000",
+    "000000000000000g",
     "0000000\r",
 ];
 
@@ -102,7 +133,7 @@ fn numbers(b: &Bench) {
     }
     put_in(&mut cases, vote, 5, &NO_LISTS, "is not 2 lower-case hexadecimal digits");
     put_in(&mut cases, vote, 6, &NO_SAYS, "is neither commit nor abort");
-    put_in(&mut cases, vote, 7, &NO_UPDATES, "is not 8 lower-case hexadecimal digits");
+    put_in(&mut cases, vote, 7, &NO_UPDATES, "is not 16 or 8 lower-case hexadecimal digits");
     unchanged(b, &cases);
 }
 
@@ -137,7 +168,9 @@ fn limits(b: &Bench) {
     ];
     let mut cases: Vec<_> = lines.iter().map(|line| case(line, &answer(2))).collect();
     cases.push(case("vote 1 0 0 4 00 commit 0000000a", &answer(7)));
-    cases.push(case("vote 1 1 1 4 ff commit ffffffff", &answer(8)));
+    cases.push(case("vote 1 0 0 4 01 abort 00000001", &answer(7)));
+    cases.push(case("vote 1 0 0 4 01 abort 0100000000000000", &answer(7)));
+    cases.push(case("vote 1 1 1 4 ff commit ffffffffffffffff", &answer(8)));
     unchanged(b, &cases);
 }
 
@@ -227,21 +260,8 @@ fn whole_log(b: &Bench) {
     let ran = b.run(lines(&entries).as_bytes());
     assert_eq!(ran.out, (answer(0) + "\n").repeat(entries.len()));
     assert_eq!(b.bytes(), slots(&entries));
-    let mut log = Log::new();
-    entries.iter().for_each(|e| assert_eq!(log.enter(e), 0));
-    let (mut asked, mut expected) = (String::new(), String::new());
-    for store in 0..STORES as u8 {
-        let rows = log.replay(store);
-        asked += &format!("replay {store}\n");
-        for (group, tx, upd) in &rows {
-            expected += &format!("store={store} group={group} tx={tx} upd={upd:08x}\n");
-        }
-        expected += &format!("rows={}\n", rows.len());
-    }
-    for tx in 0..TRANSACTIONS as u8 {
-        asked += &format!("outcome {tx}\n");
-        expected += &format!("tx={tx} outcome={}\n", log.outcome(tx).word());
-    }
+    let log = log_of(&entries);
+    let (asked, expected) = queries(&log);
     assert_eq!(b.run(asked.as_bytes()).out, expected);
     let again: String = entries.iter().map(|e| answer(log.clone().enter(e)) + "\n").collect();
     assert_eq!(b.run(lines(&entries).as_bytes()).out, again);
@@ -250,6 +270,7 @@ fn whole_log(b: &Bench) {
 
 pub fn all(b: &Bench) {
     answers(b);
+    updates(b);
     numbers(b);
     limits(b);
     words(b);
