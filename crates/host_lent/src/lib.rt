@@ -110,9 +110,14 @@ fn entered(none: Row, lent: &[u8], count: usize, answer: &mut u8) -> Log
             break;
         }
         summaries[tx] = old.keeping(e, f.group);
-        let mut row = rows[tx].keeping(e);
-        row.group = f.group;
-        rows[tx] = row;
+        // A row made anew: a changed one would be copied with the bytes that fill it up, which takes a
+        // third longer.
+        let kept = rows[tx].keeping(e);
+        let votes = kept.votes;
+        rows[tx] = Row {
+            votes: votes,
+            group: f.group,
+        };
         let after = noted(running, e.tx, f.runs);
         if f.begins {
             groups = f.group;

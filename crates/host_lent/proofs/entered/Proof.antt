@@ -272,10 +272,10 @@ keeping-requires-2 : tie.Need-keeping-requires-2 Inv-loop μ-loop
 keeping-requires-2 c κs = search needs
 
 mul-rows : tie.Need-mul-rows Inv-loop μ-loop
-mul-rows c = omega (arith, tx-inside (c .before .before .before .before .before .before .before .before .before .before))
+mul-rows c = omega (arith, tx-inside (c .before .before .before .before .before .before .before .before .before .before .before))
 
 array-set-from-rows : tie.Need-array-set-from-rows Inv-loop μ-loop
-array-set-from-rows c = tx-inside (c .before .before .before .before .before .before .before .before .before .before)
+array-set-from-rows c = tx-inside (c .before .before .before .before .before .before .before .before .before .before .before)
 
 -- the row with the vote, in its group
 abbrev row-of-vote : tie.After-keeping2 Inv-loop μ-loop → Row
@@ -296,35 +296,35 @@ runs-so c =
 
 noted-requires : tie.Need-noted-requires Inv-loop μ-loop
 noted-requires c κs =
-    let l = c .before .before .before .before .before .before .before .before .before .before .before .before .before .before .before .before .before .before .loop in
-    let e = entry (c .before .before .before .before .before .before .before .before .before .before .before .before .before) in
-    let tx = tx-inside (c .before .before .before .before .before .before .before .before .before .before) in
-    (tx, (bit-within (l .rows) (l .running) (l .inv .4) (l .inv .3) (e .tx) tx, set-fits (l .rows) (l .running) (l .inv .4) (l .inv .3) (e .tx) tx (row-of-vote c) (c .before .before .before .before .before .decide .result .runs) (runs-so c)))
+    let l = c .before .before .before .before .before .before .before .before .before .before .before .before .before .before .before .before .before .before .before .loop in
+    let e = entry (c .before .before .before .before .before .before .before .before .before .before .before .before .before .before) in
+    let tx = tx-inside (c .before .before .before .before .before .before .before .before .before .before .before) in
+    (tx, (bit-within (l .rows) (l .running) (l .inv .4) (l .inv .3) (e .tx) tx, set-fits (l .rows) (l .running) (l .inv .4) (l .inv .3) (e .tx) tx (row-of-vote (c .before)) (c .before .before .before .before .before .before .decide .result .runs) (runs-so (c .before))))
 
 -- the rows after the vote, the set of those that run and the summaries
-rows-size : (c : tie.After-noted Inv-loop μ-loop) → length (set (c .before .before .before .before .before .before .before .before .before .before .before .before .before .before .before .before .before .before .before .loop .rows) (entry (c .before .before .before .before .before .before .before .before .before .before .before .before .before .before) .tx) (row-of-vote (c .before))) ≡ transactions
-rows-size c = length-set (c .before .before .before .before .before .before .before .before .before .before .before .before .before .before .before .before .before .before .before .loop .rows) (entry (c .before .before .before .before .before .before .before .before .before .before .before .before .before .before) .tx) (row-of-vote (c .before)) ∙ c .before .before .before .before .before .before .before .before .before .before .before .before .before .before .before .before .before .before .before .loop .inv .3
+rows-size : (c : tie.After-noted Inv-loop μ-loop) → length (set (c .before .before .before .before .before .before .before .before .before .before .before .before .before .before .before .before .before .before .before .before .loop .rows) (entry (c .before .before .before .before .before .before .before .before .before .before .before .before .before .before .before) .tx) (row-of-vote (c .before .before))) ≡ transactions
+rows-size c = length-set (c .before .before .before .before .before .before .before .before .before .before .before .before .before .before .before .before .before .before .before .before .loop .rows) (entry (c .before .before .before .before .before .before .before .before .before .before .before .before .before .before .before) .tx) (row-of-vote (c .before .before)) ∙ c .before .before .before .before .before .before .before .before .before .before .before .before .before .before .before .before .before .before .before .before .loop .inv .3
 
-noted-so : (c : tie.After-noted Inv-loop μ-loop) → c .noted .result ≡ runningSet (set (c .before .before .before .before .before .before .before .before .before .before .before .before .before .before .before .before .before .before .before .loop .rows) (entry (c .before .before .before .before .before .before .before .before .before .before .before .before .before .before) .tx) (row-of-vote (c .before)))
+noted-so : (c : tie.After-noted Inv-loop μ-loop) → c .noted .result ≡ runningSet (set (c .before .before .before .before .before .before .before .before .before .before .before .before .before .before .before .before .before .before .before .before .loop .rows) (entry (c .before .before .before .before .before .before .before .before .before .before .before .before .before .before .before) .tx) (row-of-vote (c .before .before)))
 noted-so c =
-    let l = c .before .before .before .before .before .before .before .before .before .before .before .before .before .before .before .before .before .before .before .loop in
+    let l = c .before .before .before .before .before .before .before .before .before .before .before .before .before .before .before .before .before .before .before .before .loop in
     c .noted .ensures
-    ∙ set-after (l .rows) (l .running) (l .inv .4) (l .inv .3) (entry (c .before .before .before .before .before .before .before .before .before .before .before .before .before .before) .tx) (tx-inside (c .before .before .before .before .before .before .before .before .before .before .before)) (row-of-vote (c .before)) (c .before .before .before .before .before .before .decide .result .runs) (runs-so (c .before))
+    ∙ set-after (l .rows) (l .running) (l .inv .4) (l .inv .3) (entry (c .before .before .before .before .before .before .before .before .before .before .before .before .before .before .before) .tx) (tx-inside (c .before .before .before .before .before .before .before .before .before .before .before .before)) (row-of-vote (c .before .before)) (c .before .before .before .before .before .before .before .decide .result .runs) (runs-so (c .before .before))
 
-summaries-so : (c : tie.After-noted Inv-loop μ-loop) → AllOf (set (c .before .before .before .before .before .before .before .before .before .before .before .before .before .before .before .before .before .before .before .loop .summaries) (entry (c .before .before .before .before .before .before .before .before .before .before .before .before .before .before) .tx) (c .before .before .before .keeping .result)) (set (c .before .before .before .before .before .before .before .before .before .before .before .before .before .before .before .before .before .before .before .loop .rows) (entry (c .before .before .before .before .before .before .before .before .before .before .before .before .before .before) .tx) (row-of-vote (c .before)))
+summaries-so : (c : tie.After-noted Inv-loop μ-loop) → AllOf (set (c .before .before .before .before .before .before .before .before .before .before .before .before .before .before .before .before .before .before .before .before .loop .summaries) (entry (c .before .before .before .before .before .before .before .before .before .before .before .before .before .before .before) .tx) (c .before .before .before .before .keeping .result)) (set (c .before .before .before .before .before .before .before .before .before .before .before .before .before .before .before .before .before .before .before .before .loop .rows) (entry (c .before .before .before .before .before .before .before .before .before .before .before .before .before .before .before) .tx) (row-of-vote (c .before .before)))
 summaries-so c =
-    let l = log (c .before .before .before .before .before .before .before .before .before .before .before .before .before .before) in
-    let e = entry (c .before .before .before .before .before .before .before .before .before .before .before .before .before .before) in
-    let f = c .before .before .before .before .before .before .decide .result in
-    let agrees = vote-agrees l e (c .before .before .before .before .before .before .before .before .before .before .before .if1 .left) f (effect-so (c .before .before .before .before .before .before)) (inside (c .before .before .before .before .before .before .before .before .before .before .before .before .before .before)) (c .before .before .before .before .if3 .left) in
-    let is = c .before .before .before .keeping .ensures (rowOf l (e .tx)) (summary-so (c .before .before .before .before .before .before .before .before .before .before .before)) (inside-store e (inside (c .before .before .before .before .before .before .before .before .before .before .before .before .before .before))) (agrees .0) (agrees .1) in
-    all-set (c .before .before .before .before .before .before .before .before .before .before .before .before .before .before .before .before .before .before .before .loop .summaries) (l .rows) (c .before .before .before .before .before .before .before .before .before .before .before .before .before .before .before .before .before .before .before .loop .inv .5) (c .before .before .before .before .before .before .before .before .before .before .before .before .before .before .before .before .before .before .before .loop .inv .3) (e .tx) (tx-inside (c .before .before .before .before .before .before .before .before .before .before .before)) (c .before .before .before .keeping .result) (row-of-vote (c .before))
-    (row-of (c .before .before .before .keeping .result) (ap (λ (r : Row). inGroup r (f .group)) (sym (c .before .keeping2 .ensures))) is)
+    let l = log (c .before .before .before .before .before .before .before .before .before .before .before .before .before .before .before) in
+    let e = entry (c .before .before .before .before .before .before .before .before .before .before .before .before .before .before .before) in
+    let f = c .before .before .before .before .before .before .before .decide .result in
+    let agrees = vote-agrees l e (c .before .before .before .before .before .before .before .before .before .before .before .before .if1 .left) f (effect-so (c .before .before .before .before .before .before .before)) (inside (c .before .before .before .before .before .before .before .before .before .before .before .before .before .before .before)) (c .before .before .before .before .before .if3 .left) in
+    let is = c .before .before .before .before .keeping .ensures (rowOf l (e .tx)) (summary-so (c .before .before .before .before .before .before .before .before .before .before .before .before)) (inside-store e (inside (c .before .before .before .before .before .before .before .before .before .before .before .before .before .before .before))) (agrees .0) (agrees .1) in
+    all-set (c .before .before .before .before .before .before .before .before .before .before .before .before .before .before .before .before .before .before .before .before .loop .summaries) (l .rows) (c .before .before .before .before .before .before .before .before .before .before .before .before .before .before .before .before .before .before .before .before .loop .inv .5) (c .before .before .before .before .before .before .before .before .before .before .before .before .before .before .before .before .before .before .before .before .loop .inv .3) (e .tx) (tx-inside (c .before .before .before .before .before .before .before .before .before .before .before .before)) (c .before .before .before .before .keeping .result) (row-of-vote (c .before .before))
+    (row-of (c .before .before .before .before .keeping .result) (ap (λ (r : Row). inGroup r (f .group)) (sym (c .before .before .keeping2 .ensures))) is)
 
 -- a group that is begun has its place
-begun : (c : tie.Then4 Inv-loop μ-loop) → (0 < c .before .before .before .before .before .before .before .decide .result .group) × (c .before .before .before .before .before .before .before .decide .result .group ≤ transactions)
+begun : (c : tie.Then4 Inv-loop μ-loop) → (0 < c .before .before .before .before .before .before .before .before .decide .result .group) × (c .before .before .before .before .before .before .before .before .decide .result .group ≤ transactions)
 begun c =
-    begins-group (partsOf (log (c .before .before .before .before .before .before .before .before .before .before .before .before .before .before .before)) (entry (c .before .before .before .before .before .before .before .before .before .before .before .before .before .before .before))) (entry (c .before .before .before .before .before .before .before .before .before .before .before .before .before .before .before)) (c .before .before .before .before .before .before .before .decide .result) (effect-so (c .before .before .before .before .before .before .before)) (c .if4 .taken)
+    begins-group (partsOf (log (c .before .before .before .before .before .before .before .before .before .before .before .before .before .before .before .before)) (entry (c .before .before .before .before .before .before .before .before .before .before .before .before .before .before .before .before))) (entry (c .before .before .before .before .before .before .before .before .before .before .before .before .before .before .before .before)) (c .before .before .before .before .before .before .before .before .decide .result) (effect-so (c .before .before .before .before .before .before .before .before)) (c .if4 .taken)
 
 sub-i : tie.Need-sub-i Inv-loop μ-loop
 sub-i c = omega (arith, begun (c .before) .0)
@@ -339,36 +339,36 @@ array-write-remembered : tie.Need-array-write-remembered Inv-loop μ-loop
 array-write-remembered c = omega (arith, begun (c .before) .0, begun (c .before) .1)
 
 loop-less-2 : tie.Need-loop-less-2 Inv-loop μ-loop
-loop-less-2 c = omega (arith, c .before .before .before .before .before .before .before .before .before .before .before .before .before .before .before .before .before .before .before .before .loop-test .taken)
+loop-less-2 c = omega (arith, c .before .before .before .before .before .before .before .before .before .before .before .before .before .before .before .before .before .before .before .before .before .loop-test .taken)
 
 loop-again-2 : tie.Need-loop-again-2 Inv-loop μ-loop
 loop-again-2 c =
-    let inv = c .before .before .before .before .before .before .before .before .before .before .before .before .before .before .before .before .before .before .before .before .before .loop .inv in
-    let f = c .before .before .before .before .before .before .before .before .decide .result in
-    let all = c .before .before .before .before .before .before .before .before .before .before .before .before .before .before .before .before .before .before .before .before .before .loop .remembered in (
+    let inv = c .before .before .before .before .before .before .before .before .before .before .before .before .before .before .before .before .before .before .before .before .before .before .loop .inv in
+    let f = c .before .before .before .before .before .before .before .before .before .decide .result in
+    let all = c .before .before .before .before .before .before .before .before .before .before .before .before .before .before .before .before .before .before .before .before .before .before .loop .remembered in (
+      inv .0,
+      omega (arith, c .before .before .before .before .before .before .before .before .before .before .before .before .before .before .before .before .before .before .before .before .before .loop-test .taken, inv .1),
+      inv .2
+          ∙ stored-so (c .before .before .before .before .before .before .before)
+          (stored-group (log (c .before .before .before .before .before .before .before .before .before .before .before .before .before .before .before .before .before)) (entry (c .before .before .before .before .before .before .before .before .before .before .before .before .before .before .before .before .before)) f (c .before .before .before .before .before .before .before .before .before .before .before .before .before .before .if1 .left) (c .before .before .before .before .keeping2 .ensures) (c .before .if4 .taken) (c .before .before .before .before .before .before .before .before .before .before .before .before .before .before .before .before .before .before .before .before .before .before .loop .running) (inv .4)),
+      rows-size (c .before .before),
+      noted-so (c .before .before),
+      summaries-so (c .before .before),
+      length-set all (f .group - 1) (c .before .before .before .before .before .before .before .before .before .before .before .before .before .before .before .before .before .before .before .before .before .before .loop .running) ∙ inv .6,
+      last-begun all (inv .6) (f .group) (c .before .before .before .before .before .before .before .before .before .before .before .before .before .before .before .before .before .before .before .before .before .before .loop .running) (begun (c .before) .0) (begun (c .before) .1),
+    )
+
+loop-less-3 : tie.Need-loop-less-3 Inv-loop μ-loop
+loop-less-3 c = omega (arith, c .before .before .before .before .before .before .before .before .before .before .before .before .before .before .before .before .before .before .before .before .loop-test .taken)
+
+loop-again-3 : tie.Need-loop-again-3 Inv-loop μ-loop
+loop-again-3 c =
+    let inv = c .before .before .before .before .before .before .before .before .before .before .before .before .before .before .before .before .before .before .before .before .before .loop .inv in (
       inv .0,
       omega (arith, c .before .before .before .before .before .before .before .before .before .before .before .before .before .before .before .before .before .before .before .before .loop-test .taken, inv .1),
       inv .2
           ∙ stored-so (c .before .before .before .before .before .before)
-          (stored-group (log (c .before .before .before .before .before .before .before .before .before .before .before .before .before .before .before .before)) (entry (c .before .before .before .before .before .before .before .before .before .before .before .before .before .before .before .before)) f (c .before .before .before .before .before .before .before .before .before .before .before .before .before .if1 .left) (c .before .before .before .keeping2 .ensures) (c .before .if4 .taken) (c .before .before .before .before .before .before .before .before .before .before .before .before .before .before .before .before .before .before .before .before .before .loop .running) (inv .4)),
-      rows-size (c .before .before),
-      noted-so (c .before .before),
-      summaries-so (c .before .before),
-      length-set all (f .group - 1) (c .before .before .before .before .before .before .before .before .before .before .before .before .before .before .before .before .before .before .before .before .before .loop .running) ∙ inv .6,
-      last-begun all (inv .6) (f .group) (c .before .before .before .before .before .before .before .before .before .before .before .before .before .before .before .before .before .before .before .before .before .loop .running) (begun (c .before) .0) (begun (c .before) .1),
-    )
-
-loop-less-3 : tie.Need-loop-less-3 Inv-loop μ-loop
-loop-less-3 c = omega (arith, c .before .before .before .before .before .before .before .before .before .before .before .before .before .before .before .before .before .before .before .loop-test .taken)
-
-loop-again-3 : tie.Need-loop-again-3 Inv-loop μ-loop
-loop-again-3 c =
-    let inv = c .before .before .before .before .before .before .before .before .before .before .before .before .before .before .before .before .before .before .before .before .loop .inv in (
-      inv .0,
-      omega (arith, c .before .before .before .before .before .before .before .before .before .before .before .before .before .before .before .before .before .before .before .loop-test .taken, inv .1),
-      inv .2
-          ∙ stored-so (c .before .before .before .before .before)
-          (stored-row (log (c .before .before .before .before .before .before .before .before .before .before .before .before .before .before .before)) (entry (c .before .before .before .before .before .before .before .before .before .before .before .before .before .before .before)) (c .before .before .before .before .before .before .before .decide .result) (c .before .before .before .before .before .before .before .before .before .before .before .before .if1 .left) (c .before .before .keeping2 .ensures) (c .if4 .left)),
+          (stored-row (log (c .before .before .before .before .before .before .before .before .before .before .before .before .before .before .before .before)) (entry (c .before .before .before .before .before .before .before .before .before .before .before .before .before .before .before .before)) (c .before .before .before .before .before .before .before .before .decide .result) (c .before .before .before .before .before .before .before .before .before .before .before .before .before .if1 .left) (c .before .before .before .keeping2 .ensures) (c .if4 .left)),
       rows-size (c .before),
       noted-so (c .before),
       summaries-so (c .before),
