@@ -17,10 +17,11 @@ pub mod limits;
 
 use log_votes::Outcome;
 
-// A batch: its first `count` entries.
+// A batch: its first `count` entries. A count of one byte would have seven after it that nothing
+// uses, and they would be copied with every step.
 pub struct Batch {
     pub entries: [Entry; BATCH_PLACES],
-    pub count: u8,
+    pub count: usize,
 }
 
 pub enum Kind {
@@ -78,23 +79,24 @@ pub struct AcceptorSlot {
 // The entries that a coordinator was sent: the first `count`, oldest first.
 pub struct Queue {
     pub entries: [Entry; QUEUE_PLACES],
-    pub count: u8,
+    pub count: usize,
 }
 
-// The ballot that a coordinator opened last in its current instance, and what came of it.
+// The ballot that a coordinator opened last in its current instance, and what came of it. The small
+// fields stand together: bytes between them that nothing uses would be copied with every step.
 pub struct Round {
     // 0 if it opened none there.
     pub ballot: u8,
     // The acceptors whose promise was heard, bit a for acceptor a.
     pub promises: u8,
-    // The highest accepted ballot among the promises, 0 if none, and its batch.
+    // The highest accepted ballot among the promises, 0 if none; `batch` is its batch.
     pub accepted: u8,
-    pub batch: Batch,
     pub proposed: bool,
-    // The batch proposed.
-    pub proposal: Batch,
     // The acceptors whose acceptance was heard, bit a for acceptor a.
     pub acceptances: u8,
+    pub batch: Batch,
+    // The batch proposed.
+    pub proposal: Batch,
 }
 
 pub struct Coordinator {

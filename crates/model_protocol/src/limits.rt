@@ -6,16 +6,12 @@ use model_steps::limits::MESSAGES;
 use model_steps::limits::MOST_ACCEPTORS;
 
 // A batch has 1 to 4 entries.
-pub const BATCH_ENTRIES: u8 = 4;
+pub const BATCH_PLACES: usize = 4;
 
 // A queue has at most 8.
-pub const QUEUE_ENTRIES: u8 = 8;
+pub const QUEUE_PLACES: usize = 8;
 
 // Places in an array of each of these.
-pub const BATCH_PLACES: usize = BATCH_ENTRIES as usize;
-
-pub const QUEUE_PLACES: usize = QUEUE_ENTRIES as usize;
-
 pub const ACCEPTOR_PLACES: usize = MOST_ACCEPTORS as usize;
 
 pub const COORDINATOR_PLACES: usize = COORDINATORS as usize;

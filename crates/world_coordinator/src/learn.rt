@@ -10,7 +10,7 @@ use crate::queue::left_by;
 use log_core::Log;
 use model_protocol::Batch;
 use model_protocol::Coordinator;
-use model_protocol::limits::BATCH_ENTRIES;
+use model_protocol::limits::BATCH_PLACES;
 use model_steps::limits::INSTANCES;
 use world_fresh::new_round;
 
@@ -18,10 +18,10 @@ use world_fresh::new_round;
 pub fn fed(mut log: Log, batch: Batch) -> Log
     ensures { λ r. ⌜ r ≡ feed log (entriesOf batch) ⌝ }
 {
-    let count = least(batch.count, BATCH_ENTRIES);
-    let mut i: u8 = 0;
+    let count = least(batch.count, BATCH_PLACES);
+    let mut i: usize = 0;
     while i < count {
-        let e = batch.entries[i as usize];
+        let e = batch.entries[i];
         let entered = log.enter(e);
         log = entered.log;
         i += 1;

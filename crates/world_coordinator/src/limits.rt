@@ -6,7 +6,7 @@ ghost use Prim.Native.Nat.{min};
 // The acceptors that a set has a bit for.
 pub(crate) const SET_PLACES: u8 = 8;
 
-pub(crate) fn least(n: u8, most: u8) -> u8
+pub(crate) fn least(n: usize, most: usize) -> usize
     ensures { λ r. ⌜ r ≡ min n most ⌝ }
 {
     if n < most { n } else { most }

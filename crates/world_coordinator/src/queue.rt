@@ -6,9 +6,7 @@ use crate::limits::least;
 use log_entry::Entry;
 use model_protocol::Batch;
 use model_protocol::Queue;
-use model_protocol::limits::BATCH_ENTRIES;
 use model_protocol::limits::BATCH_PLACES;
-use model_protocol::limits::QUEUE_ENTRIES;
 use model_protocol::limits::QUEUE_PLACES;
 use world_fresh::no_entry;
 use world_queue::is_among_first;
@@ -24,7 +22,7 @@ pub fn is_queued(queue: Queue, e: Entry) -> bool
 pub fn is_full(queue: Queue) -> bool
     ensures { λ r. ⌜ r ≡ isFull queue ⌝ }
 {
-    QUEUE_ENTRIES <= queue.count
+    QUEUE_PLACES <= queue.count
 }
 
 // A delivered request joins the queue unless an equal entry is there; a full queue stays as it is.
@@ -37,7 +35,7 @@ pub fn join(mut queue: Queue, e: Entry) -> Queue
     if is_full(queue) {
         return queue;
     }
-    queue.entries[queue.count as usize] = e;
+    queue.entries[queue.count] = e;
     queue.count += 1;
     queue
 }
@@ -48,10 +46,10 @@ pub fn first_batch(queue: Queue) -> Batch
 {
     let blank = no_entry();
     let mut entries = [blank; BATCH_PLACES];
-    let count = least(queue.count, BATCH_ENTRIES);
-    let mut i: u8 = 0;
+    let count = least(queue.count, BATCH_PLACES);
+    let mut i: usize = 0;
     while i < count {
-        entries[i as usize] = queue.entries[i as usize];
+        entries[i] = queue.entries[i];
         i += 1;
     }
     Batch {
@@ -66,22 +64,22 @@ pub fn left_by(queue: Queue, batch: Batch) -> Queue
 {
     let blank = no_entry();
     let mut entries = [blank; QUEUE_PLACES];
-    let waiting = least(queue.count, QUEUE_ENTRIES);
-    let learned = least(batch.count, BATCH_ENTRIES);
-    let mut n: u8 = 0;
-    let mut i: u8 = 0;
+    let waiting = least(queue.count, QUEUE_PLACES);
+    let learned = least(batch.count, BATCH_PLACES);
+    let mut n: usize = 0;
+    let mut i: usize = 0;
     'queue: while i < waiting {
-        let e = queue.entries[i as usize];
+        let e = queue.entries[i];
         i += 1;
-        let mut j: u8 = 0;
+        let mut j: usize = 0;
         while j < learned {
-            let f = batch.entries[j as usize];
+            let f = batch.entries[j];
             if e.same(f) {
                 continue 'queue;
             }
             j += 1;
         }
-        entries[n as usize] = e;
+        entries[n] = e;
         n += 1;
     }
     Queue {

@@ -5,7 +5,6 @@ ghost use lib.ListN.{take};
 ghost use Rattle.model_protocol.specs.Limits.{queuePlaces};
 ghost use Rattle.model_protocol.specs.Queue.{isIn};
 use log_entry::Entry;
-use model_protocol::limits::QUEUE_ENTRIES;
 use model_protocol::limits::QUEUE_PLACES;
 
 // Whether an equal entry is in a lent row.
@@ -32,11 +31,11 @@ fn lend(entries: [Entry; QUEUE_PLACES], n: usize, e: Entry) -> bool
 
 // Whether an equal entry is among the first `count`, or among all if there are fewer. Its
 // parameters are plain: a caller lends nothing.
-pub fn is_among_first(entries: [Entry; QUEUE_PLACES], count: u8, e: Entry) -> bool
+pub fn is_among_first(entries: [Entry; QUEUE_PLACES], count: usize, e: Entry) -> bool
     ensures { λ r. ⌜ r ≡ isIn e (take count entries) ⌝ }
 {
-    if QUEUE_ENTRIES <= count {
+    if QUEUE_PLACES <= count {
         return lend(entries, QUEUE_PLACES, e);
     }
-    lend(entries, count as usize, e)
+    lend(entries, count, e)
 }

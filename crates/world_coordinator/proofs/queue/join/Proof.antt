@@ -37,5 +37,5 @@ pub join-spec : {M : Type 1} → statement M
 join-spec =
     tie.close
     (tie.spec
-    (λ c κs. search needs) returns (λ c κs. search needs) returns-2 (λ c. search needs)
-    (λ c. search needs) element-set-from-e add-queue returns-3)
+    (λ c κs. search needs) returns (λ c κs. search needs) returns-2 (λ c. omega (arith, has-room c))
+    element-set-from-e add-queue returns-3)

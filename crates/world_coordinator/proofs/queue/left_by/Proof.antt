@@ -59,9 +59,6 @@ least-requires-2 c κs = search needs
 queue-holds : tie.Need-queue-holds Inv-loop μ-loop Inv-queue μ-queue
 queue-holds c = (omega arith, omega arith, refl, omega arith)
 
-cast-e : tie.Need-cast-e Inv-loop μ-loop Inv-queue μ-queue
-cast-e c = omega arith
-
 mul-e : tie.Need-mul-e Inv-loop μ-loop Inv-queue μ-queue
 mul-e c = omega arith
 
@@ -73,9 +70,6 @@ add-i c = omega arith
 
 loop-holds : tie.Need-loop-holds Inv-loop μ-loop Inv-queue μ-queue
 loop-holds c = (omega arith, refl)
-
-cast-f : tie.Need-cast-f Inv-loop μ-loop Inv-queue μ-queue
-cast-f c = omega arith
 
 mul-f : tie.Need-mul-f Inv-loop μ-loop Inv-queue μ-queue
 mul-f c = omega arith
@@ -124,9 +118,6 @@ loop-again c =
     let m = learned-is z in
     let hb = batch-entries-length z in
     (omega arith, l .inv .1 ∙ in-miss (b .entries) (b .count) (l .j) (omega arith) (omega arith) e (sym (c .before .same .ensures) ∙ c .if1 .left))
-
-cast-entries : tie.Need-cast-entries Inv-loop μ-loop Inv-queue μ-queue
-cast-entries c = omega arith
 
 mul-entries : tie.Need-mul-entries Inv-loop μ-loop Inv-queue μ-queue
 mul-entries c = omega arith
@@ -179,12 +170,10 @@ left-by-spec =
     least-requires
     least-requires-2
     queue-holds
-    cast-e
     mul-e
     element-copy-out-e
     add-i
     loop-holds
-    cast-f
     mul-f
     element-copy-out-f
     same-requires
@@ -193,7 +182,6 @@ left-by-spec =
     add-j
     loop-less
     loop-again
-    cast-entries
     mul-entries
     array-set-from-entries
     add-n
