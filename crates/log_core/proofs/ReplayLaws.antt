@@ -1,20 +1,19 @@
 -- A replay as it is filled: what stands in it by now, with what is left, is the whole.
 use Prim.Native.Nat.{ℕ, suc, _+_, _-_, _<_, _≤_}
 use mathlib.Core.Bool.{false, true}
-use mathlib.Core.List.{List, [], _++_, _∷_}
+use mathlib.Core.List.{List, [], _++_, _∷_, map}
 use mathlib.Core.Path.{_≡_, ap, refl, subst, sym, _∙_}
 use native.Mathlib.Numerals.{add-one}
 use native.Mathlib.Omega.{arith}
 use borrow.Author.Tests.{ne-eqb}
-use lib.ListN.{drop, drop-of-length-le, getD, length, replicate, set}
+use lib.ListN.{drop, drop-of-length-le, getD, length, set}
 use lib.Seq.{drop-cons, sets}
-use Rattle.log_entry.specs.Limits.{transactions}
 use Rattle.log_core.specs.declared.Log.{Log}
 use Rattle.log_core.specs.declared.Replay.{Replay}
 use Rattle.log_core.specs.declared.Replayed.{Replayed}
 use Rattle.log_votes.specs.declared.Row.{Row}
 use Rattle.log_votes.specs.Row.{noRow, replays, voteOfStore}
-use Rattle.log_core.specs.Replay.{groupReplay, noReplay, noReplayed, replayFrom, replayOf, replayRows}
+use Rattle.log_core.specs.Replay.{column, groupReplay, noReplay, replayFrom, replayOf, replayRows}
 
 -- a row of another group is not replayed
 pub other-group : (store g : ℕ) (r : Row) → (r .group ≡ g → ⊥) → replays store g r ≡ false
@@ -57,13 +56,26 @@ module _ (store : ℕ) (rows : List Row) where
 
 -- the rows that stand in `out` by now, with `rest` behind them, are the whole replay
 pub record Filled (l : Log) (store : ℕ) (out : Replay) (rest : List Replayed) : Type 0 where
-  pub stored : sets (out .rows) (out .count) rest ≡ sets (replicate transactions noReplayed) 0 (replayRows l store)
+  pub stored-groups : sets (out .groups) (out .count) (map (λ r. r .group) rest) ≡ column (λ r. r .group) (replayRows l store)
+  pub stored-txs : sets (out .txs) (out .count) (map (λ r. r .tx) rest) ≡ column (λ r. r .tx) (replayRows l store)
+  pub stored-updates : sets (out .updates) (out .count) (map (λ r. r .update) rest) ≡ column (λ r. r .update) (replayRows l store)
   pub counted : out .count + length rest ≡ length (replayRows l store)
+
+-- with the row at the next place
+abbrev withNext : Replay → Replayed → Replay
+withNext out r = record {
+  count = out .count + 1;
+  groups = set (out .groups) (out .count) (r .group);
+  txs = set (out .txs) (out .count) (r .tx);
+  updates = set (out .updates) (out .count) (r .update);
+}
 
 module _ (l : Log) (store : ℕ) where
   pub filled-start : (out : Replay) → out ≡ noReplay → Filled l store out (replayRows l store)
   unfolding noReplay
-  filled-start out is = subst (λ (o : Replay). Filled l store o (replayRows l store)) (sym is) (record { stored = refl; counted = omega arith })
+  filled-start out is =
+      subst (λ (o : Replay). Filled l store o (replayRows l store)) (sym is)
+      (record { stored-groups = refl; stored-txs = refl; stored-updates = refl; counted = omega arith })
 
   -- without a group there are no rows
   pub no-groups : l .groups ≡ 0 → noReplay ≡ replayOf l store
@@ -73,12 +85,16 @@ module _ (l : Log) (store : ℕ) where
   pub filled-same : (out : Replay) (rest rest′ : List Replayed) → rest ≡ rest′ → Filled l store out rest → Filled l store out rest′
   filled-same out rest rest′ e f = rw e at f
 
-  pub filled-more : (out : Replay) (r : Replayed) (rest : List Replayed) → Filled l store out (r ∷ rest)
-      → Filled l store (record { count = out .count + 1; rows = set (out .rows) (out .count) r }) rest
-  filled-more out r rest f = record { stored = rw (add-one (out .count)) (f .stored); counted = omega (arith, f .counted) }
+  pub filled-more : (out : Replay) (r : Replayed) (rest : List Replayed) → Filled l store out (r ∷ rest) → Filled l store (withNext out r) rest
+  filled-more out r rest f = record {
+    stored-groups = rw (add-one (out .count)) (f .stored-groups);
+    stored-txs = rw (add-one (out .count)) (f .stored-txs);
+    stored-updates = rw (add-one (out .count)) (f .stored-updates);
+    counted = omega (arith, f .counted);
+  }
 
   pub filled-end : (out : Replay) → Filled l store out [] → out ≡ replayOf l store
   unfolding replayOf
   filled-end out f =
       let n : out .count ≡ length (replayRows l store) = omega (arith, f .counted) in
-      λ i. record { count = n i; rows = f .stored i }
+      λ i. record { count = n i; groups = f .stored-groups i; txs = f .stored-txs i; updates = f .stored-updates i }

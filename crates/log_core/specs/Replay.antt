@@ -3,8 +3,8 @@
 -- committed (`group-iff-committed` of log_laws).
 use Prim.Native.Nat.{ℕ, suc}
 use mathlib.Core.Bool.{cond}
-use mathlib.Core.List.{List, [], _∷_, _++_}
-use lib.ListN.{length, replicate}
+use mathlib.Core.List.{List, [], _∷_, _++_, map}
+use lib.ListN.{getD, length, replicate}
 use lib.Seq.{sets}
 use Rattle.log_entry.specs.Limits.{transactions}
 use Rattle.log_core.specs.declared.Log.{Log}
@@ -18,7 +18,7 @@ noReplayed = record { group = 0; tx = 0; update = 0 }
 
 -- the replay without rows
 unfoldable pub noReplay : Replay
-noReplay = record { count = 0; rows = replicate transactions noReplayed }
+noReplay = record { count = 0; groups = replicate transactions 0; txs = replicate transactions 0; updates = replicate transactions 0 }
 
 -- the group's part of the replay, the first row being transaction tx
 unfoldable pub groupReplay : ℕ → ℕ → ℕ → List Row → List Replayed
@@ -36,7 +36,28 @@ replayFrom store rows g (suc n) = groupReplay store g 0 rows ++ replayFrom store
 abbrev pub replayRows : Log → ℕ → List Replayed
 replayRows l store = replayFrom store (l .rows) 1 (l .groups)
 
--- the replay as a value: the rows in front, and their count
+-- an array with one number of each row in front
+abbrev pub column : (Replayed → ℕ) → List Replayed → List ℕ
+column of rows = sets (replicate transactions 0) 0 (map of rows)
+
+-- the replay as a value: the rows in front, by group, transaction and update, and their count
 unfoldable pub replayOf : Log → ℕ → Replay
-replayOf l store =
-    record { count = length (replayRows l store); rows = sets (replicate transactions noReplayed) 0 (replayRows l store) }
+replayOf l store = record {
+  count = length (replayRows l store);
+  groups = column (λ r. r .group) (replayRows l store);
+  txs = column (λ r. r .tx) (replayRows l store);
+  updates = column (λ r. r .update) (replayRows l store);
+}
+
+-- the row at place i of a replay
+abbrev pub rowAt : Replay → ℕ → Replayed
+rowAt r i = record { group = getD (r .groups) i 0; tx = getD (r .txs) i 0; update = getD (r .updates) i 0 }
+
+-- the rows at n places from i on
+unfoldable pub rowsFrom : Replay → ℕ → ℕ → List Replayed
+rowsFrom r i ℕ.zero = []
+rowsFrom r i (suc n) = rowAt r i ∷ rowsFrom r (suc i) n
+
+-- the rows at all its places; the first `count` are those of the replay
+abbrev pub rowsIn : Replay → List Replayed
+rowsIn r = rowsFrom r 0 transactions

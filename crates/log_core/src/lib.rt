@@ -82,10 +82,14 @@ pub struct Replayed {
     pub update: Update,
 }
 
-// A store's replay: its first `count` rows.
+// A store's replay: its first `count` rows, by row the group, the transaction and the update. An
+// array for each, since rows of all three would take half as much again: an update stands at a
+// multiple of eight bytes.
 pub struct Replay {
     pub count: u8,
-    pub rows: [Replayed; TRANSACTION_PLACES],
+    pub groups: [u8; TRANSACTION_PLACES],
+    pub txs: [u8; TRANSACTION_PLACES],
+    pub updates: [Update; TRANSACTION_PLACES],
 }
 
 impl Replay {
@@ -93,14 +97,11 @@ impl Replay {
     pub fn none() -> Replay
         ensures { λ r. ⌜ r ≡ noReplay ⌝ }
     {
-        let row = Replayed {
-            group: 0,
-            tx: 0,
-            update: 0,
-        };
         Replay {
             count: 0,
-            rows: [row; TRANSACTION_PLACES],
+            groups: [0; TRANSACTION_PLACES],
+            txs: [0; TRANSACTION_PLACES],
+            updates: [0; TRANSACTION_PLACES],
         }
     }
 }

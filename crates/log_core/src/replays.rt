@@ -3,7 +3,6 @@ ghost use mathlib.Core.Path.{_≡_};
 ghost use Rattle.log_core.specs.Replay.{noReplay, replayOf};
 use crate::Log;
 use crate::Replay;
-use crate::Replayed;
 use log_entry::limits::TRANSACTIONS;
 
 impl Log {
@@ -27,12 +26,12 @@ impl Log {
                 if !row.replays(store, g) {
                     continue;
                 }
+                let update = row.update_of(store);
                 let n = out.count;
-                out.rows[n as usize] = Replayed {
-                    group: g,
-                    tx: tx,
-                    update: row.update_of(store),
-                };
+                let at = n as usize;
+                out.groups[at] = g;
+                out.txs[at] = tx;
+                out.updates[at] = update;
                 out.count = n + 1;
             }
         }

@@ -7,11 +7,11 @@ use mathlib.Core.List.{List}
 use mathlib.Core.Logic.{_≢_, inl, inr, ⊎-elim}
 use native.Mathlib.Omega.{arith}
 use lib.Dec.{eqb}
-use lib.ListN.{drop, getD, length, length-replicate, List·getD-append, List·getD-eq-default, replicate}
-use lib.Seq.{sets-eq}
+use lib.ListN.{getD, length, List·getD-eq-default}
 use borrow.Author.Tests.{eq-eqb, eqb-true}
 use Rattle.log_entry.specs.declared.Entry.{Entry}
 use Rattle.log_entry.specs.Limits.{transactions}
+use Rattle.log_core.proofs.ReplayedRows.{replay-row}
 use Rattle.log_core.proofs.ReplayLength.{replay-length}
 use Rattle.log_core.specs.declared.Log.{Log}
 use Rattle.log_core.specs.declared.Replayed.{Replayed}
@@ -84,17 +84,8 @@ module _ (l : Log) (w : Wf l) (store : ℕ) where
 -- ---- the replay as a value holds these rows
 
 module _ (es : List Entry) (store : ℕ) where
-  abbrev rows : List Replayed
-  rows = replayRows (reached es) store
-
-  room : 0 + length rows ≤ length (replicate transactions noReplayed)
-  room = rw (length-replicate transactions noReplayed) (omega (arith, replay-length (reached es) store, rows-length es))
-
-  row-is : (i : ℕ) → i < length rows → replayed (reached es) store i ≡ getD rows i noReplayed
-  unfolding replayOf
-  row-is i h =
-      ap (λ (x : List Replayed). getD x i noReplayed) (sets-eq rows (replicate transactions noReplayed) 0 room)
-      ∙ List·getD-append rows (drop (0 + length rows) (replicate transactions noReplayed)) noReplayed i h
+  row-is : (i : ℕ) → i < length (replayRows (reached es) store) → replayed (reached es) store i ≡ getD (replayRows (reached es) store) i noReplayed
+  row-is i h = replay-row (reached es) store refl (omega (arith, replay-length (reached es) store, rows-length es)) i h
 
 pub lists-exactly : ReplayListsExactly
 unfolding replayOf

@@ -4,19 +4,18 @@ use Prim.Native.Nat.{ℕ, _<_}
 use mathlib.Core.Path.{_≡_}
 use mathlib.Core.List.{List}
 use mathlib.Core.Logic.{_↔_, _⊎_}
-use lib.ListN.{getD}
 use Rattle.log_entry.specs.declared.Entry.{Entry}
 use Rattle.log_core.specs.declared.Log.{Log}
 use Rattle.log_votes.specs.declared.Outcome.the-variants.{Commit}
 use Rattle.log_core.specs.declared.Replayed.{Replayed}
 use Rattle.log_core.specs.Log.{groupOf, voteAt, outcomeOf}
-use Rattle.log_core.specs.Replay.{noReplayed, replayOf}
+use Rattle.log_core.specs.Replay.{replayOf, rowAt}
 use Rattle.log_laws.specs.Reached.{reached}
 use Rattle.log_laws.specs.Votes.{KeptCommit}
 
 -- row i of the store's replay
 abbrev pub replayed : Log → ℕ → ℕ → Replayed
-replayed l store i = getD (replayOf l store .rows) i noReplayed
+replayed l store i = rowAt (replayOf l store) i
 
 -- the replay has the row
 abbrev pub InReplay : Log → ℕ → Replayed → Type 0

@@ -5,7 +5,6 @@ use mathlib.Core.Path.{_≡_}
 use mathlib.Core.Bool.{true}
 use mathlib.Core.List.{List, _++_}
 use mathlib.Core.Logic.{_↔_, _⊎_, _≢_}
-use lib.ListN.{getD}
 use Rattle.log_entry.specs.declared.Entry.{Entry}
 use Rattle.log_entry.specs.Bits.{has}
 use Rattle.log_core.specs.declared.Log.{Log}
@@ -14,7 +13,7 @@ use Rattle.log_votes.specs.declared.Outcome.the-variants.{Commit}
 use Rattle.log_votes.specs.Outcome.{running}
 use Rattle.log_core.specs.Follow.{awaitedOf}
 use Rattle.log_core.specs.Log.{holderOf, outcomeOf, rowOf, voteAt}
-use Rattle.log_core.specs.Replay.{noReplayed, replayOf}
+use Rattle.log_core.specs.Replay.{replayOf, rowAt}
 use Rattle.log_laws.specs.Conditions.{Took}
 use Rattle.log_laws.specs.Reached.{reached}
 use Rattle.log_laws.specs.Votes.{Kept, KeptCommit}
@@ -36,7 +35,7 @@ LostStoreVotesNoMore =
 
 -- the replay has a row of the transaction with this update
 abbrev pub RowIn : Replay → ℕ → ℕ → Type 0
-RowIn y tx update = (i : ℕ) × (i < y .count) × (getD (y .rows) i noReplayed .tx ≡ tx) × (getD (y .rows) i noReplayed .update ≡ update)
+RowIn y tx update = (i : ℕ) × (i < y .count) × (rowAt y i .tx ≡ tx) × (rowAt y i .update ≡ update)
 
 -- a commit vote that was kept by then, of a transaction that commits sooner or later, is a row of
 -- the replay by then, or the transaction was running

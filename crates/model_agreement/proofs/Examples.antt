@@ -3,11 +3,11 @@ use Prim.Native.Nat.{ℕ, _≤_}
 use mathlib.Core.Path.{_≡_, refl, subst}
 use mathlib.Core.Bool.{true}
 use mathlib.Core.List.{List, [], _∷_}
-use lib.ListN.{getD, length}
+use lib.ListN.{length}
 use Rattle.log_entry.specs.Entry.{takeEntry, voteEntry}
 use Rattle.log_votes.specs.declared.Outcome.the-variants as outcome
 use Rattle.log_core.specs.Log.{holderOf, outcomeOf}
-use Rattle.log_core.specs.Replay.{noReplayed}
+use Rattle.log_core.specs.Replay.{rowAt}
 use Rattle.model_steps.specs.declared.Step.{Step}
 use Rattle.model_steps.specs.declared.Step.the-variants.{Setup, Request, Open, Propose, Deliver, Tell, Restore}
 use Rattle.model_protocol.specs.World.{coordinatorOf, logOf, processOf, restoredTo}
@@ -65,7 +65,7 @@ pub process-2-restored : (processOf (computed whole) 2 .store ≡ 1)
 unfolding computed
 process-2-restored = (refl, refl, refl)
 
-pub row-restored : getD (restoredTo (computed whole) 2 .rows) 0 noReplayed ≡ record { group = 1; tx = 4; update = 11 }
+pub row-restored : rowAt (restoredTo (computed whole) 2) 0 ≡ record { group = 1; tx = 4; update = 11 }
 unfolding computed
 row-restored = refl
 

@@ -7,7 +7,7 @@ use mathlib.Core.Bool.{true}
 use mathlib.Core.List.{List, _++_}
 use mathlib.Core.Logic.{_≢_, inl, inr}
 use native.Mathlib.Omega.{arith}
-use lib.ListN.{drop, getD, length, take, take-append-drop}
+use lib.ListN.{drop, length, take, take-append-drop}
 use lib.Seq.{take-take}
 use Rattle.log_entry.specs.Bits.{has}
 use Rattle.log_entry.proofs.Tests.{opposed}
@@ -15,7 +15,7 @@ use Rattle.log_core.specs.declared.Log.{Log}
 use Rattle.log_core.specs.declared.Replay.{Replay}
 use Rattle.log_votes.specs.declared.Outcome.the-variants as outcome
 use Rattle.log_core.specs.Log.{heldBefore, holderOf, outcomeOf, voteAt}
-use Rattle.log_core.specs.Replay.{noReplayed}
+use Rattle.log_core.specs.Replay.{rowAt}
 use Rattle.log_laws.specs.Conditions.{Took}
 use Rattle.log_laws.specs.Reached.{reached}
 use Rattle.log_laws.specs.TakenOver.{RowIn}
@@ -55,13 +55,13 @@ unfolding computed restoredOnce leftRunning
 old-vote-committed = ((refl, refl), refl, refl, refl, refl)
 
 -- a replay with one row, of another transaction
-other-row : (y : Replay) (tx update : ℕ) → y .count ≡ 1 → getD (y .rows) 0 noReplayed .tx ≢ tx → RowIn y tx update → ⊥
+other-row : (y : Replay) (tx update : ℕ) → y .count ≡ 1 → rowAt y 0 .tx ≢ tx → RowIn y tx update → ⊥
 other-row y tx update c d r =
     let z : r .0 ≡ 0 = omega (arith, r .1) in
-    d (subst (λ (i : ℕ). getD (y .rows) i noReplayed .tx ≡ tx) z (r .2))
+    d (subst (λ (i : ℕ). rowAt y i .tx ≡ tx) z (r .2))
 
 -- the one row of the restore is of transaction 5
-one-row : (restoredTo (computed before) 2 .count ≡ 1) × (getD (restoredTo (computed before) 2 .rows) 0 noReplayed .tx ≡ 5)
+one-row : (restoredTo (computed before) 2 .count ≡ 1) × (rowAt (restoredTo (computed before) 2) 0 .tx ≡ 5)
 unfolding computed restoredOnce leftRunning
 one-row = (refl, refl)
 

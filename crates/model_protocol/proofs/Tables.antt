@@ -8,6 +8,7 @@ use Rattle.log_entry.specs.declared.Entry.{Entry}
 use Rattle.log_votes.specs.declared.Outcome.{Outcome}
 use Rattle.log_votes.specs.declared.Outcome.the-variants as outcome
 use Rattle.log_core.specs.declared.Replayed.{Replayed}
+use Rattle.log_core.specs.Replay.{rowsFrom, rowsIn}
 use Rattle.model_protocol.specs.declared.Followed.{Followed}
 use Rattle.model_protocol.specs.declared.Message.{Message}
 use Rattle.model_protocol.specs.declared.Process.{Process}
@@ -100,7 +101,7 @@ heardOf w p tx = getD (processOf w p .heard) tx (record { outcome = outcome.Open
 
 -- the last restore that a process took
 abbrev rowsOf : World → ℕ → List Replayed
-rowsOf w p = take (restoredTo w p .count) (restoredTo w p .rows)
+rowsOf w p = take (restoredTo w p .count) (rowsIn (restoredTo w p))
 
 -- "the first up to four queue entries" were proposed; the rest keep their order, and the refused
 -- one could join later
@@ -143,7 +144,7 @@ pub restored-last : (processOf (after restoredOnce) 1 .position ≡ 1)
     × (processOf (after (restoredOnce ++ told)) 1 .position ≡ 2)
     × (processOf (after (restoredOnce ++ told)) 1 .store ≡ 0)
     × (rowsOf (after (restoredOnce ++ told)) 1 ≡ record { group = 1; tx = 4; update = updateA } ∷ [])
-unfolding computed restoredOnce told
+unfolding computed restoredOnce told rowsFrom
 restored-last = (refl, refl, refl, refl, refl)
 
 -- a store that was taken over, and the next one
@@ -159,7 +160,7 @@ pub listed-running : (processOf (after (restoredOnce ++ leftRunning)) 2 .running
     × (processOf (after (restoredOnce ++ leftRunning)) 2 .followed ≡ 0)
     × (rowsOf (after (restoredOnce ++ leftRunning)) 2 ≡ record { group = 1; tx = 5; update = updateB } ∷ [])
     × (processOf (after (restoredOnce ++ leftRunning)) 3 .running ≡ 0)
-unfolding computed restoredOnce leftRunning
+unfolding computed restoredOnce leftRunning rowsFrom
 listed-running = (refl, refl, refl, refl)
 
 abbrev followOf : World → ℕ → ℕ → Followed
@@ -181,7 +182,7 @@ pub begins-anew : (processOf (after (restoredOnce ++ leftRunning ++ followsTaken
     × (processOf (after (restoredOnce ++ leftRunning ++ followsTaken ++ restoredAnew)) 2 .followed ≡ 0)
     × (rowsOf (after (restoredOnce ++ leftRunning ++ followsTaken ++ restoredAnew)) 2
     ≡ record { group = 1; tx = 4; update = updateA } ∷ record { group = 1; tx = 5; update = updateB } ∷ [])
-unfolding computed restoredOnce leftRunning followsTaken restoredAnew
+unfolding computed restoredOnce leftRunning followsTaken restoredAnew rowsFrom
 begins-anew = (refl, refl, refl)
 
 -- a process whose last restore is of store 0 and lists 4, 5 and 6, and that took a follow of 6

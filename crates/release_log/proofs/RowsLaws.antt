@@ -10,7 +10,8 @@ use lib.Seq.{drop-cons, getD-take, sets}
 use Rattle.log_entry.specs.Limits.{transactions}
 use Rattle.log_core.specs.declared.Replay.{Replay}
 use Rattle.log_core.specs.declared.Replayed.{Replayed}
-use Rattle.log_core.specs.Replay.{noReplayed}
+use Rattle.log_core.proofs.ReplayedRows.{replay-places}
+use Rattle.log_core.specs.Replay.{noReplayed, rowsIn}
 use Rattle.release_log.specs.Query.{replayValue, rowBytes, rowSize, rowsBytes}
 
 pub rows-bytes-length : (rs : List Replayed) → length (rowsBytes rs) ≡ length rs * rowSize
@@ -36,12 +37,11 @@ module _ (rows : List Replayed) (n i : ℕ) (within : n ≤ length rows) (out : 
   unfolding rowsBytes
   rows-end h = rw (drop-of-length-le (take n rows) {i = i} (rw length-take (omega arith)))
 
-pub taken-length : (r : Replay) → length (r .rows) ≡ transactions → r .count ≤ transactions → length (take (r .count) (r .rows)) ≡ r .count
-taken-length r h k = length-take (r .count) (r .rows) ∙ min-eq-left (omega arith)
+pub taken-length : (r : Replay) → r .count ≤ transactions → length (take (r .count) (rowsIn r)) ≡ r .count
+taken-length r k = length-take (r .count) (rowsIn r) ∙ min-eq-left (omega (arith, replay-places r))
 
-pub value-length : (r : Replay) → length (r .rows) ≡ transactions → r .count ≤ transactions
-    → length (replayValue (take (r .count) (r .rows))) ≡ 1 + r .count * rowSize
-value-length r h k =
-    let a = rows-bytes-length (take (r .count) (r .rows)) in
-    let b : length (take (r .count) (r .rows)) ≡ r .count = taken-length r h k in
+pub value-length : (r : Replay) → r .count ≤ transactions → length (replayValue (take (r .count) (rowsIn r))) ≡ 1 + r .count * rowSize
+value-length r k =
+    let a = rows-bytes-length (take (r .count) (rowsIn r)) in
+    let b : length (take (r .count) (rowsIn r)) ≡ r .count = taken-length r k in
     omega arith

@@ -3,6 +3,7 @@ ghost use mathlib.Core.List.{[], _∷_};
 ghost use mathlib.Core.Path.{_≡_};
 ghost use Prim.Native.Nat.{_≤_};
 ghost use lib.ListN.{take};
+ghost use Rattle.log_core.specs.Replay.{rowsIn};
 ghost use Rattle.log_entry.specs.Limits.{transactions};
 ghost use Rattle.release_log.specs.Parts.{placeAnswer, placeBytes};
 ghost use Rattle.release_log.specs.Query.{replayValue, rowBytes};
@@ -43,8 +44,8 @@ fn row_bytes(r: Replayed) -> [u8; ROW_SIZE]
 // A replay: the number of its rows, and the rows.
 pub(crate) fn answer_rows(out: &mut [u8], replay: Replay) -> u32
     requires { ⌜ replay .count ≤ transactions ⌝ }
-    ensures { λ r. ⌜ r ≡ placeAnswer (replayValue (take (replay .count) (replay .rows))) (now (out .entry)) ⌝ }
-    ensures { λ r. ⌜ now (out .exit) ≡ placeBytes (replayValue (take (replay .count) (replay .rows))) (now (out .entry)) ⌝ }
+    ensures { λ r. ⌜ r ≡ placeAnswer (replayValue (take (replay .count) (rowsIn replay))) (now (out .entry)) ⌝ }
+    ensures { λ r. ⌜ now (out .exit) ≡ placeBytes (replayValue (take (replay .count) (rowsIn replay))) (now (out .entry)) ⌝ }
 {
     let count = replay.count;
     let rows = count as usize;
@@ -55,7 +56,12 @@ pub(crate) fn answer_rows(out: &mut [u8], replay: Replay) -> u32
     let mut at: usize = 1;
     let mut i: usize = 0;
     while i < rows {
-        let bytes = row_bytes(replay.rows[i]);
+        let row = Replayed {
+            group: replay.groups[i],
+            tx: replay.txs[i],
+            update: replay.updates[i],
+        };
+        let bytes = row_bytes(row);
         store(&mut *out, at, &bytes);
         at += ROW_SIZE;
         i += 1;

@@ -18,7 +18,7 @@ use Rattle.log_core.specs.declared.Replayed.{Replayed}
 use Rattle.log_votes.specs.declared.Row.{Row}
 use Rattle.log_core.specs.Log.{holderOf, rowOf}
 use Rattle.log_votes.specs.Outcome.{isKept, outcomeOfVotes}
-use Rattle.log_core.specs.Replay.{noReplayed, replayRows}
+use Rattle.log_core.specs.Replay.{noReplayed, replayRows, rowsIn}
 use Rattle.log_votes.specs.Scan.{anyFrom}
 
 -- the texts of 0 to n - 1, one after the other
@@ -82,7 +82,7 @@ replayText store rows = each (λ i. replayLine store (getD rows i noReplayed)) (
 
 -- the rows of a replay: the first `count`
 abbrev pub rowsOf : Replay → List Replayed
-rowsOf r = take (r .count) (r .rows)
+rowsOf r = take (r .count) (rowsIn r)
 
 -- a log as it is printed
 unfoldable pub logText : Log → List ℕ

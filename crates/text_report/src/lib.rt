@@ -147,8 +147,15 @@ pub fn put_replay(out: &mut [u8], mut at: usize, store: u8, replay: Replay) -> u
 {
     let mut i: u8 = 0;
     while (i < replay.count) & (i < TRANSACTIONS) {
-        let row = replay.rows[i as usize];
-        at = replay_line(out, at, store, row.group, row.tx, row.update);
+        let k = i as usize;
+        at = replay_line(
+            out,
+            at,
+            store,
+            replay.groups[k],
+            replay.txs[k],
+            replay.updates[k],
+        );
         i += 1;
     }
     at

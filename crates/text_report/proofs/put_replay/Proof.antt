@@ -1,10 +1,10 @@
 use Prim.Native.Nat.{_-_, _<_, min}
-use mathlib.Core.Path.{_≡_, ap, _∙_}
+use mathlib.Core.Path.{_≡_, ap, sym, _∙_}
 use native.Mathlib.Omega.{arith}
 use borrow.Author.Needs.{needs}
 use lib.ListN.{getD, length, length-take}
-use Rattle.log_core.proofs.ReplayedRows.{replay-places}
-use Rattle.log_core.specs.Replay.{noReplayed}
+use Rattle.log_core.proofs.ReplayedRows.{replay-places, row-in}
+use Rattle.log_core.specs.Replay.{noReplayed, rowsIn}
 use Rattle.log_entry.specs.Limits.{transactions}
 use Rattle.text_report.specs.Report.{replayLine, rowsOf}
 use Rattle.text_report.specs.Within.{longestLine}
@@ -21,19 +21,20 @@ abbrev μ-loop : tie.MeasureT-loop
 
 -- as many rows as count, and as there are places for
 rows : (s : tie.Start Inv-loop μ-loop) → length (rowsOf (s .args .t4)) ≡ min (s .args .t4 .count) transactions
-rows s = length-take (s .args .t4 .count) (s .args .t4 .rows) ∙ ap (min (s .args .t4 .count)) (replay-places (s .args .t4) _ (s .good .1 .1 .1 .0))
+rows s = length-take (s .args .t4 .count) (rowsIn (s .args .t4)) ∙ ap (min (s .args .t4 .count)) (replay-places (s .args .t4))
 
 below : (c : tie.In-loop Inv-loop μ-loop) → (c .before .loop .i < c .before .before .before .args .t4 .count) × (c .before .loop .i < transactions)
 below c = (first-bound _ _ transactions (c .loop-test .taken), second-bound (c .before .loop .i) (c .before .before .before .args .t4 .count) _ (c .loop-test .taken))
 
 loop-again : tie.Need-loop-again Inv-loop μ-loop
 loop-again c =
-    let t = c .before .before .before .before .before in
+    let t = c .before .before .before .before .before .before .before in
     let h = below t in
     let s = t .before .before .before in
     let l = t .before .loop in
     put-more (l .inv) (omega (arith, rows s)) (c .before .before .replay-line .ensures)
-    (counted (replayLine (s .args .store)) noReplayed (s .args .t4 .rows) (s .args .t4 .count) (l .i) (h .0))
+    (ap (replayLine (s .args .store)) (sym (row-in (s .args .t4) (l .i) (h .1)))
+    ∙ counted (replayLine (s .args .store)) noReplayed (rowsIn (s .args .t4)) (s .args .t4 .count) (l .i) (h .0))
 
 returns : tie.Need-returns Inv-loop μ-loop
 returns c =
@@ -48,11 +49,13 @@ put-replay-spec =
     μ-loop
     (λ c. none-put)
     (λ c. let h = below c in omega arith)
-    (λ c. let h = below c in omega arith)
-    (λ c. let h = below c in omega arith)
+    (λ c. let h = below (c .before) in omega arith)
+    (λ c. let h = below (c .before .before) in omega arith)
+    (λ c. let h = below (c .before .before .before) in omega arith)
+    (λ c. let h = below (c .before .before .before) in omega arith)
     (λ c κs. search needs)
-    (λ c. let h = below (c .before .before .before .before .before) in omega arith)
-    (λ c. let h = below (c .before .before .before .before .before) in omega arith)
+    (λ c. let h = below (c .before .before .before .before .before .before .before) in omega arith)
+    (λ c. let h = below (c .before .before .before .before .before .before .before) in omega arith)
     loop-again
     (λ c. put-length (c .before .loop .inv))
     returns)

@@ -105,14 +105,20 @@ room c =
     let n : length (s .args .t1 .rows) ≡ 32 = rows-length (s .args .t1) _ (s .good .0) in
     omega (arith, hit c .counted, replay-length (s .args .t1) (s .args .store))
 
-cast-t14 : tie.Need-cast-t14 Inv-loop2 μ-loop2 Inv-loop μ-loop
-cast-t14 c = omega (arith, room c)
+cast-at : tie.Need-cast-at Inv-loop2 μ-loop2 Inv-loop μ-loop
+cast-at c = omega (arith, room c)
 
-mul-t15 : tie.Need-mul-t15 Inv-loop2 μ-loop2 Inv-loop μ-loop
-mul-t15 c = omega (arith, room c)
+element-write-out : tie.Need-element-write-out Inv-loop2 μ-loop2 Inv-loop μ-loop
+element-write-out c = room c
 
-element-set-from-out : tie.Need-element-set-from-out Inv-loop2 μ-loop2 Inv-loop μ-loop
-element-set-from-out c = room c
+element-write-out-2 : tie.Need-element-write-out-2 Inv-loop2 μ-loop2 Inv-loop μ-loop
+element-write-out-2 c = room c
+
+mul-out : tie.Need-mul-out Inv-loop2 μ-loop2 Inv-loop μ-loop
+mul-out c = omega (arith, room c)
+
+element-write-out-3 : tie.Need-element-write-out-3 Inv-loop2 μ-loop2 Inv-loop μ-loop
+element-write-out-3 c = room c
 
 add-out : tie.Need-add-out Inv-loop2 μ-loop2 Inv-loop μ-loop
 add-out c = omega (arith, room c)
@@ -152,9 +158,11 @@ replay-into-spec =
     loop2-less-2
     loop2-again-2
     update-of-requires
-    cast-t14
-    mul-t15
-    element-set-from-out
+    cast-at
+    element-write-out
+    element-write-out-2
+    mul-out
+    element-write-out-3
     add-out
     loop2-less-3
     loop2-again-3
