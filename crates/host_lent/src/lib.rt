@@ -110,8 +110,8 @@ fn entered(none: Row, lent: &[u8], count: usize, answer: &mut u8) -> Log
             break;
         }
         summaries[tx] = old.keeping(e, f.group);
-        // A row made anew: a changed one would be copied with the bytes that fill it up, which takes a
-        // third longer.
+        // A row made anew: a changed one would be copied with the bytes that fill it up, and that
+        // takes a third longer.
         let kept = rows[tx].keeping(e);
         let votes = kept.votes;
         rows[tx] = Row {

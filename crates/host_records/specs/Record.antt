@@ -1,5 +1,6 @@
 -- Document 01, "Hosts in C": "kind (0 take, 1 vote), process, by, store, tx, list, say (0 abort, 1
--- commit), a zero, and the update, low byte first". Document 02: "a host's record grows to 16 bytes".
+-- commit), a zero, and the update, low byte first". Document 02: "a host's record grows to 16
+-- bytes".
 use Prim.Native.Nat.{ℕ, zero, suc, _+_, _*_, _/_, _%_}
 use mathlib.Core.Bool.{Bool, _&&_, cond, not}
 use mathlib.Core.List.{List, [], _∷_}

@@ -1,5 +1,4 @@
 -- What holds of an entry by itself.
-use Prim.Native.Nat.{ℕ, _<_}
 use native.Mathlib.Omega.{arith}
 use mathlib.Core.Bool.{Bool, true, false, not, _||_}
 use mathlib.Core.Path.{_≡_, refl, sym, _∙_, ap}
@@ -7,8 +6,7 @@ use borrow.Author.Tests.{ne-eqb}
 use lib.Dec.{eqb}
 use Rattle.log_entry.specs.Bits.{has}
 use Rattle.log_entry.specs.Claims.{AbortWithUpdate, SameExactly}
-use Rattle.log_entry.specs.declared.Entry.{Entry}
-use Rattle.log_entry.specs.Entry.{illFormed, sameEntry}
+use Rattle.log_entry.specs.Entry.{sameEntry}
 use Rattle.log_entry.proofs.EntryLaws.{ill-abort}
 use Rattle.log_entry.proofs.EqualEntries.{equal-are-same, same-are-equal}
 

@@ -1,5 +1,5 @@
 -- The claims on an entry by itself.
-use Prim.Native.Nat.{ℕ, _<_}
+use Prim.Native.Nat.{_<_}
 use mathlib.Core.Bool.{true, false}
 use mathlib.Core.Path.{_≡_}
 use Rattle.log_entry.specs.declared.Entry.{Entry}

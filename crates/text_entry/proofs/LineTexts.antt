@@ -3,7 +3,7 @@ use Prim.Native.Nat.{ℕ, suc, _<_, _^_}
 use mathlib.Core.Bool.{Bool, true, false, _&&_, false≢true}
 use mathlib.Core.List.{List, [], _∷_, _++_}
 use mathlib.Core.Logic.{_⊎_, inl, inr}
-use mathlib.Core.Path.{_≡_, refl, sym, _∙_, ap}
+use mathlib.Core.Path.{_≡_, refl, _∙_, ap}
 use lib.ListN.{length, getD}
 use Rattle.text_ascii.specs.Decimal.{decimal}
 use Rattle.text_ascii.specs.Hex.{hex}

@@ -9,7 +9,7 @@ use lib.Dec.{eqb}
 use Rattle.log_entry.specs.declared.Entry.{Entry}
 use Rattle.log_entry.specs.Entry.{takeEntry, voteEntry}
 use Rattle.log_entry.specs.Limits.{lists}
-use Rattle.text_ascii.specs.Hex.{earlierDigits, updateDigits}
+use Rattle.text_ascii.specs.Hex.{updateDigits}
 use Rattle.text_entry.specs.declared.Reading.{Reading}
 use Rattle.text_entry.specs.declared.Reading.the-variants.{Read, Outside, Unreadable}
 use Rattle.text_entry.specs.Fields.{inHex, lineText}

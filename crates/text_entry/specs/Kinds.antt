@@ -29,7 +29,8 @@ say = field (ascii "say") (inWords (ascii "abort" ∷ ascii "commit" ∷ []))
 abbrev pub upd : Form → Field
 upd form = field (ascii "upd") form
 
--- "printed as sixteen digits [..]. Lines with eight digits are still read and mean the same number."
+-- "printed as sixteen digits [..]. Lines with eight digits are still read and mean the same
+-- number."
 abbrev pub updateForm : Form
 updateForm = inHexOr updateDigits earlierDigits
 

@@ -1,7 +1,5 @@
 -- What is printed says what was to be printed.
-use Prim.Native.Nat.{ℕ}
-use mathlib.Core.List.{List}
-use mathlib.Core.Path.{_≡_, _∙_, ap}
+use mathlib.Core.Path.{_∙_, ap}
 use lib.ListN.{length}
 use lib.Seq.{drop-append-seam}
 use Rattle.text_ascii.specs.Hex.{hex, hexNumber, updateDigits}

@@ -7,8 +7,8 @@ use Rattle.log_entry.specs.Limits.{updates}
 use Rattle.text_ascii.specs.Hex.{hexNumber}
 use Rattle.text_report.specs.Report.{updateField}
 
--- "printed as sixteen digits": what stands behind the key of an update has so many, and they are the
--- update, all of it.
+-- "printed as sixteen digits": what stands behind the key of an update has so many, and they are
+-- the update, all of it.
 abbrev pub UpdateIsPrinted : Type 0
 UpdateIsPrinted =
     (key : List ℕ) (u : ℕ) → u < updates

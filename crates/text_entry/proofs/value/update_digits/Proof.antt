@@ -1,8 +1,6 @@
-use mathlib.Core.Bool.{Bool, true, false, cond}
-use mathlib.Core.Path.{_≡_, refl, sym, _∙_, ap}
+use mathlib.Core.Path.{sym, _∙_, ap}
 use Rattle.text_ascii.specs.Hex.{earlierDigits, updateDigits}
-use Rattle.text_entry.specs.Fields.{inHex}
-use Rattle.text_entry.specs.Read.{Part, valueAfter}
+use Rattle.text_entry.specs.Read.{Part}
 use Rattle.text_entry.specs.Seen.{seen}
 use Rattle.text_entry.proofs.Parts.{or-first, or-second}
 use borrow.Author.Needs.{needs}
