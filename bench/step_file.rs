@@ -6,6 +6,8 @@ use std::ops::RangeInclusive;
 
 const LINES: usize = 1000;
 const BYTES: usize = 100;
+pub const TURN: &[u8] = b" turn=";
+pub const TURNS: RangeInclusive<u64> = 1..=255;
 
 /// The rest of a line that is being read, and whether a number was outside its limits.
 pub struct Fields<'a> {
@@ -33,6 +35,14 @@ impl<'a> Fields<'a> {
         Some(value as u8)
     }
 
+    /// The number of a turn, 1 where the field is not there.
+    fn turn(&mut self) -> Option<u8> {
+        if !self.rest.starts_with(TURN) {
+            return Some(1);
+        }
+        self.decimal(TURN, TURNS)
+    }
+
     fn hex(&mut self, key: &[u8], counts: &[usize]) -> Option<u64> {
         self.key(key)?;
         let (mut value, mut count) = (0, 0);
@@ -57,13 +67,15 @@ impl<'a> Fields<'a> {
     }
 
     pub fn take(&mut self) -> Option<Entry> {
-        let process = self.decimal(b" proc=", 1..=15)?;
-        Some(Entry::Take { process, store: self.decimal(b" store=", 0..=7)? })
+        let (process, turn) = (self.decimal(b" proc=", 1..=15)?, self.turn()?);
+        Some(Entry::Take { process, store: self.decimal(b" store=", 0..=7)?, turn })
     }
 
     pub fn vote(&mut self) -> Option<Entry> {
+        let (process, turn) = (self.decimal(b" proc=", 1..=15)?, self.turn()?);
         Some(Entry::Vote(Vote {
-            process: self.decimal(b" proc=", 1..=15)?,
+            process,
+            turn,
             by: self.decimal(b" by=", 0..=7)?,
             store: self.decimal(b" store=", 0..=7)?,
             tx: self.decimal(b" tx=", 0..=31)?,

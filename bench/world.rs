@@ -7,7 +7,7 @@ mod step_file;
 
 use plain_log::{Entry, Log, Outcome, Vote, STORES, TRANSACTIONS};
 use std::io::Write;
-use step_file::{answers, print_log, print_rows, program, step, Fields, Row};
+use step_file::{answers, print_log, print_rows, program, step, Fields, Row, TURN, TURNS};
 
 const MESSAGES: usize = 128;
 const QUEUE: usize = 8;
@@ -22,7 +22,7 @@ struct Batch {
 impl Batch {
     fn first_of(queue: &[Entry]) -> Batch {
         let len = queue.len().min(BATCH);
-        let mut entries = [Entry::Take { process: 0, store: 0 }; BATCH];
+        let mut entries = [Entry::Take { process: 0, store: 0, turn: 0 }; BATCH];
         entries[..len].copy_from_slice(&queue[..len]);
         Batch { len, entries }
     }
@@ -45,7 +45,7 @@ enum Message {
     Accept { acceptor: u8, inst: u8, ballot: u8, batch: Batch },
     Acceptance { acceptor: u8, inst: u8, ballot: u8 },
     Outcome { process: u8, tx: u8, outcome: Outcome },
-    Restore { process: u8, store: u8, position: u8, rows: Vec<Row>, running: u32 },
+    Restore { process: u8, turn: u8, store: u8, position: u8, rows: Vec<Row>, running: u32 },
     Follow { process: u8, store: u8, tx: u8, followed: Followed },
 }
 
@@ -139,6 +139,7 @@ impl Coordinator {
 
 #[derive(Default)]
 struct Process {
+    turn: u8,
     heard: [Option<Outcome>; TRANSACTIONS],
     store: Option<u8>,
     position: u8,
@@ -148,8 +149,13 @@ struct Process {
 }
 
 impl Process {
-    fn restore(&mut self, store: u8, position: u8, rows: &Vec<Row>, running: u32) {
-        if position > self.position {
+    /// A process that begins this turn.
+    fn in_turn(turn: u8) -> Process {
+        Process { turn, ..Process::default() }
+    }
+
+    fn restore(&mut self, turn: u8, store: u8, position: u8, rows: &Vec<Row>, running: u32) {
+        if turn == self.turn && position > self.position {
             self.store = Some(store);
             self.position = position;
             self.rows.clone_from(rows);
@@ -195,6 +201,7 @@ enum Step {
     Restore { coord: u8, process: u8 },
     Follow { coord: u8, process: u8, tx: u8 },
     Crash { role: Role, id: u8 },
+    Back { process: u8, turn: u8 },
 }
 
 #[derive(Default)]
@@ -263,19 +270,28 @@ impl World {
                 self.down[role as usize] |= 1 << id;
                 Ok(())
             }
+            Step::Back { process, turn } => {
+                let present = &mut self.processes[process as usize];
+                refuse(5, self.acceptors == 0 || turn <= present.turn)?;
+                *present = Process::in_turn(turn);
+                self.down[Role::Process as usize] &= !(1 << process);
+                Ok(())
+            }
         }
     }
 
     fn request(&mut self, coord: u8, entry: Entry) -> Result<(), u32> {
-        let (process, vote) = match entry {
-            Entry::Take { process, .. } => (process, None),
-            Entry::Vote(vote) => (vote.process, Some(vote)),
+        let (process, turn, vote) = match entry {
+            Entry::Take { process, turn, .. } => (process, turn, None),
+            Entry::Vote(vote) => (vote.process, vote.turn, Some(vote)),
         };
+        let sender = &self.processes[process as usize];
         refuse(3, self.is_down(Role::Process, process) || self.is_down(Role::Coord, coord))?;
         refuse(
             5,
             self.acceptors == 0
-                || vote.is_some_and(|v| self.processes[process as usize].store != Some(v.by)),
+                || turn != sender.turn
+                || vote.is_some_and(|v| sender.store != Some(v.by)),
         )?;
         refuse(6, self.is_full(1))?;
         refuse(7, vote.is_some_and(|v| v.ill_formed()))?;
@@ -357,8 +373,8 @@ impl World {
             Message::Outcome { tx, outcome, .. } => {
                 self.processes[id as usize].heard[*tx as usize] = Some(*outcome)
             }
-            Message::Restore { store, position, rows, running, .. } => {
-                self.processes[id as usize].restore(*store, *position, rows, *running);
+            Message::Restore { turn, store, position, rows, running, .. } => {
+                self.processes[id as usize].restore(*turn, *store, *position, rows, *running);
             }
             &Message::Follow { store, tx, followed, .. } => {
                 self.processes[id as usize].follow(store, tx, followed);
@@ -384,6 +400,7 @@ impl World {
         refuse(6, self.is_full(1))?;
         self.messages.push(Message::Restore {
             process,
+            turn: c.log.holder_turn(store),
             store,
             position: c.applied,
             rows: c.log.replay(store),
@@ -431,7 +448,7 @@ impl World {
 impl Step {
     fn read(fields: &mut Fields, acceptors: u8) -> Option<Step> {
         // the most frequent first
-        const KINDS: [(&[u8], u8); 10] = [
+        const KINDS: [(&[u8], u8); 11] = [
             (b"deliver", 5),
             (b"take", 0),
             (b"vote", 1),
@@ -442,6 +459,7 @@ impl Step {
             (b"restore", 7),
             (b"follow", 8),
             (b"crash", 9),
+            (b"back", 10),
         ];
         let coord = |fields: &mut Fields| fields.decimal(b" coord=", 0..=2);
         let process = |fields: &mut Fields| fields.decimal(b" proc=", 1..=15);
@@ -473,7 +491,8 @@ impl Step {
             6 => Step::Tell { coord: coord(fields)?, process: process(fields)?, tx: tx(fields)? },
             7 => Step::Restore { coord: coord(fields)?, process: process(fields)? },
             8 => Step::Follow { coord: coord(fields)?, process: process(fields)?, tx: tx(fields)? },
-            _ => Step::read_crash(fields, acceptors)?,
+            9 => Step::read_crash(fields, acceptors)?,
+            _ => Step::Back { process: process(fields)?, turn: fields.decimal(TURN, TURNS)? },
         })
     }
 
@@ -491,7 +510,11 @@ impl Step {
 }
 
 fn run(input: &[u8], out: &mut Vec<u8>) {
-    let mut world = World { messages: Vec::with_capacity(MESSAGES), ..World::default() };
+    let mut world = World {
+        processes: std::array::from_fn(|_| Process::in_turn(1)),
+        messages: Vec::with_capacity(MESSAGES),
+        ..World::default()
+    };
     answers(input, out, |line| {
         let acceptors = world.acceptors;
         let step = step(line, |fields| Step::read(fields, acceptors));

@@ -15,11 +15,32 @@
  *     byte  4      tx        0 to 31, the transaction
  *     byte  5      list      bit s for store s
  *     byte  6      say       0 abort, 1 commit
- *     byte  7      0
+ *     byte  7      turn      1 to 255; 0 means 1
  *     bytes 8-15   update    low byte first
  *
- * A take has a kind, a process and a store. Its other numbers are 0, in a
- * record and in a call.
+ * A take has a kind, a process, a store and a turn. Its other numbers are 0, in
+ * a record and in a call.
+ *
+ * Turns
+ *   A machine that was repaired keeps its process number and comes back in a
+ *   later turn. It takes a store again by a take of that turn. A process votes
+ *   in the turn in which it took the store that it holds. So once its take of a
+ *   later turn is accepted, no vote of its earlier turns is.
+ *   A turn of 0 means 1, in a record and in a call. A new entry is stored with
+ *   1 then, and a lent record stays as it is. So a host whose machines never
+ *   come back gives 0 or 1 throughout.
+ *
+ * Records of version 2
+ *   In version 2 of this header byte 7 was 0, which means turn 1. So a buffer
+ *   of version 2 is a buffer of this version and says the same. Nothing is to
+ *   be converted. The other way round it is refused: version 2 answers
+ *   RELEASE_LOG_UNREADABLE where byte 7 is not 0.
+ *   A host that gives every entry turn 1 has the same entries accepted as
+ *   before. One answer is another: the process holds that store now, or held it
+ *   before and holds none now. This was 11, and is RELEASE_LOG_WRONG_TURN.
+ *   Such a host is changed at its calls, which have a turn before the update.
+ *   Look for a struct release_log_vote that is initialized without the names
+ *   of its members: what was its update would be its turn.
  *
  * Records of version 1
  *   In version 1 of this header an update had four bytes, and a record twelve.
@@ -50,11 +71,14 @@
  *   call.
  *
  * Order of the refusals
- *   The count is tried first, then the records in turn, then the call's own
- *   numbers, and the place for what is written last. The first that is wrong
- *   decides. Within one entry, a lent one or the new one, the lowest number
- *   that applies is given: RELEASE_LOG_UNREADABLE, then RELEASE_LOG_OUTSIDE,
- *   then the log's own refusals, 7 to 11.
+ *   The count is tried first, then the records, oldest first, then the call's
+ *   own numbers, and the place for what is written last. The first that is
+ *   wrong decides. Within one entry, a lent one or the new one, the first that
+ *   applies in this order is given: RELEASE_LOG_UNREADABLE,
+ *   RELEASE_LOG_OUTSIDE; of a vote RELEASE_LOG_ILL_FORMED,
+ *   RELEASE_LOG_NOT_HOLDER, RELEASE_LOG_OTHER_LIST, RELEASE_LOG_KEPT_ALREADY,
+ *   RELEASE_LOG_WRONG_TURN; of a take RELEASE_LOG_HOLDS_ANOTHER,
+ *   RELEASE_LOG_WRONG_TURN.
  */
 #ifndef RELEASE_LOG_H
 #define RELEASE_LOG_H
@@ -71,7 +95,7 @@ extern "C" {
  * or a value is another, or a call answers otherwise. MINOR changes if
  * something is added.
  */
-#define RELEASE_LOG_VERSION_MAJOR 2
+#define RELEASE_LOG_VERSION_MAJOR 3
 #define RELEASE_LOG_VERSION_MINOR 0
 
 /* The answer of a call: RELEASE_LOG_OK, or the refusal. */
@@ -94,8 +118,12 @@ enum {
 	RELEASE_LOG_OTHER_LIST = 9,
 	/* A vote of the store on the tx is kept already. */
 	RELEASE_LOG_KEPT_ALREADY = 10,
-	/* The process holds some store, or held this one before. */
-	RELEASE_LOG_HOLDS_OR_HELD = 11
+	/* The process holds another store now. */
+	RELEASE_LOG_HOLDS_ANOTHER = 11,
+	/* A take whose turn is below that of the process's last accepted take,
+	   of any store; or equal to it, and the process holds this store or
+	   held it before. A vote whose turn is not that of by's holder. */
+	RELEASE_LOG_WRONG_TURN = 12
 };
 
 /* The kind of an entry. */
@@ -125,8 +153,10 @@ enum {
 	RELEASE_LOG_INVOLVED_UNKNOWN = 2
 };
 
-/* Limits. Processes are 1 to 15; stores and transactions count from 0. */
+/* Limits. Processes are 1 to 15 and turns 1 to 255; stores and transactions
+   count from 0. */
 #define RELEASE_LOG_PROCESSES 15
+#define RELEASE_LOG_TURNS 255
 #define RELEASE_LOG_STORES 8
 #define RELEASE_LOG_TRANSACTIONS 32
 
@@ -135,12 +165,17 @@ enum {
 #define RELEASE_LOG_ROW_SIZE 10
 
 /*
- * The most records that a log accepts: each process takes each store at most
- * once, and each store votes on each transaction at most once. This bound is
- * counted by hand and not proved. A host that relies on it is still safe: an
- * entry without place is refused, RELEASE_LOG_NO_PLACE.
+ * An upper bound of the records that a log accepts. The turns of a process's
+ * accepted takes never fall. At most 255 of these takes have a higher turn than
+ * the one before, the first one counted. Each other one is of a store that the
+ * process never held, so there are at most 7. That is 262 takes for each of 15
+ * processes; and each of 8 stores has one kept vote on each of 32 transactions.
+ * This bound is counted by hand and not proved. A host that relies on it is
+ * still safe: an entry without place is refused, RELEASE_LOG_NO_PLACE. A host
+ * may well have less room: while every turn is 1, a log accepts at most 376,
+ * each process taking each store once.
  */
-#define RELEASE_LOG_RECORDS_MOST 376
+#define RELEASE_LOG_RECORDS_MOST 4186
 
 /* The bytes of a record buffer that has room for all of these. */
 #define RELEASE_LOG_RECORDS_ROOM \
@@ -155,15 +190,17 @@ enum {
  * A new entry.
  *
  * Takes the record buffer, its length in bytes and the count of its records,
- * and the entry's numbers; of a take all but kind, process and store are 0.
+ * and the entry's numbers. Of a take all but kind, process, store and turn are
+ * 0. A turn of 0 means 1, and 1 is stored.
  *
  * Answers, in this order:
  *   RELEASE_LOG_OUTSIDE     count records are more than records_len bytes
- *   a record's refusal      the first lent record that is refused: 1, 2, 7-11
+ *   a record's refusal      the first lent record that is refused: 1, 2, 7-12
  *   RELEASE_LOG_UNREADABLE  another kind or say; a take with a number too many
  *   RELEASE_LOG_OUTSIDE     a number outside its limits
  *   RELEASE_LOG_ILL_FORMED, RELEASE_LOG_NOT_HOLDER, RELEASE_LOG_OTHER_LIST,
- *   RELEASE_LOG_KEPT_ALREADY (a vote), RELEASE_LOG_HOLDS_OR_HELD (a take)
+ *   RELEASE_LOG_KEPT_ALREADY (a vote), RELEASE_LOG_HOLDS_ANOTHER (a take)
+ *   RELEASE_LOG_WRONG_TURN
  *   RELEASE_LOG_NO_PLACE    less than a record's bytes after the lent records
  *   RELEASE_LOG_OK          accepted
  *
@@ -173,7 +210,7 @@ enum {
  */
 uint32_t release_log_add(uint8_t *records, size_t records_len, size_t count,
     uint32_t kind, uint32_t process, uint32_t by, uint32_t store, uint32_t tx,
-    uint32_t list, uint32_t say, uint64_t update);
+    uint32_t list, uint32_t say, uint32_t turn, uint64_t update);
 
 /*
  * The outcome of a transaction.
@@ -183,7 +220,7 @@ uint32_t release_log_add(uint8_t *records, size_t records_len, size_t count,
  *
  * Answers, in this order:
  *   RELEASE_LOG_OUTSIDE     count records are more than records_len bytes
- *   a record's refusal      the first lent record that is refused: 1, 2, 7-11
+ *   a record's refusal      the first lent record that is refused: 1, 2, 7-12
  *   RELEASE_LOG_OUTSIDE     a tx above 31
  *   RELEASE_LOG_NO_PLACE    out_len is 0
  *   RELEASE_LOG_OK
@@ -201,7 +238,7 @@ uint32_t release_log_outcome(const uint8_t *records, size_t records_len,
  *
  * Answers, in this order:
  *   RELEASE_LOG_OUTSIDE     count records are more than records_len bytes
- *   a record's refusal      the first lent record that is refused: 1, 2, 7-11
+ *   a record's refusal      the first lent record that is refused: 1, 2, 7-12
  *   RELEASE_LOG_OUTSIDE     a tx above 31 or a store above 7
  *   RELEASE_LOG_NO_PLACE    out_len is 0
  *   RELEASE_LOG_OK
@@ -221,7 +258,7 @@ uint32_t release_log_involvement(const uint8_t *records, size_t records_len,
  *
  * Answers, in this order:
  *   RELEASE_LOG_OUTSIDE     count records are more than records_len bytes
- *   a record's refusal      the first lent record that is refused: 1, 2, 7-11
+ *   a record's refusal      the first lent record that is refused: 1, 2, 7-12
  *   RELEASE_LOG_OUTSIDE     a store above 7
  *   RELEASE_LOG_NO_PLACE    out_len is below 1 + 10 times the number of rows
  *   RELEASE_LOG_OK
@@ -235,13 +272,15 @@ uint32_t release_log_replay(const uint8_t *records, size_t records_len,
 
 /* A new take: release_log_add with a take's numbers. */
 static inline uint32_t release_log_add_take(uint8_t *records,
-    size_t records_len, size_t count, uint32_t process, uint32_t store)
+    size_t records_len, size_t count, uint32_t process, uint32_t store,
+    uint32_t turn)
 {
 	return release_log_add(records, records_len, count,
-	    RELEASE_LOG_KIND_TAKE, process, 0, store, 0, 0, 0, 0);
+	    RELEASE_LOG_KIND_TAKE, process, 0, store, 0, 0, 0, turn, 0);
 }
 
-/* The numbers of a vote, by name. */
+/* The numbers of a vote, by name. An initializer may leave out the turn: it is
+   0 then, which means 1. */
 struct release_log_vote {
 	uint32_t process;
 	uint32_t by;
@@ -249,6 +288,7 @@ struct release_log_vote {
 	uint32_t tx;
 	uint32_t list;
 	uint32_t say;
+	uint32_t turn;
 	uint64_t update;
 };
 
@@ -258,7 +298,7 @@ static inline uint32_t release_log_add_vote(uint8_t *records,
 {
 	return release_log_add(records, records_len, count,
 	    RELEASE_LOG_KIND_VOTE, vote->process, vote->by, vote->store,
-	    vote->tx, vote->list, vote->say, vote->update);
+	    vote->tx, vote->list, vote->say, vote->turn, vote->update);
 }
 
 #ifdef __cplusplus

@@ -1,6 +1,7 @@
 """Step files of `plain` about the log itself: document 01's cases, each refusal at its limits,
-groups, take-overs, the longest lists. make_plain_cases.py puts them among its own."""
+groups, take-overs, turns, the longest lists. make_plain_cases.py puts them among its own."""
 from plain_log import SHORT_DIGITS, UPDATE_DIGITS, joined, update_text
+from plain_reference import STEPS
 
 files = {}
 
@@ -16,24 +17,22 @@ def put(line):
     files[list(files)[-1]].append(line.encode())
 
 
-def take(process, store):
-    put("do=take proc=%d store=%d" % (process, store))
+def take(process, store, turn=None):
+    put(STEPS.text("take", process, store, turn=turn))
 
 
-def vote(process, by, store, tx, list_, say, update=0, digits=UPDATE_DIGITS):
+def vote(process, by, store, tx, list_, say, update=0, digits=UPDATE_DIGITS, turn=None):
     says = {"c": "commit", "a": "abort"}[say]
-    put(
-        "do=vote proc=%d by=%d store=%d tx=%d list=%02x say=%s upd=%s"
-        % (process, by, store, tx, list_, says, update_text(update, digits))
-    )
+    values = process, by, store, tx, "%02x" % list_, says, update_text(update, digits)
+    put(STEPS.text("vote", *values, turn=turn))
 
 
-def commit(store, tx, list_, update=0):
-    vote(store + 1, store, store, tx, list_, "c", update)
+def commit(store, tx, list_, update=0, turn=None):
+    vote(store + 1, store, store, tx, list_, "c", update, turn=turn)
 
 
-def abort(store, tx, list_):
-    vote(store + 1, store, store, tx, list_, "a")
+def abort(store, tx, list_, turn=None):
+    vote(store + 1, store, store, tx, list_, "a", turn=turn)
 
 
 # P1 to P10
@@ -98,8 +97,8 @@ case("kept-in-either-form")
 for tx, first, then in ((0, SHORT_DIGITS, UPDATE_DIGITS), (1, UPDATE_DIGITS, SHORT_DIGITS)):
     vote(1, 0, 0, tx, 0x01, "c", 10, first); vote(1, 0, 0, tx, 0x01, "c", 10, then); vote(1, 0, 0, tx, 0x01, "c", 2**32 + 10); vote(1, 0, 0, tx, 0x01, "c", 11)
 
-# 11: holds it, holds another, held it before; a process that lost a store may take one it never
-# held
+# 11: holds another now; 12: holds it, or held it before and holds none; a process that lost a store
+# may take one it never held
 case("holds-or-held", holders=False)
 take(1, 0); take(1, 0); take(1, 1); take(2, 0); take(1, 0); take(1, 1); take(2, 1); take(3, 0); take(3, 1); take(2, 1); take(2, 0); take(1, 2)
 
@@ -146,6 +145,113 @@ case("every-take", holders=False)
 for r in range(16):
     for s in range(8):
         take((r + s) % 15 + 1, s)
+
+# Turns. A line without one means turn 1
+case("turn-limits", holders=False)
+for t in (0, 256, 999, 65537, 1, 255):
+    take(1, 0, t)
+for t in (0, 256, 999, 65537, 255):
+    vote(1, 0, 0, 0, 0x01, "c", 1, turn=t)
+case("turns-and-none", holders=False)
+take(1, 0); take(2, 1, 1); vote(1, 0, 0, 0, 0x03, "c", 1, turn=1); vote(2, 1, 1, 0, 0x03, "c", 2)
+take(1, 0, 1); take(2, 1); vote(1, 0, 0, 0, 0x03, "c", 1)
+# the first take of a process may have any turn; then its votes have that one
+case("turns-of-a-first-take", holders=False)
+take(1, 0, 7); take(2, 1, 255); take(3, 2)
+for t in (None, 1, 6, 8, 255, 7):
+    vote(1, 0, 0, 0, 0x01, "c", 7, turn=t)
+for t in (None, 1, 7, 254, 255):
+    vote(2, 1, 1, 1, 0x02, "c", 255, turn=t)
+for t in (2, 7, 255, None):
+    vote(3, 2, 2, 2, 0x04, "c", 1, turn=t)
+
+# its own store again: the same turn or an earlier one is 12, a later one accepted
+case("turns-of-its-own-store", holders=False)
+take(1, 0); take(1, 0); take(1, 0, 2); take(1, 0, 2); take(1, 0); take(1, 0, 9); take(1, 0, 8)
+take(1, 0, 3); take(1, 0, 255); take(1, 0, 254); take(1, 0, 255)
+# another store while it holds one is 11 whatever the turn, also an earlier one
+case("turns-of-another-store", holders=False)
+take(1, 0, 3); take(1, 1, 3); take(1, 1, 4); take(1, 1, 2); take(1, 1); take(1, 1, 255)
+take(1, 0, 4); take(2, 0); take(1, 1, 3); take(1, 1, 4); take(1, 0, 5); take(1, 1, 5)
+# the last accepted turn of a process is that of its last take, of whatever store
+case("turns-below-the-last", holders=False)
+take(1, 0, 5); take(2, 0); take(1, 1, 4); take(1, 1); take(1, 1, 5); take(3, 1); take(1, 2, 4)
+take(1, 2, 6); take(4, 2); take(1, 3, 5); take(1, 3, 6)
+# and each process has its own
+take(5, 4, 9); take(6, 5, 2); take(7, 6); take(6, 5, 3); take(7, 6, 2)
+# it held store 0 in turn 1 and store 1 in turn 2: in turn 2 it takes neither, but one that it never
+# held; in turn 3 any
+case("turns-held-before", holders=False)
+take(1, 0); take(2, 0); take(1, 1, 2); take(3, 1); take(1, 0, 2); take(1, 0, 1); take(1, 1, 2)
+take(1, 2, 1); take(1, 2, 2); take(1, 0, 3); take(4, 2); take(1, 2, 2); take(1, 0, 3)
+# the store goes to and fro, a turn later each time; turns between may be left out
+case("turns-to-and-fro", holders=False)
+for t in (1, 2, 4, 100, 255):
+    take(1, 0, t); take(2, 0, t); vote(1, 0, 0, t % 32, 0x01, "c", t, turn=t)
+    vote(2, 0, 0, t % 32, 0x01, "c", t, turn=t)
+    take(1, 0, t); take(2, 0, t)
+
+# a vote has the turn of the holder of by, also on behalf of a store whose holder has another
+case("turns-on-behalf", holders=False)
+take(1, 0, 2); take(2, 1, 5)
+for tx, t in enumerate((None, 1, 5, 3, 2)):
+    vote(1, 0, 1, tx, 0x03, "a", turn=t)
+for tx, t in enumerate((None, 2, 4, 6, 5)):
+    vote(2, 1, 0, 8 + tx, 0x03, "a", turn=t)
+vote(1, 0, 2, 16, 0x05, "a", turn=5); vote(1, 0, 2, 16, 0x05, "a", turn=2)
+
+# 12 is last: after 2, 7, 8, 9 and 10 of a vote, and after 2 and 11 of a take
+case("turns-refused-last", holders=False)
+take(1, 0, 2); take(2, 1); vote(1, 0, 0, 0, 0x03, "c", 1, turn=2)
+vote(1, 0, 0, 32, 0x01, "c", turn=1); vote(1, 0, 0, 0, 0x02, "c", turn=1)
+vote(1, 0, 1, 0, 0x03, "c", turn=1); vote(1, 0, 0, 1, 0x01, "a", 1, turn=1)
+vote(2, 0, 0, 0, 0x03, "c", turn=2); vote(3, 0, 0, 0, 0x03, "c", turn=2)
+vote(1, 2, 2, 0, 0x04, "c", turn=1)
+vote(1, 0, 0, 0, 0x07, "c", turn=1); vote(1, 0, 0, 0, 0x07, "a", turn=1)
+vote(1, 0, 0, 0, 0x03, "c", 1, turn=1); vote(1, 0, 0, 0, 0x01, "a", turn=3)
+vote(1, 0, 0, 0, 0x03, "c", 1, turn=2); vote(1, 0, 0, 1, 0x01, "c", turn=1)
+vote(1, 0, 0, 1, 0x01, "c", turn=0); vote(1, 0, 0, 1, 0x01, "c", turn=2)
+take(1, 1, 1); take(1, 8, 1); take(1, 0, 1); take(1, 0, 0); take(0, 0, 1)
+
+# votes of the turns before: kept until the take of a later turn, refused after it, on behalf too
+case("turns-of-late-votes")
+commit(0, 0, 0x03, 1); vote(1, 0, 2, 1, 0x05, "a"); take(1, 0, 2); commit(0, 2, 0x01, 2)
+vote(1, 0, 2, 3, 0x05, "a"); commit(0, 0, 0x03, 1); commit(0, 0, 0x07, 1)
+commit(0, 2, 0x01, 3, turn=2); commit(1, 0, 0x03, 4); take(1, 0, 4); commit(0, 4, 0x01, 5)
+commit(0, 4, 0x01, 6, turn=2); commit(0, 4, 0x01, 7, turn=3)
+commit(0, 4, 0x01, 8, turn=5); commit(0, 4, 0x01, 9, turn=4); abort(0, 5, 0x01, turn=2)
+abort(0, 5, 0x01, turn=4)
+# a lost store: 8 whatever the turn
+take(9, 0, 4); commit(0, 6, 0x01, turn=4); commit(0, 6, 0x01, turn=5)
+vote(9, 0, 0, 6, 0x01, "c", turn=4)
+
+# a late take of turn 1 is accepted before any later one: then another store is 11 in turn 2, the
+# same one accepted, and so is another once that store is lost
+case("turns-of-late-takes", holders=False)
+take(1, 0); take(1, 1, 2); take(1, 0, 2); take(1, 1, 2); take(2, 0); take(1, 1, 2); take(1, 0, 1)
+take(1, 2, 1)
+take(3, 2); take(3, 3, 2); take(4, 2); take(3, 3, 2)
+
+# a process that holds its store in every turn; another that begins with the last one
+case("every-turn", holders=False)
+for t in range(1, 256):
+    take(1, 0, t); take(2, 1, 256 - t)
+for t in range(1, 256):
+    vote(1, 0, 0, t % 32, 0x01, "c", t, turn=t)
+for t in range(1, 200):
+    take(2, 1, t)
+# two of them, more entries than a log without turns accepts; then both vote on everything
+case("most-turns", holders=False)
+for t in range(1, 256):
+    take(1, 0, t); take(2, 1, t)
+for tx in range(32):
+    vote(1, 0, 0, tx, 0x03, "c", tx, turn=255); vote(2, 1, 1, tx, 0x03, "c", tx, turn=255)
+# every process takes every store, in each of three turns
+case("every-take-of-three-turns", holders=False)
+for t in (1, 2, 255):
+    for r in range(16):
+        for s in range(8):
+            take((r + s) % 15 + 1, s, t)
 
 
 def cases():

@@ -6,18 +6,19 @@ with args (the names) and stdout (each name, what plain_reference.py prints, and
 import case_files
 import log_cases
 import plain_reference as reference
+import turn_texts
 import update_texts
 from plain_log import SHORT_DIGITS, STORES, TXS, UPDATE_DIGITS, Log, joined, printed, update_text
 
 INVOLVED = {"no": "0", "yes": "1", "unknown": "2"}
 
 
-def vote(p=1, by=0, store=0, tx=0, lst="01", say="commit", upd=update_text(1)):
-    return ("do=vote proc=%s by=%s store=%s tx=%s list=%s say=%s upd=%s" % (p, by, store, tx, lst, say, upd)).encode()
+def vote(p=1, by=0, store=0, tx=0, lst="01", say="commit", upd=update_text(1), turn=None):
+    return reference.STEPS.text("vote", p, by, store, tx, lst, say, upd, turn=turn).encode()
 
 
-def take(p=1, store=0):
-    return ("do=take proc=%s store=%s" % (p, store)).encode()
+def take(p=1, store=0, turn=None):
+    return reference.STEPS.text("take", p, store, turn=turn).encode()
 
 
 def lines(*rows):
@@ -84,6 +85,26 @@ def update_cases():
     yield "updates", lines(take(), *[vote(tx=i, upd=text) for i, text in enumerate(update_texts.values())])
 
 
+def turn_cases():
+    """The field turn= at every place of takes and votes, with numbers and bytes of all sorts."""
+    rows = [take().decode(), vote(tx=1).decode()]
+    open_rows = [take(turn="T").decode(), vote(turn="T").decode()]
+    numbers = list(enumerate(turn_texts.NUMBERS))
+    yield "turn-numbers", lines(*[take(1 + i % 15, i % 8, turn=n) for i, n in numbers])
+    yield "vote-turn-numbers", lines(take(), *[vote(tx=i % TXS, turn=n) for i, n in numbers])
+    places = [text.encode() for row in rows for text in turn_texts.places(row)]
+    yield "turn-places", lines(take(), *places)
+    yield "turn-bytes", lines(*turn_texts.each_byte(open_rows[0]))
+    votes = turn_texts.each_byte(open_rows[1])
+    yield "vote-turn-bytes", lines(take(turn=200), *votes)  # none is of turn 200
+    yield "bytes-of-turns", lines(*[t.encode() for row in open_rows for t in turn_texts.long(row)])
+    longest = vote(15, 7, 7, 31, "ff", "commit", update_text(2**64 - 1), turn=255)
+    yield "longest-line", lines(take(15, 7, turn=255), longest, longest + b" ", longest + b"0")
+    yield "turn-unreadable-before-outside", lines(
+        take(99, turn="x"), take("x", turn=999), take(turn=999, store="x"), take(99, 99, turn=999),
+        vote(turn=0, upd="x"), vote(p=99, turn="01"), vote(turn=256, tx="01"))
+
+
 def step_cases():
     yield "document-01", lines(
         take(1, 0), take(2, 1), vote(1, 0, 0, 4, "03", upd="0000000a"), vote(2, 1, 1, 4, "03", upd="0000000b"), vote(2, 1, 1, 4, "03", "abort", "00000000"))
@@ -109,7 +130,7 @@ def step_cases():
 
 
 def cases():
-    for group in (shape_cases, value_cases, update_cases, step_cases, log_cases.cases):
+    for group in (shape_cases, value_cases, update_cases, turn_cases, step_cases, log_cases.cases):
         yield from group()
 
 

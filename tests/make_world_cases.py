@@ -6,11 +6,12 @@ with args (the names) and stdout (each name, then what world_reference.py prints
 world_by_hand.py have their output reasoned by hand: where the reference differs from it, nothing is
 written."""
 import case_files
+import turn_texts
 import update_texts
 import world_reference as reference
 from plain_log import FORMS, SHORT_DIGITS, TXS, joined as lines, update_text
 from world_by_hand import BY_HAND, parts
-from world_random import followed_script, guided_script, random_script
+from world_random import followed_script, guided_script, random_script, returned_script
 from world_script import Script, step
 
 GOOD = {
@@ -18,6 +19,8 @@ GOOD = {
     "deliver": (12,), "tell": (1, 12, 31), "restore": (1, 12), "follow": (1, 12, 31), "crash": ("acceptor", 1),
 }
 SHORT_VOTE = step("vote", 1, 0, 0, 4, "01", "commit", update_text(10, SHORT_DIGITS), 0)
+BACK = (12, 25)
+TURNS = (None, 0, 1, 2, 3, 254, 255, 256)  # None is a line without the field
 
 
 # Bytes and lines
@@ -59,8 +62,8 @@ def line_cases():
 
 # Reading: every kind of step with one thing wrong
 
-def reading_cases():
-    good = [step(name, *values) for name, values in GOOD.items()] + [SHORT_VOTE]
+def wrong_cases(good):
+    """By name, the good lines with one thing wrong."""
     every = [(row, i) for row in good for i in range(len(row))]
     yield "one-byte-less", lines((row[:i] + row[i + 1:]).encode() for row, i in every)
     yield "one-byte-twice", lines((row[:i] + row[i] + row[i:]).encode() for row, i in every)
@@ -71,6 +74,10 @@ def reading_cases():
     yield "fields", lines(" ".join(fields).encode() for f in spaced for i in range(1, len(f)) for fields in (
         f[:i] + f[i + 1:], f[:i] + [f[i]] + f[i:], f[:i] + [f[i] + " "] + f[i + 1:], f[:i] + [f[i].replace("=", "")] + f[i + 1:],
         f[:i] + [f[i].split("=")[0] + "="] + f[i + 1:], f[:i - 1] + [f[i], f[i - 1]] + f[i + 1:], f + [f[i]], f + ["to=0"]))
+
+
+def reading_cases():
+    yield from wrong_cases([step(name, *values) for name, values in GOOD.items()] + [SHORT_VOTE])
     yield "words", lines(text.encode() for text in (
         "", "do", "do=", "do= ", "do=take", "do=take ", "take proc=1 store=0 to=0", "do=taken proc=1 store=0 to=0", "do= take proc=1 store=0 to=0",
         "Do=take proc=1 store=0 to=0", " do=take proc=1 store=0 to=0", "do=take\tproc=1 store=0 to=0", "do=take proc=1 store=0",
@@ -86,6 +93,44 @@ def reading_cases():
         yield name, lines([b"do=setup acceptors=3"] + [vote.replace(b"upd=", b"upd=" + text) for text in texts])
 
 
+def turn_reading_cases():
+    """The same of lines with a turn; the field at every place of every kind of step."""
+    take, vote = (step(name, *GOOD[name], turn=25) for name in ("take", "vote"))
+    for name, data in wrong_cases([step("back", *BACK), take, vote]):
+        yield "turns-" + name, data
+    for name, values in {**GOOD, "back": BACK}.items():
+        script = Script(0 if name == "setup" else 3)
+        for text in turn_texts.places(step(name, *values)):
+            script.row(text)
+        yield "turn-places-of-" + name, script.data()
+    script = Script()
+    held(script)
+    for text in turn_texts.NUMBERS:
+        script.step("take", 3, 2, 0, turn=text)
+        script.step("vote", *GOOD["vote"], turn=text)
+        script.step("back", 4, text)
+    yield "numbers-of-turns", script.data()
+    script = Script()
+    held(script)
+    for name, values in (("take", (3, 2, 0)), ("vote", GOOD["vote"])):
+        for text in turn_texts.long(step(name, *values, turn="T")):
+            script.row(text)
+    for text in turn_texts.long(step("back", 4, "T")):
+        script.row(text)
+    yield "bytes-of-turns", script.data()
+    for name, values in (("take", (3, 2, 0)), ("vote", GOOD["vote"])):
+        script = Script()
+        held(script)
+        script.back(3, 200)  # a turn that no line names
+        for line in turn_texts.each_byte(step(name, *values, turn="T")):
+            script.row(line)
+        yield "turn-bytes-of-" + name, script.data()
+    script = Script()
+    for line in turn_texts.each_byte(step("back", 4, "T")):
+        script.row(line)
+    yield "turn-bytes-of-back", script.data()
+
+
 NUMBERS = ["0", "1", "2", "3", "4", "5", "6", "7", "8", "14", "15", "16", "17", "30", "31", "32", "33", "126", "127", "128", "129", "254", "255", "256",
            "257", "258", "259", "271", "383", "511", "512", "65535", "65536", "65537", "65539", "4294967295", "4294967296", "4294967297", "4294967299",
            "18446744073709551615", "18446744073709551616", "18446744073709551617", "18446744073709551619",
@@ -96,7 +141,7 @@ def number_cases():
     """Each number of each kind of step, at its limits and beyond."""
     for name, values in GOOD.items():
         script = Script(0 if name == "setup" else 5)
-        for place, key in enumerate(reference.FIELDS[name].split()):
+        for place, key in enumerate(reference.STEPS.keys(name)):
             if key not in FORMS:
                 for number in NUMBERS:
                     if name == "crash":
@@ -107,7 +152,7 @@ def number_cases():
         yield "numbers-of-" + name, script.data()
     script = Script()
     for name, values in GOOD.items():
-        for place, key in enumerate(reference.FIELDS[name].split()):
+        for place, key in enumerate(reference.STEPS.keys(name)):
             if key not in FORMS:
                 for first in "1", "9", "0":
                     room = 100 - len(step(name, *values[:place], "", *values[place + 1:]))
@@ -195,6 +240,47 @@ def sweep_cases():
             script.crash(*down)
         sweep(script)
         yield "every-step-down-" + name, script.data()
+
+
+def turn_sweep(script):
+    """Steps that have a turn, with turns of all sorts, while processes crash and come back."""
+    processes = (0, 1, 2, 15, 16)
+    for now in (1, 2, 3, 2, 255):
+        for p in processes:
+            script.back(p, now)
+            for turn in TURNS:
+                script.step("take", p, p % 8, p % 3, turn=turn)
+                script.step("vote", p, 0, 0, 9, "01", "commit", update_text(5), 0, turn=turn)
+                script.step("vote", p, 1, 0, 9, "02", "abort", update_text(0), 1, turn=turn)
+        for p in (1, 2, 15):
+            script.deliver(*script.restore(0, p), *script.tell(0, p, 0), *script.follow(0, p, 0))
+        script.crash("proc", 1)
+    for p in processes:
+        for turn in TURNS[1:]:
+            script.back(p, turn)
+
+
+def turn_sweep_cases():
+    script = Script(0)
+    turn_sweep(script)
+    yield "every-turn-before-setup", script.data()
+    for acceptors in (3, 5):
+        script = Script(acceptors)
+        turn_sweep(script)
+        yield "every-turn-fresh-%d" % acceptors, script.data()
+    for left in (0, 1):
+        script = busy()
+        script.leave(left)
+        turn_sweep(script)
+        yield "every-turn-%d-left" % left, script.data()
+    script = busy()
+    turn_sweep(script)
+    yield "every-turn-busy", script.data()
+    for role, i in (("proc", 1), ("coord", 0), ("coord", 1)):
+        script = busy()
+        script.crash(role, i)
+        turn_sweep(script)
+        yield "every-turn-down-%s-%d" % (role, i), script.data()
 
 
 # The last message numbers, at each kind of step that sends
@@ -492,10 +578,83 @@ def full_queues():
     yield "full-queues", script.data()
 
 
+def every_turn_back():
+    script = Script()
+    for turn in range(1, 257):  # one by one; from the last down; each with the ones below it
+        script.back(1, turn)
+        script.back(2, 256 - turn)
+    for turn in range(1, 256, 6):
+        for below in (0, 1, turn // 2, turn - 1, turn, turn + 1, turn):
+            script.back(3, below)
+            if below == turn + 1:
+                script.crash("proc", 3)
+    yield "every-turn-back", script.data()
+
+
+def machines_come_back():
+    script = Script()
+    script.hold(*((s + 1, s) for s in range(4)))
+    votes = [script.commit(s + 1, s, 7, "0f", 16 + s) for s in range(4)]
+    script.queue(*votes[:2])
+    script.learn(0, 3)
+    for p in range(1, 5):
+        if p % 2:
+            script.crash("proc", p)
+        script.back(p, 2 + p)
+    script.hold(*((s + 1, s) for s in range(4)))  # the restores of stores 0 and 1 list 7
+    script.queue(*votes)  # 10 and 12
+    script.learn(0, 3)
+    script.queue(*(script.commit(p, p - 1, 7, "0f", 32 + p) for p in (3, 4)))
+    script.learn(0, 3)
+    for p in range(1, 5):
+        script.deliver(*script.follow(0, p, 7), *script.tell(0, p, 7))
+    script.deliver(*script.restore(0, 4), *script.restore(0, 3))
+    yield "machines-come-back", script.data()
+
+
+def turn_after_turn():
+    """A late vote of the turn before comes before the take of the next turn, or behind it."""
+    script = Script()
+    script.hold((1, 0))
+    for turn in range(2, 11):
+        late = script.commit(1, 0, turn, "01", turn)
+        late += script.restore(0, 1)
+        if turn % 3:
+            script.crash("proc", 1)
+        script.back(1, turn if turn < 10 else 255)
+        take = script.take(1, 0)
+        script.deliver(*(late[:1] + take if turn % 2 else take + late[:1]))
+        if script.world.left() > 10:
+            script.learn(0, 3)
+        script.deliver(*late)
+        script.deliver(*script.restore(0, 1))
+    yield "turn-after-turn", script.data()
+
+
+def turns_and_coordinators():
+    """Each coordinator has the take of another turn in its queue, and all learn the same."""
+    script = Script()
+    takes = []
+    for c in (0, 1, 2):
+        takes.append(script.take(1, 0, c))
+        script.back(1, c + 2)
+    script.queue(*takes)
+    for c, ballot in ((2, 2), (0, 3), (1, 4)):  # instance 0: turn 3
+        script.learn(c, ballot)
+    for c, ballot in ((0, 3), (1, 4)):  # instance 1: turn 1, which is 12
+        script.learn(c, ballot)
+    script.queue(*(script.take(1, 0, c) for c in (1, 2)))
+    script.learn(1, 4)  # instance 2: turn 2, and turn 4
+    for c in range(3):
+        script.deliver(*script.restore(c, 1))  # of turns 3, 4 and 3
+    yield "turns-and-coordinators", script.data()
+
+
 TRAFFIC = (
     most_instances, eight_stores_two_down, outbid, every_ballot, learned_by_three_and_all_again,
     everything_thrice, everything_backwards, takeovers, restores_of_three_stores, groups,
     every_transaction_running, many_follows, sender_down, equal_entries, batch_of_another, entries_that_differ_in_one_value, full_queues,
+    every_turn_back, machines_come_back, turn_after_turn, turns_and_coordinators,
 )
 
 
@@ -510,6 +669,8 @@ def random_cases():
     for seed in range(10):
         yield "guided-%d" % seed, guided_script(seed).data()
         yield "followed-%d" % seed, followed_script(seed).data()
+    for seed in range(20):
+        yield "returned-%d" % seed, returned_script(seed).data()
 
 
 def cases():
@@ -517,7 +678,8 @@ def cases():
         steps, expected = parts(text)
         assert reference.run(steps) == expected, name
         yield name, steps
-    for group in (byte_cases, line_cases, reading_cases, number_cases, sweep_cases, last_number_cases, traffic_cases, random_cases):
+    for group in (byte_cases, line_cases, reading_cases, turn_reading_cases, number_cases,
+                  sweep_cases, turn_sweep_cases, last_number_cases, traffic_cases, random_cases):
         yield from group()
 
 

@@ -1,5 +1,6 @@
 """The plain log of document 01, and how step files are read and answered: what the references
-share. An update is as wide as document 02, request 3, makes it.
+share. An update is as wide as document 02, request 3, makes it, and entries have the turns of its
+request 4.
 
 It is written from the documents' sentences alone and shares no code, table or layout with the
 crates."""
@@ -10,13 +11,15 @@ from collections import namedtuple
 
 LINES, BYTES = 1000, 100
 TXS, STORES, PROCESSES = 32, 8, 15
+FIRST_TURN, LAST_TURN = 1, 255  # the first one also where a line names none
 UPDATE_DIGITS, SHORT_DIGITS = 16, 8  # of an update: as written, and as also read
 
-Take = namedtuple("Take", "process store")
-Vote = namedtuple("Vote", "process by store tx stores commit update")
+Take = namedtuple("Take", "process turn store")
+Vote = namedtuple("Vote", "process turn by store tx stores commit update")
 
 LIMITS = {
     "proc": range(1, PROCESSES + 1),
+    "turn": range(FIRST_TURN, LAST_TURN + 1),
     "store": range(STORES),
     "by": range(STORES),
     "tx": range(TXS),
@@ -37,7 +40,7 @@ def stores_of(bits):
 
 def outside(entry):
     """A number is outside its limits."""
-    values = {"proc": entry.process, "store": entry.store}
+    values = {"proc": entry.process, "turn": entry.turn, "store": entry.store}
     if isinstance(entry, Vote):
         values.update(by=entry.by, tx=entry.tx)
     return any(number not in LIMITS[key] for key, number in values.items())
@@ -54,16 +57,25 @@ def malformed(vote):
 class Log:
     def __init__(self):
         self.kept = {}  # (tx, store): Vote
-        self.holders = [[] for _ in range(STORES)]  # by store, the last one is the holder
+        self.takes = [[] for _ in range(STORES)]  # accepted, by store; the last is the holder's
+        self.turns = {}  # process: the turn of its last accepted take, of whatever store
         self.groups = (
             []
         )  # for each, its transactions and those running just before its first commit
 
     def holder(self, store):
-        return self.holders[store][-1] if self.holders[store] else 0
+        return self.takes[store][-1].process if self.takes[store] else 0
+
+    def holder_turn(self, store):
+        """The turn in which the holder took the store; 0 if nobody holds it."""
+        return self.takes[store][-1].turn if self.takes[store] else 0
 
     def held_by(self, process):
         return [s for s in range(STORES) if self.holder(s) == process]
+
+    def ever_held(self, process, store):
+        """The process holds the store or held it before, in whatever turn."""
+        return any(take.process == process for take in self.takes[store])
 
     def txs(self):
         """The transactions with a kept vote."""
@@ -100,8 +112,11 @@ class Log:
 
     def refusal(self, entry):
         if isinstance(entry, Take):
+            last, held = self.turns.get(entry.process, 0), self.held_by(entry.process)
+            again = self.ever_held(entry.process, entry.store)
             return lowest(
-                (11, self.held_by(entry.process) or entry.process in self.holders[entry.store])
+                (11, any(store != entry.store for store in held)),
+                (12, entry.turn < last or (entry.turn == last and again)),
             )
         lists = [v.stores for v in self.votes(entry.tx) if v.commit]
         return lowest(
@@ -109,6 +124,7 @@ class Log:
             (8, self.holder(entry.by) != entry.process),
             (9, any(entry.stores != l if entry.commit else not entry.stores <= l for l in lists)),
             (10, (entry.tx, entry.store) in self.kept),
+            (12, self.holder_turn(entry.by) != entry.turn),
         )
 
     def enter(self, entry):
@@ -117,7 +133,8 @@ class Log:
         if answer:
             return answer
         if isinstance(entry, Take):
-            self.holders[entry.store].append(entry.process)
+            self.takes[entry.store].append(entry)
+            self.turns[entry.process] = entry.turn
             return 0
         running = self.running()
         self.kept[entry.tx, entry.store] = entry
@@ -175,18 +192,28 @@ VALUES = {
     "say": lambda text: text == b"commit",
     "role": bytes.decode,
 }
+ABSENT = {"turn": b"%d" % FIRST_TURN}  # what a line means that lacks the field
 
 
 class Reader:
-    """Reads the lines of a program whose steps have these keys, in this order."""
+    """Reads the lines of a program whose steps have these keys, in this order. A key with a ? may
+    lack."""
 
     def __init__(self, fields):
-        self.keys = {name: keys.split() for name, keys in fields.items()}
+        self.fields = {name: keys.split() for name, keys in fields.items()}
         self.forms = {name.encode(): re.compile(self.form(name).encode()) for name in fields}
 
     def form(self, name):
-        fields = [" %s=(%s)" % (key, FORMS.get(key, DECIMAL)) for key in self.keys[name]]
-        return "do=" + name + "".join(fields)
+        return "do=" + name + "".join(map(self.field_form, self.fields[name]))
+
+    def field_form(self, field):
+        key = field.rstrip("?")
+        form = " %s=(%s)" % (key, FORMS.get(key, DECIMAL))
+        return "(?:%s)?" % form if key != field else form
+
+    def keys(self, name):
+        """Those that no line of the step lacks."""
+        return [field for field in self.fields[name] if not field.endswith("?")]
 
     def read(self, line):
         """The step's name and values by key, or None."""
@@ -194,11 +221,17 @@ class Reader:
         match = name in self.forms and self.forms[name].fullmatch(line)
         if not match or len(line) > BYTES:
             return None
-        keys = self.keys[name.decode()]
-        return name.decode(), {k: VALUES.get(k, int)(v) for k, v in zip(keys, match.groups())}
+        keys = [field.rstrip("?") for field in self.fields[name.decode()]]
+        texts = [ABSENT.get(k) if v is None else v for k, v in zip(keys, match.groups())]
+        return name.decode(), {k: VALUES.get(k, int)(v) for k, v in zip(keys, texts)}
 
-    def text(self, name, *values):
-        return "do=" + name + "".join(" %s=%s" % pair for pair in zip(self.keys[name], values))
+    def text(self, name, *values, **others):
+        """A line of the step, from the values of its keys. The others are those that may lack; one
+        that is None does."""
+        given = {**dict(zip(self.keys(name), values)), **others}
+        keys = [field.rstrip("?") for field in self.fields[name]]
+        pairs = ((key, given.get(key)) for key in keys)
+        return "do=" + name + "".join(" %s=%s" % pair for pair in pairs if pair[1] is not None)
 
 
 def lines_of(data):

@@ -6,7 +6,7 @@
 """
 from plain_log import Log, Reader, Take, Vote, printed, reference_main
 
-STEPS = Reader({"take": "proc store", "vote": "proc by store tx list say upd"})
+STEPS = Reader({"take": "proc turn? store", "vote": "proc turn? by store tx list say upd"})
 ENTRIES = {"take": Take, "vote": Vote}
 
 

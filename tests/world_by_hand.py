@@ -128,7 +128,7 @@ coord=2 applied=0
 
 # Eight entries fill the queue; a ninth is 6 until a batch is learned, an equal one is 0. The
 # batches are the entries in their order, by four. A learned entry that is delivered again is queued
-# again, and then refused by the log (11).
+# again, and then refused by the log (12).
 QUEUE = ("setup acceptors=3 -> 0\n"
          + "".join("take proc=%d store=%d to=0 -> 0\n" % (s + 1, s) for s in range(8))  # 0 to 7
          + "".join("deliver msg=%d -> 0\n" % s for s in range(8)) + """
@@ -1339,6 +1339,630 @@ proc=1 tx=4 heard=abort
 proc=1 store=0 position=1
 """
 
+# A machine votes, crashes and comes back with turn 2: it has heard nothing and holds nothing. Lines
+# of turn 1 and of a turn to come are refused 5. It takes its store again, is restored, and votes.
+BACK = ONE_HOLDER + """
+vote proc=1 by=0 store=0 tx=4 list=01 say=commit upd=0000000a to=0 -> 0 # 12
+deliver msg=12 -> 0
+""" + learn(0, 1, 3, 13) + """
+tell coord=0 proc=1 tx=4 -> 0 # 23
+deliver msg=23 -> 0 # heard
+crash role=proc id=1 -> 0
+take proc=1 turn=2 store=0 to=0 -> 3 # also 5
+back proc=1 turn=2 -> 0 # no number used
+take proc=1 store=0 to=0 -> 5 # turn 1
+take proc=1 turn=1 store=0 to=0 -> 5
+take proc=1 turn=3 store=0 to=0 -> 5
+vote proc=1 by=0 store=0 tx=5 list=01 say=commit upd=0000000b to=0 -> 5 # turn 1
+vote proc=1 turn=2 by=0 store=0 tx=5 list=01 say=commit upd=0000000b to=0 -> 5 # holds nothing
+take proc=1 turn=2 store=0 to=0 -> 0 # 24
+deliver msg=24 -> 0
+""" + learn(0, 2, 3, 25) + """
+restore coord=0 proc=1 -> 0 # 35: turn 2, position 3, one row
+deliver msg=35 -> 0
+vote proc=1 turn=2 by=0 store=0 tx=5 list=01 say=commit upd=0000000b to=0 -> 0 # 36
+deliver msg=36 -> 0
+""" + learn(0, 3, 3, 37) + """
+tell coord=0 proc=1 tx=5 -> 0 # 47
+deliver msg=47 -> 0
+---
+coord=0 applied=4
+tx=4 outcome=commit group=1
+tx=5 outcome=commit group=2
+store=0 holder=1
+store=0 group=1 tx=4 upd=000000000000000a
+store=0 group=2 tx=5 upd=000000000000000b
+coord=1 applied=0
+coord=2 applied=0
+proc=1 tx=5 heard=commit
+proc=1 store=0 position=3
+store=0 group=1 tx=4 upd=000000000000000a
+"""
+
+# A back needs a turn above the present one, 1 at setup. It is 5 before setup, never 3 and never 6:
+# one of a process that is down, and with no number left, is accepted. Acceptors and coordinators do
+# not come back. After a refused back a process that was down is down. 1 number, 42 opens and a take
+# are 128.
+BACK_REFUSED = ("""
+back proc=1 turn=2 -> 5 # no setup
+back proc=1 turn=1 -> 5
+back proc=0 turn=2 -> 2
+back proc=16 turn=2 -> 2
+back proc=1 turn=0 -> 2
+back proc=1 turn=256 -> 2
+back proc=1 turn=999 -> 2
+back proc=1 turn=18446744073709551618 -> 2
+back proc=1 -> 1
+back proc=1 turn= -> 1
+back proc=1 turn=02 -> 1
+back proc=16 turn=02 -> 1 # also 2
+back proc=1 turn=2 turn=2 -> 1
+back proc=1 turn=2 to=0 -> 1
+back turn=2 proc=1 -> 1
+back turn=2 -> 1
+back -> 1
+back role=proc id=1 turn=2 -> 1
+back  proc=1 turn=2 -> 1
+backs proc=1 turn=2 -> 1
+setup acceptors=3 -> 0
+back proc=1 turn=1 -> 5 # it is 1 at setup
+back proc=1 turn=2 -> 0 # of one that is up
+back proc=1 turn=2 -> 5
+back proc=1 turn=1 -> 5
+back proc=1 turn=0 -> 2
+crash role=proc id=1 -> 0
+back proc=1 turn=2 -> 5
+crash role=proc id=1 -> 3 # still down
+back proc=1 turn=9 -> 0 # turns may be left out
+crash role=proc id=1 -> 0 # it was up again
+back proc=1 turn=255 -> 0
+back proc=1 turn=255 -> 5
+back proc=1 turn=254 -> 5
+back proc=1 turn=256 -> 2
+crash role=proc id=1 -> 0
+back proc=1 turn=255 -> 5 # never again
+take proc=1 turn=255 store=0 to=0 -> 3
+crash role=coord id=2 -> 0
+crash role=acceptor id=2 -> 0
+crash role=proc id=2 -> 0
+back proc=2 turn=2 -> 0 # the process alone
+crash role=coord id=2 -> 3
+crash role=acceptor id=2 -> 3
+take proc=2 turn=2 store=0 to=2 -> 3
+take proc=2 turn=2 store=0 to=0 -> 0 # 0
+""" + "".join("open coord=0 inst=0 ballot=%d -> 0\n" % (3 * k) for k in range(1, 43)) + """
+take proc=3 store=1 to=0 -> 0 # 127
+take proc=2 turn=2 store=0 to=0 -> 6
+take proc=2 turn=3 store=0 to=0 -> 5 # also 6
+back proc=2 turn=3 -> 0 # needs no number
+take proc=2 turn=3 store=0 to=0 -> 6
+take proc=2 turn=2 store=0 to=0 -> 5
+crash role=proc id=3 -> 0
+back proc=3 turn=2 -> 0
+deliver msg=127 -> 0
+---
+""" + NOTHING)
+
+# turn= stands behind proc= of a take or a vote, or not at all; anywhere else, and in lines of other
+# steps, the line does not read. One that names turn 1 is the same as one that names none.
+TURN_LINES = ONE_HOLDER + """
+take turn=1 proc=2 store=1 to=0 -> 1
+take proc=2 store=1 turn=1 to=0 -> 1
+take proc=2 store=1 to=0 turn=1 -> 1
+take proc=2 turn=1 turn=1 store=1 to=0 -> 1
+take proc=2 turn= store=1 to=0 -> 1
+take proc=2 turn store=1 to=0 -> 1
+take proc=2 turn=01 store=1 to=0 -> 1
+take proc=2 turn=00 store=1 to=0 -> 1
+take proc=2 turn=-1 store=1 to=0 -> 1
+take proc=2 turn=1  store=1 to=0 -> 1
+take proc=2 Turn=1 store=1 to=0 -> 1
+take proc=2 turn=0 store=1 to=0 -> 2
+take proc=2 turn=256 store=1 to=0 -> 2
+take proc=2 turn=4294967297 store=1 to=0 -> 2
+take proc=2 turn=0 store=01 to=0 -> 1 # also 2
+take proc=2 turn=1 store=1 to=0 -> 0 # 12
+take proc=2 store=1 to=0 -> 0 # 13, as 12
+vote turn=1 proc=1 by=0 store=0 tx=4 list=01 say=commit upd=0000000a to=0 -> 1
+vote proc=1 by=0 turn=1 store=0 tx=4 list=01 say=commit upd=0000000a to=0 -> 1
+vote proc=1 by=0 store=0 turn=1 tx=4 list=01 say=commit upd=0000000a to=0 -> 1
+vote proc=1 by=0 store=0 tx=4 turn=1 list=01 say=commit upd=0000000a to=0 -> 1
+vote proc=1 by=0 store=0 tx=4 list=01 turn=1 say=commit upd=0000000a to=0 -> 1
+vote proc=1 by=0 store=0 tx=4 list=01 say=commit turn=1 upd=0000000a to=0 -> 1
+vote proc=1 by=0 store=0 tx=4 list=01 say=commit upd=0000000a turn=1 to=0 -> 1
+vote proc=1 by=0 store=0 tx=4 list=01 say=commit upd=0000000a to=0 turn=1 -> 1
+vote proc=1 turn=1 turn=1 by=0 store=0 tx=4 list=01 say=commit upd=0000000a to=0 -> 1
+vote proc=1 turn=01 by=0 store=0 tx=4 list=01 say=commit upd=0000000a to=0 -> 1
+vote proc=1 turn= by=0 store=0 tx=4 list=01 say=commit upd=0000000a to=0 -> 1
+vote proc=1 turn=0 by=0 store=0 tx=4 list=01 say=commit upd=0000000a to=0 -> 2
+vote proc=1 turn=256 by=0 store=0 tx=4 list=01 say=commit upd=0000000a to=0 -> 2
+vote proc=1 turn=1 by=0 store=0 tx=4 list=01 say=commit upd=0000000a to=0 -> 0 # 14
+vote proc=1 by=0 store=0 tx=4 list=01 say=commit upd=000000000000000a to=0 -> 0 # 15, as 14
+setup acceptors=3 turn=1 -> 1
+open coord=0 inst=1 ballot=3 turn=1 -> 1
+open coord=0 turn=1 inst=1 ballot=3 -> 1
+propose coord=0 inst=1 ballot=3 turn=1 -> 1
+deliver msg=12 turn=1 -> 1
+tell coord=0 proc=1 turn=1 tx=4 -> 1
+tell coord=0 proc=1 tx=4 turn=1 -> 1
+restore coord=0 proc=1 turn=1 -> 1
+follow coord=0 proc=1 turn=1 tx=4 -> 1
+follow coord=0 proc=1 tx=4 turn=1 -> 1
+crash role=proc id=1 turn=1 -> 1
+turn=1 -> 1
+deliver msg=12 -> 0
+deliver msg=13 -> 0 # there already
+deliver msg=14 -> 0
+deliver msg=15 -> 0 # there already
+""" + learn(0, 1, 3, 16) + """
+open coord=0 inst=2 ballot=3 -> 0 # 26 27 28
+deliver msg=26 -> 0 # 29
+deliver msg=27 -> 0 # 30
+deliver msg=29 -> 0
+deliver msg=30 -> 0
+propose coord=0 inst=2 ballot=3 -> 5 # nothing to propose
+---
+coord=0 applied=2
+tx=4 outcome=commit group=1
+store=0 holder=1
+store=1 holder=2
+store=0 group=1 tx=4 upd=000000000000000a
+coord=1 applied=0
+coord=2 applied=0
+proc=1 store=0 position=1
+"""
+
+# A sent vote or take of another turn than the process's: 5, after 1, 2 and 3, before 6 and 7. 12
+# and 13 are votes; 38 opens use up the numbers.
+TURNS_SENT = (ONE_HOLDER + """
+vote proc=1 turn=2 by=0 store=0 tx=0 list=01 say=commit upd=00000000 to=0 -> 5
+vote proc=1 turn=255 by=0 store=0 tx=0 list=01 say=commit upd=00000000 to=0 -> 5
+vote proc=1 turn=2 by=0 store=0 tx=0 list=02 say=commit upd=00000000 to=0 -> 5 # also 7
+vote proc=1 turn=2 by=0 store=1 tx=0 list=03 say=commit upd=00000000 to=0 -> 5 # also 7
+vote proc=1 turn=2 by=1 store=1 tx=0 list=02 say=commit upd=00000000 to=0 -> 5 # nor does it hold 1
+vote proc=1 turn=1 by=0 store=0 tx=0 list=02 say=commit upd=00000000 to=0 -> 7
+vote proc=1 turn=1 by=0 store=0 tx=0 list=01 say=commit upd=00000000 to=0 -> 0 # 12
+vote proc=1 turn=2 by=0 store=1 tx=0 list=03 say=abort upd=00000000 to=0 -> 5
+vote proc=1 turn=1 by=0 store=1 tx=0 list=03 say=abort upd=00000000 to=0 -> 0 # 13
+take proc=1 turn=2 store=0 to=0 -> 5
+take proc=2 turn=2 store=1 to=0 -> 5
+crash role=coord id=2 -> 0
+vote proc=1 turn=2 by=0 store=0 tx=0 list=01 say=commit upd=00000000 to=2 -> 3 # also 5
+take proc=2 turn=2 store=1 to=2 -> 3 # also 5
+vote proc=1 turn=2 by=0 store=0 tx=32 list=01 say=commit upd=00000000 to=2 -> 2
+crash role=proc id=2 -> 0
+take proc=2 turn=2 store=1 to=0 -> 3 # also 5
+back proc=2 turn=2 -> 0
+take proc=2 turn=1 store=1 to=2 -> 3 # also 5
+take proc=2 turn=2 store=1 to=2 -> 3
+""" + "".join("open coord=0 inst=1 ballot=%d -> 0\n" % (3 * k) for k in range(1, 39)) + """
+vote proc=1 turn=2 by=0 store=0 tx=0 list=01 say=commit upd=00000000 to=0 -> 5 # also 6
+vote proc=1 turn=2 by=0 store=0 tx=0 list=02 say=commit upd=00000000 to=0 -> 5 # also 6 and 7
+vote proc=1 turn=1 by=0 store=0 tx=0 list=02 say=commit upd=00000000 to=0 -> 6 # also 7
+take proc=2 turn=1 store=1 to=0 -> 5 # also 6
+take proc=2 turn=2 store=1 to=0 -> 6
+---
+coord=0 applied=1
+store=0 holder=1
+coord=1 applied=0
+coord=2 applied=0
+proc=1 store=0 position=1
+""")
+
+# Three votes of turn 1 are on the wire when the machine comes back. What counts is the take of turn
+# 2 in the log, not the back: the first vote is decided before that take is sent, the second before
+# it in one batch, and both are kept. The third, behind it, is refused 12, and once more later.
+LATE_VOTES = ONE_HOLDER + """
+vote proc=1 by=0 store=0 tx=1 list=01 say=commit upd=0000000a to=0 -> 0 # 12
+vote proc=1 by=0 store=0 tx=2 list=01 say=commit upd=0000000b to=0 -> 0 # 13
+vote proc=1 by=0 store=0 tx=3 list=01 say=commit upd=0000000c to=0 -> 0 # 14
+crash role=proc id=1 -> 0
+back proc=1 turn=2 -> 0
+deliver msg=12 -> 0
+""" + learn(0, 1, 3, 15) + """
+take proc=1 turn=2 store=0 to=0 -> 0 # 25
+deliver msg=13 -> 0
+deliver msg=25 -> 0
+deliver msg=14 -> 0
+""" + learn(0, 2, 3, 26) + """
+tell coord=0 proc=1 tx=2 -> 0 # 36
+tell coord=0 proc=1 tx=3 -> 5 # no vote is kept
+restore coord=0 proc=1 -> 0 # 37: two rows
+deliver msg=37 -> 0
+vote proc=1 turn=2 by=0 store=0 tx=3 list=01 say=commit upd=0000000d to=0 -> 0 # 38
+deliver msg=14 -> 0 # of turn 1, queued again
+deliver msg=38 -> 0
+""" + learn(0, 3, 3, 39) + """
+---
+coord=0 applied=4
+tx=1 outcome=commit group=1
+tx=2 outcome=commit group=2
+tx=3 outcome=commit group=3
+store=0 holder=1
+store=0 group=1 tx=1 upd=000000000000000a
+store=0 group=2 tx=2 upd=000000000000000b
+store=0 group=3 tx=3 upd=000000000000000d
+coord=1 applied=0
+coord=2 applied=0
+proc=1 store=0 position=3
+store=0 group=1 tx=1 upd=000000000000000a
+store=0 group=2 tx=2 upd=000000000000000b
+"""
+
+# The same of votes on behalf: it is the holder of by whose turn counts. Process 1 votes abort for
+# store 1 in turn 1: kept before its take of turn 2, refused behind it. In turn 2 its vote for store
+# 1 is kept, though the holder of store 1 is in turn 1.
+LATE_ON_BEHALF = TWO_HOLDERS + """
+vote proc=1 by=0 store=1 tx=1 list=03 say=abort upd=00000000 to=0 -> 0 # 14
+vote proc=1 by=0 store=1 tx=2 list=03 say=abort upd=00000000 to=0 -> 0 # 15
+back proc=1 turn=2 -> 0
+take proc=1 turn=2 store=0 to=0 -> 0 # 16
+deliver msg=14 -> 0
+deliver msg=16 -> 0
+deliver msg=15 -> 0
+""" + learn(0, 1, 3, 17) + """
+tell coord=0 proc=3 tx=1 -> 0 # 27
+tell coord=0 proc=3 tx=2 -> 5
+restore coord=0 proc=1 -> 0 # 28
+deliver msg=28 -> 0
+vote proc=1 turn=2 by=0 store=1 tx=3 list=03 say=abort upd=00000000 to=0 -> 0 # 29
+vote proc=2 by=1 store=1 tx=2 list=02 say=commit upd=0000000a to=0 -> 0 # 30
+vote proc=2 by=1 store=0 tx=4 list=03 say=abort upd=00000000 to=0 -> 0 # 31, of turn 1 as its holder
+deliver msg=29 -> 0
+deliver msg=30 -> 0
+deliver msg=31 -> 0
+""" + learn(0, 2, 3, 32) + """
+---
+coord=0 applied=3
+tx=1 outcome=abort group=0
+tx=2 outcome=commit group=1
+tx=3 outcome=abort group=0
+tx=4 outcome=abort group=0
+store=0 holder=1
+store=1 holder=2
+store=1 group=1 tx=2 upd=000000000000000a
+coord=1 applied=0
+coord=2 applied=0
+proc=1 store=0 position=2
+proc=2 store=1 position=1
+"""
+
+# A take of turn 1 comes late and is accepted: the machine holds store 0 in a turn that is over.
+# Its take of store 1 in turn 2 is then refused 11. The restore names turn 1, and is not taken.
+# What helps is to take store 0 in turn 2, or that another process takes it.
+LATE_TAKE = """
+setup acceptors=3 -> 0
+take proc=1 store=0 to=0 -> 0 # 0
+back proc=1 turn=2 -> 0
+take proc=1 turn=2 store=1 to=0 -> 0 # 1
+deliver msg=0 -> 0
+deliver msg=1 -> 0
+""" + learn(0, 0, 3, 2) + """
+restore coord=0 proc=1 -> 0 # 12: store 0, turn 1
+deliver msg=12 -> 0 # not its turn: nothing
+vote proc=1 turn=2 by=0 store=0 tx=0 list=01 say=commit upd=00000001 to=0 -> 5
+deliver msg=1 -> 0
+""" + learn(0, 1, 3, 13) + """
+take proc=1 turn=2 store=0 to=0 -> 0 # 23
+deliver msg=23 -> 0
+""" + learn(0, 2, 3, 24) + """
+restore coord=0 proc=1 -> 0 # 34: store 0, turn 2
+deliver msg=34 -> 0
+vote proc=1 turn=2 by=0 store=0 tx=0 list=01 say=commit upd=00000001 to=0 -> 0 # 35, never delivered
+take proc=2 store=0 to=0 -> 0 # 36
+deliver msg=36 -> 0
+deliver msg=1 -> 0
+""" + learn(0, 3, 3, 37) + """
+restore coord=0 proc=1 -> 0 # 47: store 1, turn 2
+restore coord=0 proc=2 -> 0 # 48, never delivered
+deliver msg=47 -> 0
+---
+coord=0 applied=4
+store=0 holder=2
+store=1 holder=1
+coord=1 applied=0
+coord=2 applied=0
+proc=1 store=1 position=4
+"""
+
+# Two takes of turn 1 come behind one of turn 2, which process 3 has replaced: 12, though process 1
+# holds nothing and held neither store. In turn 2 it may take one of them.
+LATE_TAKES_REFUSED = """
+setup acceptors=3 -> 0
+take proc=1 store=0 to=0 -> 0 # 0
+take proc=1 store=1 to=0 -> 0 # 1
+back proc=1 turn=2 -> 0
+take proc=1 turn=2 store=2 to=0 -> 0 # 2
+take proc=3 store=2 to=0 -> 0 # 3
+deliver msg=2 -> 0
+deliver msg=3 -> 0
+deliver msg=0 -> 0
+deliver msg=1 -> 0
+""" + learn(0, 0, 3, 4) + """
+restore coord=0 proc=1 -> 5 # holds nothing
+take proc=1 turn=2 store=1 to=0 -> 0 # 14
+deliver msg=0 -> 0
+deliver msg=14 -> 0
+""" + learn(0, 1, 3, 15) + """
+restore coord=0 proc=1 -> 0 # 25
+deliver msg=25 -> 0
+---
+coord=0 applied=2
+store=1 holder=1
+store=2 holder=3
+coord=1 applied=0
+coord=2 applied=0
+proc=1 store=1 position=2
+"""
+
+# Process 1 held store 0 in turn 1 and store 1 in turn 2, and lost both. In turn 2 it may not take
+# store 0 (12), which it held at any time; it has to come back once more.
+HELD_BEFORE = """
+setup acceptors=3 -> 0
+take proc=1 store=0 to=0 -> 0 # 0
+take proc=2 store=0 to=0 -> 0 # 1
+back proc=1 turn=2 -> 0
+take proc=1 turn=2 store=1 to=0 -> 0 # 2
+take proc=3 store=1 to=0 -> 0 # 3
+take proc=1 turn=2 store=0 to=0 -> 0 # 4
+deliver msg=0 -> 0
+deliver msg=1 -> 0
+deliver msg=2 -> 0
+deliver msg=3 -> 0
+deliver msg=4 -> 0
+""" + learn(0, 0, 3, 5) + learn(0, 1, 3, 15) + """
+restore coord=0 proc=1 -> 5 # refused
+back proc=1 turn=3 -> 0
+take proc=1 turn=3 store=0 to=0 -> 0 # 25
+deliver msg=25 -> 0
+deliver msg=4 -> 0 # of turn 2, behind it: 12
+""" + learn(0, 2, 3, 26) + """
+restore coord=0 proc=2 -> 5
+restore coord=0 proc=1 -> 0 # 36
+deliver msg=36 -> 0
+---
+coord=0 applied=3
+store=0 holder=1
+store=1 holder=3
+coord=1 applied=0
+coord=2 applied=0
+proc=1 store=0 position=3
+"""
+
+# A restore names the turn of the holder in its sender's log. It is sent whatever turn the process
+# is in, and uses a number; it is taken in that turn alone. Coordinator 1 learns two instances: in
+# its log the holder is in turn 2.
+RESTORES_OF_TURNS = ONE_HOLDER + """
+restore coord=0 proc=1 -> 0 # 12: turn 1
+back proc=1 turn=2 -> 0 # its store, its position are gone
+deliver msg=12 -> 0 # nothing
+deliver msg=11 -> 0 # nothing
+restore coord=0 proc=1 -> 0 # 13: turn 1
+deliver msg=13 -> 0 # nothing
+vote proc=1 turn=2 by=0 store=0 tx=0 list=01 say=commit upd=00000001 to=0 -> 5
+take proc=1 turn=2 store=0 to=0 -> 0 # 14
+deliver msg=14 -> 0
+""" + learn(0, 1, 3, 15) + """
+restore coord=0 proc=1 -> 0 # 25: turn 2, position 2
+back proc=1 turn=3 -> 0
+deliver msg=25 -> 0 # nothing
+restore coord=0 proc=1 -> 0 # 26: turn 2
+deliver msg=26 -> 0 # nothing
+take proc=1 turn=3 store=0 to=0 -> 0 # 27
+deliver msg=27 -> 0
+""" + learn(0, 2, 3, 28) + """
+restore coord=0 proc=1 -> 0 # 38: turn 3, position 3
+deliver msg=26 -> 0 # nothing
+deliver msg=38 -> 0 # taken
+deliver msg=13 -> 0 # nothing
+""" + learn(1, 0, 4, 39) + learn(1, 1, 4, 49) + """
+restore coord=1 proc=1 -> 0 # 59: turn 2, position 2
+deliver msg=59 -> 0 # nothing
+vote proc=1 turn=3 by=0 store=0 tx=0 list=01 say=commit upd=00000001 to=0 -> 0 # 60
+---
+coord=0 applied=3
+store=0 holder=1
+coord=1 applied=2
+store=0 holder=1
+coord=2 applied=0
+proc=1 store=0 position=3
+"""
+
+# A tell names no turn: sent before the machine came back, it is heard after it. What was heard
+# before is gone, also what the new turn heard once it is over.
+BACK_TELLS = ONE_HOLDER + """
+vote proc=1 by=0 store=0 tx=4 list=01 say=commit upd=0000000a to=0 -> 0 # 12
+vote proc=1 by=0 store=0 tx=5 list=01 say=abort upd=00000000 to=0 -> 0 # 13
+deliver msg=12 -> 0
+deliver msg=13 -> 0
+""" + learn(0, 1, 3, 14) + """
+tell coord=0 proc=1 tx=4 -> 0 # 24
+tell coord=0 proc=1 tx=5 -> 0 # 25
+tell coord=0 proc=2 tx=4 -> 0 # 26
+deliver msg=24 -> 0
+deliver msg=26 -> 0
+crash role=proc id=1 -> 0
+deliver msg=25 -> 3
+tell coord=0 proc=1 tx=4 -> 3
+back proc=1 turn=2 -> 0
+deliver msg=25 -> 0 # heard
+back proc=1 turn=5 -> 0
+deliver msg=25 -> 0 # heard again
+---
+coord=0 applied=2
+tx=4 outcome=commit group=1
+tx=5 outcome=abort group=0
+store=0 holder=1
+store=0 group=1 tx=4 upd=000000000000000a
+coord=1 applied=0
+coord=2 applied=0
+proc=1 tx=5 heard=abort
+proc=2 tx=4 heard=commit
+"""
+
+# Follows name no turn either. One of 4 was taken before, and is gone; the others of 4 find no
+# restore that lists it. The holder is asked for by its number, so one is sent to turn 2 before it
+# took the store. Then a restore of turn 2 lists 5, which runs with this machine's own vote of turn
+# 1, and the follow of 5 is taken.
+BACK_FOLLOWS = TWO_HOLDERS + """
+vote proc=1 by=0 store=0 tx=4 list=03 say=commit upd=0000000a to=0 -> 0 # 14
+vote proc=1 by=0 store=0 tx=5 list=03 say=commit upd=0000000b to=0 -> 0 # 15
+deliver msg=14 -> 0
+deliver msg=15 -> 0
+""" + learn(0, 1, 3, 16) + """
+restore coord=0 proc=1 -> 0 # 26: lists 4 and 5
+deliver msg=26 -> 0
+vote proc=2 by=1 store=1 tx=4 list=03 say=commit upd=0000000c to=0 -> 0 # 27
+deliver msg=27 -> 0
+""" + learn(0, 2, 3, 28) + """
+follow coord=0 proc=1 tx=4 -> 0 # 38
+follow coord=0 proc=1 tx=4 -> 0 # 39
+deliver msg=38 -> 0 # taken
+back proc=1 turn=2 -> 0
+deliver msg=39 -> 0 # no restore was taken: nothing
+follow coord=0 proc=1 tx=4 -> 0 # 40
+follow coord=0 proc=1 tx=5 -> 5 # it runs
+deliver msg=40 -> 0 # nothing
+take proc=1 turn=2 store=0 to=0 -> 0 # 41
+deliver msg=41 -> 0
+""" + learn(0, 3, 3, 42) + """
+restore coord=0 proc=1 -> 0 # 52: position 4, one row, lists 5
+deliver msg=52 -> 0
+deliver msg=39 -> 0 # 4 is not listed: nothing
+vote proc=2 by=1 store=1 tx=5 list=03 say=commit upd=0000000d to=0 -> 0 # 53
+deliver msg=53 -> 0
+""" + learn(0, 4, 3, 54) + """
+follow coord=0 proc=1 tx=5 -> 0 # 64
+deliver msg=64 -> 0 # taken
+---
+coord=0 applied=5
+tx=4 outcome=commit group=1
+tx=5 outcome=commit group=1
+store=0 holder=1
+store=1 holder=2
+store=0 group=1 tx=4 upd=000000000000000a
+store=0 group=1 tx=5 upd=000000000000000b
+store=1 group=1 tx=4 upd=000000000000000c
+store=1 group=1 tx=5 upd=000000000000000d
+coord=1 applied=0
+coord=2 applied=0
+proc=1 store=0 position=4
+store=0 group=1 tx=4 upd=000000000000000a
+running=5
+follow=5 outcome=commit upd=000000000000000b
+proc=2 store=1 position=1
+"""
+
+# Takes that differ in their turn alone are different entries: those of turns 1 to 8 fill a queue.
+# All are accepted, by four, as each is of a later turn. A restore in between names turn 4, and the
+# machine is in turn 9 already.
+TURNS_QUEUED = ("""
+setup acceptors=3 -> 0
+take proc=1 store=0 to=0 -> 0 # 0
+take proc=1 turn=1 store=0 to=0 -> 0 # 1, as 0
+""" + "".join("back proc=1 turn=%d -> 0\ntake proc=1 turn=%d store=0 to=0 -> 0\n" % (t, t)
+              for t in range(2, 10))  # 2 to 9
+                + "".join("deliver msg=%d -> 0\n" % n for n in range(9)) + """
+deliver msg=9 -> 6
+deliver msg=1 -> 0 # there already
+deliver msg=8 -> 0 # there already
+""" + learn(0, 0, 3, 10) + """
+restore coord=0 proc=1 -> 0 # 20: turn 4
+deliver msg=20 -> 0 # nothing
+deliver msg=9 -> 0
+deliver msg=8 -> 0 # there already
+""" + learn(0, 1, 3, 21) + learn(0, 2, 3, 31) + """
+deliver msg=0 -> 0 # queued again, and refused 12
+deliver msg=9 -> 0 # the same
+""" + learn(0, 3, 3, 41) + """
+restore coord=0 proc=1 -> 0 # 51: turn 9
+deliver msg=51 -> 0
+---
+coord=0 applied=4
+store=0 holder=1
+coord=1 applied=0
+coord=2 applied=0
+proc=1 store=0 position=4
+""")
+
+# Coordinator 1 learns the take of turn 2, and coordinator 0 learns it from the acceptors. In
+# coordinator 0's queue that of turn 1 stays: in the next instance there is something to propose. It
+# is refused 12, and then nothing is left.
+TURNS_LEARNED = """
+setup acceptors=3 -> 0
+take proc=1 store=0 to=0 -> 0 # 0
+back proc=1 turn=2 -> 0
+take proc=1 turn=2 store=0 to=0 -> 0 # 1
+take proc=1 turn=2 store=0 to=1 -> 0 # 2
+deliver msg=0 -> 0
+deliver msg=1 -> 0
+deliver msg=2 -> 0
+""" + learn(1, 0, 1, 3) + learn(0, 0, 3, 13) + learn(0, 1, 3, 23) + """
+open coord=0 inst=2 ballot=3 -> 0 # 33 34 35
+deliver msg=33 -> 0 # 36
+deliver msg=34 -> 0 # 37
+deliver msg=36 -> 0
+deliver msg=37 -> 0
+propose coord=0 inst=2 ballot=3 -> 5 # nothing to propose
+restore coord=0 proc=1 -> 0 # 38: turn 2
+deliver msg=38 -> 0
+---
+coord=0 applied=2
+store=0 holder=1
+coord=1 applied=1
+store=0 holder=1
+coord=2 applied=0
+proc=1 store=0 position=2
+"""
+
+# A machine that took nothing comes back with turn 7: its first take has turn 7. It crashes again,
+# and process 2 takes the store. It comes back with the last turn, 255, gets the store back, and can
+# never come back again.
+BACK_AGAIN = """
+setup acceptors=3 -> 0
+crash role=proc id=1 -> 0
+back proc=1 turn=7 -> 0
+take proc=1 turn=7 store=0 to=0 -> 0 # 0
+deliver msg=0 -> 0
+""" + learn(0, 0, 3, 1) + """
+restore coord=0 proc=1 -> 0 # 11
+deliver msg=11 -> 0
+vote proc=1 turn=7 by=0 store=0 tx=0 list=01 say=commit upd=00000007 to=0 -> 0 # 12
+deliver msg=12 -> 0
+crash role=proc id=1 -> 0
+crash role=proc id=1 -> 3
+take proc=2 store=0 to=0 -> 0 # 13
+deliver msg=13 -> 0
+""" + learn(0, 1, 3, 14) + """
+restore coord=0 proc=1 -> 3 # also 5
+back proc=1 turn=255 -> 0
+restore coord=0 proc=1 -> 5 # process 2 holds the store
+deliver msg=11 -> 0 # nothing
+take proc=1 turn=255 store=0 to=0 -> 0 # 24
+deliver msg=24 -> 0
+""" + learn(0, 2, 3, 25) + """
+restore coord=0 proc=1 -> 0 # 35
+deliver msg=35 -> 0
+crash role=proc id=2 -> 0
+back proc=2 turn=2 -> 0
+take proc=2 turn=2 store=0 to=0 -> 0 # 36, never delivered
+back proc=1 turn=255 -> 5
+vote proc=1 turn=255 by=0 store=0 tx=1 list=01 say=commit upd=000000ff to=0 -> 0 # 37
+deliver msg=37 -> 0
+""" + learn(0, 3, 3, 38) + """
+---
+coord=0 applied=4
+tx=0 outcome=commit group=1
+tx=1 outcome=commit group=2
+store=0 holder=1
+store=0 group=1 tx=0 upd=0000000000000007
+store=0 group=2 tx=1 upd=00000000000000ff
+coord=1 applied=0
+coord=2 applied=0
+proc=1 store=0 position=3
+store=0 group=1 tx=0 upd=0000000000000007
+"""
+
 BY_HAND = {
     "life": LIFE, "highest-ballot": HIGHEST, "queue": QUEUE, "numbers-used-up": NUMBERS, "late-acceptances": LATE, "before-setup": BEFORE,
     "takeover": TAKEOVER, "restores-out-of-order": RESTORES, "two-down": TWO_DOWN, "learned-on-line-1001": LINE_1001,
@@ -1347,6 +1971,11 @@ BY_HAND = {
     "follow": FOLLOW, "follow-refused": FOLLOW_REFUSED, "follow-before-restore": FOLLOW_BEFORE_RESTORE,
     "follow-newer-restore": FOLLOW_NEWER_RESTORE, "follow-other-store": FOLLOW_OTHER_STORE, "follow-replaced": FOLLOW_REPLACED,
     "updates-queued": UPDATES_QUEUED, "updates-learned": UPDATES_LEARNED, "updates-printed": UPDATES_PRINTED, "updates-refused": UPDATES_REFUSED,
+    "back": BACK, "back-refused": BACK_REFUSED, "back-again": BACK_AGAIN, "back-tells": BACK_TELLS,
+    "back-follows": BACK_FOLLOWS, "turn-lines": TURN_LINES, "turns-sent": TURNS_SENT,
+    "turns-queued": TURNS_QUEUED, "turns-learned": TURNS_LEARNED, "turns-held-before": HELD_BEFORE,
+    "late-votes": LATE_VOTES, "late-votes-on-behalf": LATE_ON_BEHALF, "late-take": LATE_TAKE,
+    "late-takes-refused": LATE_TAKES_REFUSED, "restores-of-turns": RESTORES_OF_TURNS,
 }
 
 

@@ -1,5 +1,6 @@
 """Drawn step files for `world`: traffic of every kind, from a seed."""
-from plain_log import SHORT_DIGITS, STORES, TXS, UPDATE_DIGITS, Vote, update_text
+from plain_log import FIRST_TURN, LAST_TURN, SHORT_DIGITS, STORES, TXS, UPDATE_DIGITS, Vote
+from plain_log import update_text
 from update_texts import BORDERS
 from world_script import Script
 
@@ -52,12 +53,13 @@ def vote_again(script, draw):
         text = draw.of([text[1:], text + "0", "0" * SHORT_DIGITS + text, text.upper()])
     stores = "%02x" % sum(1 << s for s in vote.stores)
     says = "commit" if vote.commit else "abort"
-    values = vote.process, vote.by, vote.store, vote.tx, stores, says, text
-    return script.step("vote", *values, draw.of([to, to, draw.below(3)]))
+    values = vote.by, vote.store, vote.tx, stores, says, text
+    return script.vote(vote.process, *values, draw.of([to, to, draw.below(3)]))
 
 
 def random_step(script, draw, hostile):
-    """Any step but a follow, which needs a store taken over to do something: see takeover."""
+    """Any step but a follow, which needs a store taken over to do something (see takeover), and a
+    back (see comes_back)."""
     world = script.world
     c = draw.below(3)
     coordinator, process, store = world.coordinators[c], 1 + draw.below(6), draw.below(3)
@@ -181,8 +183,16 @@ def as_long_as(draw, line):
     return line[:99].ljust(draw.of([99, 100, 101, 102]), draw.of([b"0", b" ", b"x"]))
 
 
+def with_a_turn(draw, line):
+    """The field where it may stand, mostly, or anywhere."""
+    words = line.split(b" ")
+    at = 2 if draw.below(2) else draw.below(len(words) + 1)
+    number = draw.of(["1", "1", "2", "2", "3"] + NUMBERS).encode()
+    return b" ".join(words[:at] + [b"turn=" + number] + words[at:])
+
+
 HOSTILE = [one_byte_other, one_byte_other, one_number_other, one_number_other, fields_moved]
-HOSTILE += [any_bytes, as_long_as]
+HOSTILE += [any_bytes, as_long_as, with_a_turn]
 
 
 def hostile_lines(script, draw):
@@ -349,13 +359,121 @@ def votes_alike(script, draw):
     script.deliver(*sent)
 
 
+# Machines that come back
+
+
+def some_back(script, draw):
+    """Mostly with the next turn; at times one later, the same, an earlier one or none at all."""
+    believers = believers_of(script)
+    p = draw.of(believers) if believers and draw.below(2) else 1 + draw.below(6)
+    now = script.world.processes[p].turn
+    later = [now + 1] * 5 + [now + 2, now, FIRST_TURN, draw.below(300), LAST_TURN - draw.below(30)]
+    script.back(p, draw.of(later))
+
+
+def other_turn(script, draw):
+    """A take or a vote that names a turn, mostly not the process's present one."""
+    p, c = 1 + draw.below(6), draw.below(3)
+    now = script.world.processes[p].turn
+    turn = draw.of([None, FIRST_TURN, now, now + 1, now - 1, 0, LAST_TURN, LAST_TURN + 1, "01", ""])
+    if draw.below(2):
+        return script.step("take", p, draw.below(3), c, turn=turn)
+    by = script.world.processes[p].store or 0
+    values = by, by, draw.below(4), "%02x" % (1 << by), "commit", update_text(draw.update()), c
+    return script.step("vote", p, *values, turn=turn)
+
+
+def on_the_wire(script, draw, p, c):
+    """What a process sent, and what was sent to it, before it comes back: not delivered yet."""
+    process = script.world.processes[p]
+    sent = [] if draw.below(3) else script.take(p, draw.of([process.store or 0, draw.below(4)]), c)
+    if process.position:
+        stores = list_of(script, [p, draw.of(believers_of(script))])
+        for _ in range(draw.below(3)):
+            sent += one_vote(script, draw, p, draw.below(TXS), stores, c)
+    log = script.world.coordinators[c].log
+    to_it = script.restore(c, p) if draw.below(2) else []
+    decided = [tx for tx in log.txs() if log.outcome(tx) != "open"]
+    if decided:
+        to_it += script.tell(c, p, draw.of(decided))
+        to_it += script.follow(c, p, draw.of(decided)) if draw.below(2) else []
+    return sent, to_it
+
+
+def comes_back(script, draw):
+    """A machine crashes, or not, and comes back in a later turn. It takes its store again, mostly.
+    What was on the wire is delivered before the take, with it or behind it."""
+    believers = believers_of(script)
+    if not script.world.acceptors or not believers:
+        return
+    c, p = furthest(script, draw), draw.of(believers)
+    store = script.world.processes[p].store
+    sent, to_it = on_the_wire(script, draw, p, c)
+    early = [number for number in sent if draw.below(2)]
+    if draw.below(3):
+        script.crash("proc", p)
+    script.deliver(*early, *(number for number in to_it if not draw.below(4)))
+    left_out = 0 if draw.below(4) else draw.below(40)
+    script.back(p, script.world.processes[p].turn + 1 + left_out)
+    script.deliver(*to_it)
+    if not draw.below(4):
+        learned(script, draw, c, [])  # the votes of the turn before are kept
+    if not draw.below(6):
+        script.deliver(*script.restore(c, p))  # for the turn before
+    late = [number for number in sent if number not in early]
+    store = store if draw.below(5) else draw.below(4)
+    take = script.take(p, store, c)
+    learned(script, draw, c, draw.of([[take, late], [late, take], [take], [take]]))
+    script.deliver(*script.restore(c, p), *late, *to_it)
+    if draw.below(3):
+        what_ran(script, draw, p, c)
+
+
+def what_ran(script, draw, p, c):
+    """The others vote on a transaction that the process's restore lists, and it follows."""
+    log, processes = script.world.coordinators[c].log, script.world.processes
+    running = [tx for tx in processes[p].running if log.votes(tx)]
+    if not running:
+        return
+    tx = draw.of(running)
+    stores = sorted(log.votes(tx)[0].stores)
+    others = [log.holder(s) for s in stores if (tx, s) not in log.kept]
+    votes = [q for q in others if processes[q].store in stores]
+    bits = "%02x" % sum(1 << s for s in stores)
+    learned(script, draw, c, [one_vote(script, draw, q, tx, bits, c) for q in votes])
+    script.deliver(*script.follow(c, p, tx) * draw.of([1, 1, 2]))
+
+
+def returned_script(seed):
+    """Machines that come back again and again, with votes and takeovers between."""
+    draw = Draw(seed)
+    script = Script(draw.of([3, 3, 3, 5]))
+    pairs = ((s + 1, s) for s in range(2 + draw.below(2)))
+    script.queue(*(script.take(p, s) for p, s in pairs))
+    learned(script, draw, 0, [])
+    script.deliver(*(n for p in (1, 2, 3) for n in script.restore(0, p)))
+    while script.world.left() > 12 and len(script.rows) < 900:
+        parts = [comes_back, comes_back, comes_back, transaction, transaction, takeover]
+        draw.of(parts if believers_of(script) else [stores_held])(script, draw)
+        for _ in range(draw.below(5)):
+            strays = {0: some_back, 1: other_turn, 2: other_turn}
+            strays.get(draw.below(12), any_step)(script, draw)
+    all_again(script, draw)
+    return script
+
+
+def any_step(script, draw):
+    random_step(script, draw, not draw.below(8))
+
+
 def setups(script, draw):
     script.setup(draw.of([3, 4, 5]))
 
 
-PARTS = [transaction, transaction, transaction, takeover, takeover]
+PARTS = [transaction, transaction, transaction, takeover, takeover, comes_back, comes_back]
 PARTS += [stores_held, instances, traffic, hostile_lines, votes_alike]
 RARE = [numbers_used_up, crashes, setups, full_queue, all_again, hostile_lines]
+RARE += [some_back, other_turn]
 
 
 def followed_script(seed):

@@ -7,6 +7,7 @@
 from collections import namedtuple
 
 from plain_log import (
+    FIRST_TURN,
     LIMITS,
     PROCESSES,
     Log,
@@ -55,7 +56,8 @@ class Coordinator:
 
 
 class Process:
-    def __init__(self):
+    def __init__(self, turn=FIRST_TURN):
+        self.turn = turn
         self.heard = {}
         self.store = None
         self.position = 0
@@ -93,22 +95,32 @@ class World:
         self.acceptors = [Acceptor() for _ in range(acceptors)]
         return 0
 
-    def take(self, process, store, to):
-        answer = self.refusal(self.crashed(("proc", process), ("coord", to)), (6, self.left() < 1))
+    def back(self, process, turn):
+        """The process starts again, down or up, as one of a fresh world in that turn."""
+        answer = self.refusal((5, turn <= self.processes[process].turn))
         if not answer:
-            self.send("request", "coord", to, Take(process, store))
+            self.processes[process] = Process(turn)
+            self.down.discard(("proc", process))
         return answer
+
+    def take(self, *values):
+        take, to = Take(*values[:-1]), values[-1]
+        return self.request(take, to)
 
     def vote(self, *values):
         vote, to = Vote(*values[:-1]), values[-1]
+        believes = self.processes[vote.process].store == vote.by
+        return self.request(vote, to, (5, not believes), (7, malformed(vote)))
+
+    def request(self, entry, to, *conditions):
         answer = self.refusal(
-            self.crashed(("proc", vote.process), ("coord", to)),
-            (5, self.processes[vote.process].store != vote.by),
+            self.crashed(("proc", entry.process), ("coord", to)),
+            (5, self.processes[entry.process].turn != entry.turn),
             (6, self.left() < 1),
-            (7, malformed(vote)),
+            *conditions,
         )
         if not answer:
-            self.send("request", "coord", to, vote)
+            self.send("request", "coord", to, entry)
         return answer
 
     def open(self, coord, instance, ballot):
@@ -215,9 +227,9 @@ class World:
         return 0
 
     def deliver_restore(self, process, values):
-        store, position, rows, running = values
+        store, turn, position, rows, running = values
         p = self.processes[process]
-        if position > p.position:
+        if turn == p.turn and position > p.position:
             p.store, p.position, p.rows = store, position, rows
             p.running, p.follows = running, {}
         return 0
@@ -248,8 +260,9 @@ class World:
         )
         if not answer:
             store = stores[0]
+            turn, rows = c.log.holder_turn(store), c.log.replay(store)
             running = [tx for tx in c.log.running() if c.log.has_commit(tx, store)]
-            self.send("restore", "proc", process, (store, c.applied, c.log.replay(store), running))
+            self.send("restore", "proc", process, (store, turn, c.applied, rows, running))
         return answer
 
     def follow(self, coord, process, tx):
@@ -296,8 +309,9 @@ class World:
 
 FIELDS = {
     "setup": "acceptors",
-    "take": "proc store to",
-    "vote": "proc by store tx list say upd to",
+    "back": "proc turn",
+    "take": "proc turn? store to",
+    "vote": "proc turn? by store tx list say upd to",
     "open": "coord inst ballot",
     "propose": "coord inst ballot",
     "deliver": "msg",

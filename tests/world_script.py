@@ -1,12 +1,13 @@
 """Step files for `world`, built step by step."""
 import world_reference as reference
-from plain_log import UPDATE_DIGITS, joined, update_text
+from plain_log import FIRST_TURN, UPDATE_DIGITS, joined, update_text
 
 step = reference.STEPS.text  # a step's text from its name and values
 
 
 class Script:
-    """A step file that grows with a world beside it, so that a step knows the numbers it sends."""
+    """A step file that grows with a world beside it, so that a step knows the numbers it sends, and
+    in which turn its process is."""
 
     def __init__(self, acceptors=3):
         self.world, self.rows = reference.World(), []
@@ -20,20 +21,31 @@ class Script:
         self.answer = reference.answer(self.world, line)
         return list(range(before, len(self.world.messages)))
 
-    def step(self, name, *values):
-        return self.row(step(name, *values))
+    def step(self, name, *values, **others):
+        return self.row(step(name, *values, **others))
+
+    def turn(self, p):
+        """As a line of the process names it: not at all while it is the first."""
+        now = self.world.processes[p].turn
+        return None if now == FIRST_TURN else now
 
     def setup(self, acceptors):
         return self.step("setup", acceptors)
 
+    def back(self, p, turn):
+        return self.step("back", p, turn)
+
     def take(self, p, s, to=0):
-        return self.step("take", p, s, to)
+        return self.step("take", p, s, to, turn=self.turn(p))
 
     def commit(self, p, s, tx, stores, update=1, to=0, digits=UPDATE_DIGITS):
-        return self.step("vote", p, s, s, tx, stores, "commit", update_text(update, digits), to)
+        return self.vote(p, s, s, tx, stores, "commit", update_text(update, digits), to)
 
     def abort(self, p, by, s, tx, stores, to=0, update=0, digits=UPDATE_DIGITS):
-        return self.step("vote", p, by, s, tx, stores, "abort", update_text(update, digits), to)
+        return self.vote(p, by, s, tx, stores, "abort", update_text(update, digits), to)
+
+    def vote(self, p, *values):
+        return self.step("vote", p, *values, turn=self.turn(p))
 
     def open(self, c, i, b):
         return self.step("open", c, i, b)

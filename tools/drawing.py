@@ -2,9 +2,9 @@
 import math
 from xml.sax.saxutils import escape
 
-from marks import COLOURS, crash_mark, late_mark, learned_mark, legend, lost_mark, open_mark
-from marks import propose_mark, stroke
-from story import counted, followed
+from marks import COLOURS, back_mark, crash_mark, late_mark, learned_mark, legend, lost_mark
+from marks import open_mark, propose_mark, stroke
+from story import counted, followed, turned
 from svg import BOLD, FONT, GREY, INK, LETTER, PALE, PAPER, SMALL
 from svg import arrow, document, element, grounded, line, path, text, width, wrapped
 
@@ -123,14 +123,22 @@ class Chart(Places):
             yield text(NUMBERS, self.y[row.line] + MIDDLE, str(row.line), **looks)
 
     def lifelines(self):
-        crashes = [row for row in self.story.rows if row.step == "crash" and not row.answer]
-        ends = {row.party: self.y[row.line] for row in crashes}
+        """Each in pieces: from the top, from each crash, and from each time that it came back."""
+        kinds = {"crash": crash_mark, "back": back_mark}
         for party, x in self.x.items():
-            end = ends.get(party, self.bottom)
-            yield line(x, TOP, x, end, stroke="#8a8a8a", stroke_width=1.4, class_="lifeline")
-            if party in ends:
-                looks = dict(stroke="#b0b0b0", stroke_dasharray="2 5", class_="down")
-                yield line(x, end, x, self.bottom, **looks) + crash_mark(x, end)
+            rows = [row for row in self.story.rows if row.step in kinds and not row.answer]
+            own = [row for row in rows if row.party == party]
+            ends = [self.y[row.line] for row in own] + [self.bottom]
+            yield self.lifeline(x, TOP, ends[0])
+            for row, end in zip(own, ends[1:]):
+                y = self.y[row.line]
+                yield self.lifeline(x, y, end, row.step == "crash") + kinds[row.step](x, y)
+
+    def lifeline(self, x, y, end, down=False):
+        looks = dict(stroke="#8a8a8a", stroke_width=1.4, class_="lifeline")
+        if down:
+            looks = dict(stroke="#b0b0b0", stroke_dasharray="2 5", class_="down")
+        return line(x, y, x, end, **looks)
 
     def headings(self):
         for y in self.names:
@@ -282,17 +290,18 @@ def known(world):
             rows += ["group %d tx%d upd %x" % row for row in p.rows]
             rows += ["running tx%d" % tx for tx in p.running]
             rows += ["follow " + followed(tx, *p.follows[tx]) for tx in sorted(p.follows)]
-        if rows:
-            yield "process %d%s" % (i, down), rows
+        if rows or turned(p.turn):
+            yield "process %d%s%s" % (i, turned(p.turn), down), rows
 
 
 def log_rows(log):
     for tx in log.txs():
         group = ", group %d" % log.group(tx) if log.group(tx) else ""
         yield "tx%d %s%s" % (tx, log.outcome(tx), group)
-    for store in range(len(log.holders)):
+    for store in range(len(log.takes)):
         if log.holder(store):
-            yield "s%d held by p%d" % (store, log.holder(store))
+            holder = log.holder(store), turned(log.holder_turn(store))
+            yield "s%d held by p%d%s" % (store, *holder)
 
 
 def drawn(story, name):

@@ -43,6 +43,11 @@ def crash_mark(x, y):
     return path(form, x, y, stroke=INK, stroke_width=2.4, class_="crash")
 
 
+def back_mark(x, y):
+    form = "M{} {}m0 -7l7 12h-14z"
+    return path(form, x, y, fill=PAPER, stroke=INK, stroke_width=1.6, class_="back")
+
+
 def lost_mark(x, y, colour=INK):
     return element("circle", cx=x, cy=y, r=3, fill=PAPER, stroke=colour)
 
@@ -69,6 +74,7 @@ MARKS = [
     (propose_mark, "batch proposed"),
     (learned_mark, "instance learned"),
     (crash_mark, "crashed"),
+    (back_mark, "came back"),
     (refused_mark, "refused line"),
 ]
 

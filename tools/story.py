@@ -6,7 +6,7 @@ from dataclasses import dataclass, field
 
 sys.path.insert(0, os.path.join(os.path.dirname(os.path.abspath(__file__)), "..", "tests"))
 import world_reference as reference
-from plain_log import LINES, Take, answers
+from plain_log import FIRST_TURN, LINES, Take, answers
 
 WORDS = {
     1: "unreadable",
@@ -19,7 +19,8 @@ WORDS = {
     8: "not the holder",
     9: "another list",
     10: "vote kept already",
-    11: "may not take",
+    11: "holds another store",
+    12: "not its turn",
 }
 SHOWN = 90  # bytes of a line
 
@@ -77,8 +78,17 @@ def listed(stores):
     return "%02x" % sum(1 << s for s in stores)
 
 
+def turned(turn):
+    """A turn is said where it is not the first."""
+    return "" if turn == FIRST_TURN else " turn %d" % turn
+
+
 def request(entry):
     """An entry as its process sends it."""
+    return meant(entry) + turned(entry.turn)
+
+
+def meant(entry):
     if isinstance(entry, Take):
         return "take s%d" % entry.store
     store = (
@@ -94,13 +104,10 @@ def request(entry):
 def short(entry):
     """An entry among others."""
     if isinstance(entry, Take):
-        return "p%d take s%d" % entry
-    return "p%d %s tx%d s%d" % (
-        entry.process,
-        "commit" if entry.commit else "abort",
-        entry.tx,
-        entry.store,
-    )
+        what = "take"
+    else:
+        what = "%s tx%d" % ("commit" if entry.commit else "abort", entry.tx)
+    return "p%d %s s%d%s" % (entry.process, what, entry.store, turned(entry.turn))
 
 
 def batch(entries):
@@ -115,9 +122,10 @@ def says(message):
     if message.kind == "outcome":
         return "tell tx%d %s" % values
     if message.kind == "restore":
-        store, position, rows, running = values
+        store, turn, position, rows, running = values
         runs = ", running " + " ".join("tx%d" % tx for tx in running) if running else ""
-        return "restore s%d pos %d, %s%s" % (store, position, counted(len(rows), "row"), runs)
+        place = "restore s%d%s pos %d" % (store, turned(turn), position)
+        return "%s, %s%s" % (place, counted(len(rows), "row"), runs)
     if message.kind == "follow":
         return "follow s%d %s" % (values[0], followed(*values[1:]))
     place = "%s i%d b%d" % ((message.kind,) + values[:2])
@@ -209,6 +217,9 @@ class Teller:
         elif row.step == "crash":
             row.party = (values["role"], values["id"])
             row.says = "crash"
+        elif row.step == "back":
+            row.party = ("proc", values["proc"])
+            row.says = "back, turn %d" % values["turn"]
         else:
             row.party = ("coord", values["coord"])
             row.says = self.coordinator_says(row.step, values)

@@ -5,7 +5,8 @@
  *     convert OLD NEW
  *
  * Each record gets four zero bytes more. Its update is low byte first, so it
- * stays the same number. How many records there are is printed.
+ * stays the same number. Its byte 7 stays 0, which means turn 1. How many
+ * records there are is printed.
  *
  * OLD is only read, and no host can use it meanwhile. It is looked at as a host
  * does at its start. A last record that was not written to its end was not
@@ -58,7 +59,7 @@ static int open_part(const char *path)
 
 static void write_new(const char *path)
 {
-	static uint8_t bytes[RELEASE_LOG_RECORDS_MOST * SLOT_SIZE];
+	static uint8_t bytes[SLOTS_MOST * SLOT_SIZE];
 	for (size_t i = 0; i < old.count; i++)
 		make_slot(&form_now, i, record_at(&old, i), bytes + i * SLOT_SIZE);
 	write_to_disk(open_part(path), path, bytes, old.count * SLOT_SIZE, 0);

@@ -7,11 +7,13 @@
  * Each line of the input is a command, and each command is answered. The
  * commands are in the table `commands` below. Between two words is one space.
  * Numbers are written as in step files: decimals without leading zeros, LIST
- * as two lower-case hexadecimal digits, UPDATE as sixteen or eight of them. A
- * line that is no such command is answered by an error and changes nothing.
+ * as two lower-case hexadecimal digits, UPDATE as sixteen or eight of them.
+ * TURN may be left out: then it is 1. A line that is no such command is
+ * answered by an error and changes nothing.
  *
  * The file is a row of slots, one for each record: slots.h says what is in
- * them.
+ * them, and how many there can be. When the file is full, an entry that the log
+ * would accept is answered 6.
  *
  * An entry is on the disk before it is answered. So whoever kills the host, or
  * pulls the plug, loses no entry that was answered. A slot that was being
@@ -29,7 +31,7 @@
 
 /* The most bytes of a line, without its LF, and the most words of a command. */
 #define LINE_MOST 100
-#define WORDS_MOST 8
+#define WORDS_MOST 9
 
 static struct slots kept;
 
@@ -119,6 +121,13 @@ static int decimal(const char *word, uint32_t *number)
 	return 1;
 }
 
+/* A turn that may be left out. */
+static int turn_or_1(const char *word, uint32_t *turn)
+{
+	*turn = 1;
+	return word == NULL || decimal(word, turn);
+}
+
 static int is_hexadecimal(const char *word, size_t digits)
 {
 	return strlen(word) == digits && strspn(word, "0123456789abcdef") == digits;
@@ -163,15 +172,15 @@ static int commit_or_abort(const char *word, uint32_t *say)
 	return 1;
 }
 
-/* --- Commands: each gets its words, words[0] its name -------------------- */
+/* --- Commands: each gets its words, words[0] its name, and NULL after them - */
 
 static void take(char *const *words)
 {
-	uint32_t process, store;
-	if (!decimal(words[1], &process) || !decimal(words[2], &store))
+	uint32_t process, store, turn;
+	if (!decimal(words[1], &process) || !decimal(words[2], &store) || !turn_or_1(words[3], &turn))
 		return;
 	answer_entry(
-	    release_log_add_take(kept.records, sizeof kept.records, kept.count, process, store));
+	    release_log_add_take(kept.records, sizeof kept.records, kept.count, process, store, turn));
 }
 
 static void vote(char *const *words)
@@ -179,7 +188,8 @@ static void vote(char *const *words)
 	struct release_log_vote v;
 	if (!decimal(words[1], &v.process) || !decimal(words[2], &v.by) || !decimal(words[3], &v.store) ||
 	    !decimal(words[4], &v.tx) || !list(words[5], &v.list) ||
-	    !commit_or_abort(words[6], &v.say) || !update(words[7], &v.update))
+	    !commit_or_abort(words[6], &v.say) || !update(words[7], &v.update) ||
+	    !turn_or_1(words[8], &v.turn))
 		return;
 	answer_entry(release_log_add_vote(kept.records, sizeof kept.records, kept.count, &v));
 }
@@ -253,14 +263,15 @@ static void replay(char *const *words)
 static const struct {
 	const char *name;
 	const char *form;
-	size_t words;
+	size_t words_least;
+	size_t words_most;
 	void (*run)(char *const *words);
 } commands[] = {
-	{"take", "take PROCESS STORE", 3, take},
-	{"vote", "vote PROCESS BY STORE TX LIST commit|abort UPDATE", 8, vote},
-	{"outcome", "outcome TX", 2, outcome},
-	{"involvement", "involvement TX STORE", 3, involvement},
-	{"replay", "replay STORE", 2, replay},
+	{"take", "take PROCESS STORE [TURN]", 3, 4, take},
+	{"vote", "vote PROCESS BY STORE TX LIST commit|abort UPDATE [TURN]", 8, 9, vote},
+	{"outcome", "outcome TX", 2, 2, outcome},
+	{"involvement", "involvement TX STORE", 3, 3, involvement},
+	{"replay", "replay STORE", 2, 2, replay},
 };
 
 #define COMMANDS (sizeof commands / sizeof *commands)
@@ -285,8 +296,9 @@ static int read_line(char line[LINE_MOST + 1], size_t *length)
 	return 1;
 }
 
-/* The words of a line, up to one more than any command has: there is one space between two. */
-static size_t split(char *line, char *words[WORDS_MOST + 1])
+/* The words of a line, up to one more than any command has, and NULL after them: there is one space
+   between two. */
+static size_t split(char *line, char *words[WORDS_MOST + 2])
 {
 	size_t n = 0;
 	while (line != NULL && n <= WORDS_MOST) {
@@ -295,6 +307,7 @@ static size_t split(char *line, char *words[WORDS_MOST + 1])
 		if (line != NULL)
 			*line++ = '\0';
 	}
+	words[n] = NULL;
 	return n;
 }
 
@@ -308,7 +321,7 @@ static void print_usage(void)
 
 static void obey(char *line, size_t length)
 {
-	char *words[WORDS_MOST + 1];
+	char *words[WORDS_MOST + 2];
 	size_t i = 0, n;
 	if (length > LINE_MOST) {
 		printf("error: a line of more than %d bytes\n", LINE_MOST);
@@ -323,7 +336,7 @@ static void obey(char *line, size_t length)
 		i++;
 	if (i == COMMANDS)
 		print_usage();
-	else if (n != commands[i].words)
+	else if (n < commands[i].words_least || n > commands[i].words_most)
 		printf("error: usage: %s\n", commands[i].form);
 	else
 		commands[i].run(words);

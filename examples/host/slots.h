@@ -6,8 +6,12 @@
  * record by itself has no sign by which damage shows: with one byte spoiled it
  * may well be another record that the log accepts.
  *
+ * A file from before records had turns, with version 2 of release_log.h, has
+ * this form too: byte 7 of a record is 0 in it, which means turn 1. It is read
+ * as it is.
+ *
  * The file of an earlier host has another form: a record of 12 bytes, as in
- * version 1 of release_log.h, and its checksum.
+ * version 1 of release_log.h, and its checksum. Byte 7 is 0 in it.
  */
 #ifndef SLOTS_H
 #define SLOTS_H
@@ -35,21 +39,35 @@
 typedef char slot_divides_sector[SECTOR_SIZE % SLOT_SIZE == 0 ? 1 : -1];
 typedef char slot_has_room[RELEASE_LOG_RECORD_SIZE + CHECKSUM_SIZE <= SLOT_SIZE ? 1 : -1];
 
+/*
+ * The most slots of a file, and records in memory. Each time that a machine
+ * comes back and takes its store again, there is a record more. So a file may
+ * become full: then an entry that the log would accept is answered
+ * RELEASE_LOG_NO_PLACE, and all else goes on as before. A host with a larger
+ * number reads the same file, and goes on there. RELEASE_LOG_RECORDS_MOST is
+ * enough for any log.
+ */
+#define SLOTS_MOST 1024
+
+/* Where a record has its turn. */
+#define TURN_BYTE 7
+
 struct form {
 	size_t record_size;
 	size_t slot_size;
+	int has_turns;
 };
 
 /* That of this host, and that of an earlier one. */
-static const struct form form_now = {RELEASE_LOG_RECORD_SIZE, SLOT_SIZE};
-static const struct form form_before = {12, 16};
+static const struct form form_now = {RELEASE_LOG_RECORD_SIZE, SLOT_SIZE, 1};
+static const struct form form_before = {12, 16, 0};
 
 /* An open file, and its records as release_log.h has them, whatever the form of the file. */
 struct slots {
 	const char *path;
 	int fd;
 	size_t count;
-	uint8_t records[RELEASE_LOG_RECORDS_ROOM];
+	uint8_t records[SLOTS_MOST * RELEASE_LOG_RECORD_SIZE];
 };
 
 static inline uint8_t *record_at(struct slots *slots, size_t index)
@@ -76,7 +94,8 @@ static inline const char *meaning(uint32_t answer)
 	case RELEASE_LOG_NOT_HOLDER: return "the process does not hold that store";
 	case RELEASE_LOG_OTHER_LIST: return "a commit vote with another list is kept";
 	case RELEASE_LOG_KEPT_ALREADY: return "a vote of that store is kept already";
-	case RELEASE_LOG_HOLDS_OR_HELD: return "holds or held a store";
+	case RELEASE_LOG_HOLDS_ANOTHER: return "the process holds another store";
+	case RELEASE_LOG_WRONG_TURN: return "a wrong turn of the process";
 	default: return "unknown";
 	}
 }
@@ -135,15 +154,21 @@ static inline int is_zero(const uint8_t *bytes, size_t length)
 	return length == 0;
 }
 
+/* Whether the record has no turn where its form has none. */
+static inline int turn_fits(const struct form *form, const uint8_t *slot)
+{
+	return form->has_turns || slot[TURN_BYTE] == 0;
+}
+
 /* Whether the record may be one that a host began to write, with zeros after what was written. The
-   first record is a take, since nobody can vote before; and a take is 0 but for its kind, process
-   and store. */
+   first record is a take, since nobody can vote before; and a take is 0 but for its kind, process,
+   store and turn. */
 static inline int begins_well(const struct form *form, size_t index, const uint8_t *slot)
 {
 	if (slot[0] == RELEASE_LOG_KIND_VOTE)
 		return index > 0;
-	return slot[0] == RELEASE_LOG_KIND_TAKE && slot[2] == 0 &&
-	    is_zero(slot + 4, form->record_size - 4);
+	return slot[0] == RELEASE_LOG_KIND_TAKE && slot[2] == 0 && is_zero(slot + 4, TURN_BYTE - 4) &&
+	    turn_fits(form, slot) && is_zero(slot + TURN_BYTE + 1, form->record_size - TURN_BYTE - 1);
 }
 
 /*
@@ -249,7 +274,9 @@ static inline const char *slot_fault(const struct form *form, size_t index, cons
 {
 	if (!is_made_so(form, index, slot, form->record_size + CHECKSUM_SIZE))
 		return "checksum wrong";
-	return is_made_so(form, index, slot, form->slot_size) ? NULL : "a zero spoiled";
+	if (!turn_fits(form, slot) || !is_made_so(form, index, slot, form->slot_size))
+		return "a zero spoiled";
+	return NULL;
 }
 
 /* The slot becomes the next record, or the program ends. Behind a record of 12 bytes come zeros:
@@ -258,9 +285,9 @@ static inline void load_slot(struct slots *slots, const struct form *form, const
 {
 	size_t index = slots->count;
 	uint8_t value;
-	if (index == RELEASE_LOG_RECORDS_MOST) {
-		fprintf(stderr, "%s: record %zu is damaged: a log has no more than %d\n", slots->path,
-		    index + 1, RELEASE_LOG_RECORDS_MOST);
+	if (index == SLOTS_MOST) {
+		fprintf(stderr, "%s: no room for record %zu; make SLOTS_MOST in slots.h larger than %d\n",
+		    slots->path, index + 1, SLOTS_MOST);
 		exit(1);
 	}
 	memset(record_at(slots, index), 0, RELEASE_LOG_RECORD_SIZE);

@@ -6,12 +6,15 @@ mod longest;
 mod plain_log;
 mod random;
 
-use plain_log::{log_behind, Numbers, RECORD, ROW, TRANSACTIONS};
+use plain_log::{
+    log_behind, Entry, Log, Numbers, Vote, PROCESSES, RECORD, ROW, STORES, TRANSACTIONS, TURN,
+    TURNS,
+};
 use random::{sensible, update, History, Random};
 
 const CALLS: usize = 200_000;
 const HISTORIES: usize = 300;
-const ANSWERS: usize = 12;
+const ANSWERS: usize = 13;
 
 /// One fault in the records.
 fn damage(r: &mut Random, bytes: &mut [u8], h: &History) {
@@ -20,7 +23,7 @@ fn damage(r: &mut Random, bytes: &mut [u8], h: &History) {
         return;
     }
     let at = r.below(n) * RECORD;
-    match r.below(6) {
+    match r.below(7) {
         0 => bytes[at + r.below(RECORD)] ^= 1 << r.below(8),
         1 => bytes[at + r.below(RECORD)] = r.next() as u8,
         2 => {
@@ -35,12 +38,23 @@ fn damage(r: &mut Random, bytes: &mut [u8], h: &History) {
         }
         4 => {
             let upto = r.below(n + 1);
-            let e = sensible(r, &h.holders(upto));
+            let e = sensible(r, &h.log(upto));
             bytes[at..at + RECORD].copy_from_slice(&e.to_record());
         }
+        5 => bytes[at + TURN] = r.pick(&[0, 1, 2, 3, 127, 128, 254, 255]),
         _ => {
             let field = r.pick(&[1, 2, 3, 4, 5, 6]);
             bytes[at + field] = r.pick(&[0, 1, 7, 8, 15, 16, 31, 32, 255]);
+        }
+    }
+}
+
+/// Turn 1 as version 2 of the header wrote it: in all records, or in some.
+fn as_zeros(r: &mut Random, bytes: &mut [u8]) {
+    let all = r.once_in(2);
+    for record in bytes.chunks_exact_mut(RECORD) {
+        if record[TURN] == 1 && (all || r.once_in(2)) {
+            record[TURN] = 0;
         }
     }
 }
@@ -60,10 +74,13 @@ fn count_for(r: &mut Random, right: usize, len: usize) -> usize {
     }
 }
 
-fn numbers_for(r: &mut Random, holders: &[u8; 8]) -> Numbers {
-    let mut n = sensible(r, holders).numbers();
+fn numbers_for(r: &mut Random, log: &Log) -> Numbers {
+    let mut n = sensible(r, log).numbers();
+    if n.first[TURN] == 1 && r.once_in(2) {
+        n.first[TURN] = 0;
+    }
     if r.once_in(2) {
-        let field = r.below(8);
+        let field = r.below(9);
         let Some(number) = n.first.get_mut(field) else {
             n.update = update(r);
             return n;
@@ -99,7 +116,13 @@ struct Seen {
     halves: [usize; 4],
     /// New entries with an update of a high half alone, by their answer.
     high_alone: [usize; ANSWERS],
+    /// New entries by the kind that they have and their turn, and by their answer.
+    turns: [[[usize; ANSWERS]; TURN_NAMES.len()]; 2],
+    /// Calls with a lent record whose turn is 0 and that answered 0.
+    zeros: usize,
 }
+
+const TURN_NAMES: [&str; 5] = ["0", "1", "2 to 254", "255", "above 255"];
 
 const CALL_NAMES: [&str; 4] = ["add", "outcome", "involvement", "replay"];
 
@@ -115,6 +138,23 @@ impl Seen {
         row[call][answer as usize] += 1;
     }
 
+    /// A new entry behind records that are all accepted.
+    fn note_entry(&mut self, n: &Numbers, answer: u32) {
+        if n.update != 0 && n.update as u32 == 0 {
+            self.high_alone[answer as usize] += 1;
+        }
+        let turn = match n.first[TURN] {
+            0 => 0,
+            1 => 1,
+            2..=254 => 2,
+            255 => 3,
+            _ => 4,
+        };
+        if let Some(turns) = self.turns.get_mut(n.first[0] as usize) {
+            turns[turn][answer as usize] += 1;
+        }
+    }
+
     fn note_replay(&mut self, out: &[u8]) {
         let rows = out[0] as usize;
         self.rows[(rows > 0) as usize] += 1;
@@ -127,11 +167,11 @@ impl Seen {
 
     fn print_and_judge(&self) -> bool {
         let mut whole = true;
-        let own = [&[0, 1, 2, 6, 7, 8, 9, 10, 11][..], &[0, 2, 6], &[0, 2, 6], &[0, 2, 6]];
+        let own = [&[0, 1, 2, 6, 7, 8, 9, 10, 11, 12][..], &[0, 2, 6], &[0, 2, 6], &[0, 2, 6]];
         for call in 0..4 {
             let rows: [(&str, &[usize; ANSWERS], &[usize]); 3] = [
                 ("count", &self.count[call], &[2]),
-                ("records", &self.records[call], &[1, 2, 7, 8, 9, 10, 11]),
+                ("records", &self.records[call], &[1, 2, 7, 8, 9, 10, 11, 12]),
                 ("own", &self.own[call], own[call]),
             ];
             for (by, seen, expected) in rows {
@@ -158,8 +198,25 @@ impl Seen {
         let [accepted, take, abort] = [0, 1, 7].map(|answer| self.high_alone[answer]);
         println!("new updates of a high half alone: accepted {accepted}, 1: {take}, 7: {abort}");
         let seen = [&self.outcomes[..], &self.involvements, &self.halves].concat();
-        let must = [accepted, take, abort];
-        whole && seen.iter().chain(&must).all(|&n| n > 0) && most > 8
+        let must = [accepted, take, abort, self.zeros];
+        whole &= seen.iter().chain(&must).all(|&n| n > 0) && most > 8;
+        println!("calls with a lent turn of 0, answered 0: {}", self.zeros);
+        whole & self.print_turns()
+    }
+
+    /// Within the limits there are accepted entries and ones of a wrong turn; beyond, none of
+    /// either.
+    fn print_turns(&self) -> bool {
+        let mut whole = true;
+        for (kind, turns) in ["takes", "votes"].iter().zip(&self.turns) {
+            for (turn, seen) in TURN_NAMES.iter().zip(turns) {
+                let [accepted, outside, wrong] = [0, 2, 12].map(|answer: usize| seen[answer]);
+                println!("{kind} of turn {turn}: 0: {accepted}, 2: {outside}, 12: {wrong}");
+                let within = *turn != "above 255";
+                whole &= outside > 0 && (accepted > 0) == within && (wrong > 0) == within;
+            }
+        }
+        whole
     }
 }
 
@@ -195,6 +252,9 @@ fn one(r: &mut Random, histories: &[History], seen: &mut Seen) {
             damage(r, &mut records, h);
         }
     }
+    if r.once_in(2) {
+        as_zeros(r, &mut records);
+    }
     let tail = r.pick(&[0, 1, RECORD - 1, RECORD, RECORD, RECORD, RECORD + 1, 2 * RECORD, 50]);
     records.extend(r.bytes(tail));
     let count = count_for(r, k, records.len());
@@ -205,11 +265,11 @@ fn one(r: &mut Random, histories: &[History], seen: &mut Seen) {
     let call = r.pick(&[0, 0, 1, 2, 3]);
     let (answer, out) = match call {
         0 => {
-            let n = numbers_for(r, &h.holders(k));
+            let n = numbers_for(r, &h.log(k));
             let (answer, out) =
                 both(&c, |b, _| library::add(b, count, &n), |b, _| plain_log::add(b, count, &n));
-            if n.update != 0 && n.update as u32 == 0 && log_behind(&c.records, count).is_ok() {
-                seen.high_alone[answer as usize] += 1;
+            if log_behind(&c.records, count).is_ok() {
+                seen.note_entry(&n, answer);
             }
             (answer, out)
         }
@@ -231,6 +291,8 @@ fn one(r: &mut Random, histories: &[History], seen: &mut Seen) {
     };
     seen.note(call, &c.records, count, answer);
     if answer == 0 {
+        let lent = c.records.chunks_exact(RECORD).take(count);
+        seen.zeros += lent.clone().any(|record| record[TURN] == 0) as usize;
         match call {
             1 => seen.outcomes[out[0] as usize] += 1,
             2 => seen.involvements[out[0] as usize] += 1,
@@ -240,10 +302,61 @@ fn one(r: &mut Random, histories: &[History], seen: &mut Seen) {
     }
 }
 
+/// The library accepts all these entries, one after the other, and stores them as they are.
+fn accepts_all(entries: &[Entry]) -> Vec<u8> {
+    let mut records = vec![0xee; entries.len() * RECORD];
+    for (count, e) in entries.iter().enumerate() {
+        assert_eq!(library::add(&mut records, count, &e.numbers()), 0, "entry {count}: {e:?}");
+    }
+    let expected: Vec<u8> = entries.iter().flat_map(|e| e.to_record()).collect();
+    assert!(records == expected, "other records than the entries");
+    records
+}
+
+/// As many entries as a log accepts: behind them every other one is refused, and not for want of
+/// place. The library is asked some of these.
+fn longest_lists(r: &mut Random) {
+    accepts_all(&longest::longest_of_turn_1());
+    let entries = longest::longest();
+    let log = log_behind(&accepts_all(&entries), entries.len()).expect("the log");
+    let mut records: Vec<u8> = entries.iter().flat_map(|e| e.to_record()).collect();
+    let count = entries.len();
+    let mut refused = |e: Entry, r: &mut Random| {
+        let answer = log.clone().enter(&e);
+        assert!(answer != 0, "a log of {count} entries accepts {e:?}");
+        if r.once_in(200) {
+            assert_eq!(library::add(&mut records, count, &e.numbers()), answer, "{e:?}");
+        }
+    };
+    for process in 1..=PROCESSES {
+        for store in 0..STORES as u8 {
+            for turn in 1..=TURNS {
+                refused(Entry::Take { process, store, turn }, r);
+            }
+        }
+    }
+    for tx in 0..TRANSACTIONS as u8 {
+        for store in 0..STORES as u8 {
+            for turn in [1, 254, TURNS] {
+                for list in [0xff, 1 << store] {
+                    let process = log.holder(store);
+                    let vote =
+                        Vote { process, by: store, store, tx, list, commit: true, turn, update: 0 };
+                    refused(Entry::Vote(vote), r);
+                    refused(Entry::Vote(Vote { commit: false, ..vote }), r);
+                }
+            }
+        }
+    }
+    println!("a log accepts {count} entries, and then no other");
+}
+
 fn main() {
     let seed = std::env::args().nth(1).map_or(1, |s| s.parse().expect("a seed"));
     let mut r = Random(seed);
+    longest_lists(&mut r);
     let mut histories: Vec<History> = (0..HISTORIES).map(|_| History::grown(&mut r)).collect();
+    histories.push(History { entries: longest::longest_of_turn_1() });
     histories.push(History { entries: longest::longest() });
     let longest = histories.iter().map(|h| h.entries.len()).max().unwrap_or(0);
     let mut seen = Seen::default();

@@ -15,7 +15,8 @@ SAME(RELEASE_LOG_ILL_FORMED, 7);
 SAME(RELEASE_LOG_NOT_HOLDER, 8);
 SAME(RELEASE_LOG_OTHER_LIST, 9);
 SAME(RELEASE_LOG_KEPT_ALREADY, 10);
-SAME(RELEASE_LOG_HOLDS_OR_HELD, 11);
+SAME(RELEASE_LOG_HOLDS_ANOTHER, 11);
+SAME(RELEASE_LOG_WRONG_TURN, 12);
 SAME(RELEASE_LOG_KIND_TAKE, 0);
 SAME(RELEASE_LOG_KIND_VOTE, 1);
 SAME(RELEASE_LOG_SAY_ABORT, 0);
@@ -27,14 +28,16 @@ SAME(RELEASE_LOG_INVOLVED_NO, 0);
 SAME(RELEASE_LOG_INVOLVED_YES, 1);
 SAME(RELEASE_LOG_INVOLVED_UNKNOWN, 2);
 SAME(RELEASE_LOG_PROCESSES, 15);
+SAME(RELEASE_LOG_TURNS, 255);
 SAME(RELEASE_LOG_STORES, 8);
 SAME(RELEASE_LOG_TRANSACTIONS, 32);
 SAME(RELEASE_LOG_RECORD_SIZE, 16);
 SAME(RELEASE_LOG_ROW_SIZE, 10);
-SAME(RELEASE_LOG_RECORDS_MOST, 376);
-SAME(RELEASE_LOG_RECORDS_ROOM, 6016);
+SAME(RELEASE_LOG_RECORDS_MOST, 4186);
+SAME(RELEASE_LOG_RECORDS_ROOM, 66976);
 SAME(RELEASE_LOG_REPLAY_ROOM, 321);
-SAME(RELEASE_LOG_VERSION_MAJOR, 2);
+SAME(RELEASE_LOG_VERSION_MAJOR, 3);
+SAME(RELEASE_LOG_VERSION_MINOR, 0);
 
 /* All eight bytes differ. */
 #define UPDATE UINT64_C(0x0102030405060708)
@@ -51,20 +54,27 @@ int main(void)
 	vote.tx = 9;
 	vote.list = 0x20;
 	vote.say = RELEASE_LOG_SAY_COMMIT;
+	vote.turn = 7;
 	vote.update = UPDATE;
 
-	same = release_log_add_take(ours, sizeof ours, 0, 3, 5) == RELEASE_LOG_OK;
+	same = release_log_add_take(ours, sizeof ours, 0, 3, 5, 7) == RELEASE_LOG_OK;
 	same &= release_log_add_vote(ours, sizeof ours, 1, &vote) == RELEASE_LOG_OK;
-	same &= release_log_add(plain, sizeof plain, 0, 0, 3, 0, 5, 0, 0, 0, 0) == RELEASE_LOG_OK;
-	same &= release_log_add(plain, sizeof plain, 1, 1, 3, 5, 5, 9, 0x20, 1, UPDATE) ==
+	same &= release_log_add(plain, sizeof plain, 0, 0, 3, 0, 5, 0, 0, 0, 7, 0) == RELEASE_LOG_OK;
+	same &= release_log_add(plain, sizeof plain, 1, 1, 3, 5, 5, 9, 0x20, 1, 7, UPDATE) ==
 	    RELEASE_LOG_OK;
 	same &= memcmp(ours, plain, sizeof ours) == 0;
+	same &= ours[7] == 7 && ours[RELEASE_LOG_RECORD_SIZE + 7] == 7;
 	same &= ours[RELEASE_LOG_RECORD_SIZE + 8] == 8 && ours[sizeof ours - 1] == 1;
 	same &= release_log_outcome(ours, sizeof ours, 2, 9, &value, 1) == RELEASE_LOG_OK;
 	same &= value == RELEASE_LOG_OUTCOME_COMMIT;
-	same &= release_log_add_take(ours, sizeof ours, 2, 3, 6) == RELEASE_LOG_HOLDS_OR_HELD;
-	same &= release_log_add_take(ours, sizeof ours, 2, 4, 6) == RELEASE_LOG_NO_PLACE;
+	same &= release_log_add_take(ours, sizeof ours, 2, 3, 6, 8) == RELEASE_LOG_HOLDS_ANOTHER;
+	same &= release_log_add_take(ours, sizeof ours, 2, 3, 5, 7) == RELEASE_LOG_WRONG_TURN;
+	same &= release_log_add_take(ours, sizeof ours, 2, 3, 5, 8) == RELEASE_LOG_NO_PLACE;
+	same &= release_log_add_take(ours, sizeof ours, 2, 4, 6, 0) == RELEASE_LOG_NO_PLACE;
 	same &= release_log_add_vote(ours, sizeof ours, 2, &vote) == RELEASE_LOG_KEPT_ALREADY;
+	vote.tx = 10;
+	vote.turn = 8;
+	same &= release_log_add_vote(ours, sizeof ours, 2, &vote) == RELEASE_LOG_WRONG_TURN;
 	puts(same ? "the header's values and helpers as expected" : "a helper is not its call");
 	return !same;
 }

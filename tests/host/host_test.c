@@ -10,6 +10,9 @@
 /* What the header says of a call, and here also of all that a thread has on its stack. */
 #define STACK_SIZE (48 * 1024)
 
+/* Where a record has its turn. */
+#define RECORD_TURN 7
+
 /* The bytes of an update, and where it begins in a record and in a row. */
 #define UPDATE_SIZE 8
 #define RECORD_UPDATE 8
@@ -48,26 +51,28 @@ static uint8_t *lent(const void *bytes, size_t n)
 	return p;
 }
 
-/* Process 1 holds store 0 and 2 holds store 1; they commit tx 4 with list 03. */
+/* Process 1 holds store 0 and 2 holds store 1; they commit tx 4 with list 03. Process 2 is in its
+   turn 3. */
 static const uint8_t story[4][RELEASE_LOG_RECORD_SIZE] = {
-	{0, 1},
-	{0, 2, 0, 1},
-	{1, 1, 0, 0, 4, 3, 1, 0, 0x0d, 0x0c, 0x0b, 0x0a, 0x04, 0x03, 0x02, 0x01},
-	{1, 2, 1, 1, 4, 3, 1, 0, 0x0e},
+	{0, 1, 0, 0, 0, 0, 0, 1},
+	{0, 2, 0, 1, 0, 0, 0, 3},
+	{1, 1, 0, 0, 4, 3, 1, 1, 0x0d, 0x0c, 0x0b, 0x0a, 0x04, 0x03, 0x02, 0x01},
+	{1, 2, 1, 1, 4, 3, 1, 3, 0x0e},
 };
 
-/* The numbers of an entry: kind, process, by, store, tx, list and say, and the update. */
+/* The numbers of an entry: kind, process, by, store, tx, list, say and turn, and the update. */
 struct numbers {
-	uint32_t first[7];
+	uint32_t first[8];
 	uint64_t update;
 };
 
-static const struct numbers third_take = {{0, 3, 0, 2, 0, 0, 0}, 0};
+static const struct numbers third_take = {{0, 3, 0, 2, 0, 0, 0, 1}, 0};
 
 static uint32_t add(uint8_t *records, size_t len, size_t count, const struct numbers *n)
 {
 	const uint32_t *f = n->first;
-	return release_log_add(records, len, count, f[0], f[1], f[2], f[3], f[4], f[5], f[6], n->update);
+	return release_log_add(records, len, count, f[0], f[1], f[2], f[3], f[4], f[5], f[6], f[7],
+	    n->update);
 }
 
 /* Every call on these records gives the refusal, whatever its own numbers and place, and writes
@@ -75,7 +80,7 @@ static uint32_t add(uint8_t *records, size_t len, size_t count, const struct num
 static void expect_refused(const char *what, const void *bytes, size_t len, size_t count,
     uint32_t answer)
 {
-	static const struct numbers unreadable = {{9, 0, 0, 0, 0, 0, 0}, 0};
+	static const struct numbers unreadable = {{9, 0, 0, 0, 0, 0, 0, 0}, 0};
 	uint8_t *records = lent(bytes, len), *out = lent("x", 1);
 	expect(what, add(records, len, count, &third_take), answer);
 	expect(what, add(records, len, count, &unreadable), answer);
@@ -113,10 +118,10 @@ static uint32_t replay(const uint8_t *records, size_t count, uint32_t store, uin
 static void test_add(void)
 {
 	static const struct numbers calls[4] = {
-		{{0, 1, 0, 0, 0, 0, 0}, 0},
-		{{0, 2, 0, 1, 0, 0, 0}, 0},
-		{{1, 1, 0, 0, 4, 3, 1}, 0x010203040a0b0c0d},
-		{{1, 2, 1, 1, 4, 3, 1}, 0x0e},
+		{{0, 1, 0, 0, 0, 0, 0, 0}, 0},
+		{{0, 2, 0, 1, 0, 0, 0, 3}, 0},
+		{{1, 1, 0, 0, 4, 3, 1, 0}, 0x010203040a0b0c0d},
+		{{1, 2, 1, 1, 4, 3, 1, 3}, 0x0e},
 	};
 	for (size_t n = 0; n < 4; n++) {
 		size_t len = (n + 1) * RELEASE_LOG_RECORD_SIZE;
@@ -135,17 +140,31 @@ static void test_add_refused(void)
 		uint32_t answer;
 		struct numbers numbers;
 	} cases[] = {
-		{1, {{2, 3, 0, 2, 0, 0, 0}, 0}},        {1, {{1, 1, 0, 0, 5, 1, 2}, 0}},
-		{1, {{0, 3, 1, 2, 0, 0, 0}, 0}},        {1, {{0, 99, 0, 2, 256, 0, 0}, 0}},
-		{1, {{0, 3, 0, 2, 0, 0, 0}, 1}},        {1, {{0, 3, 0, 2, 0, 0, 0}, TOP_BYTE}},
-		{2, {{0, 0, 0, 2, 0, 0, 0}, 0}},        {2, {{0, 16, 0, 2, 0, 0, 0}, 0}},
-		{2, {{0, 259, 0, 2, 0, 0, 0}, 0}},      {2, {{0, 3, 0, 8, 0, 0, 0}, 0}},
-		{2, {{1, 1, 256, 0, 5, 1, 1}, 0}},      {2, {{1, 1, 0, 0, 32, 1, 1}, 0}},
-		{2, {{1, 1, 0, 0, 5, 257, 1}, 0}},      {7, {{1, 1, 0, 0, 5, 2, 1}, 0}},
-		{7, {{1, 1, 0, 1, 5, 3, 1}, 0}},        {8, {{1, 2, 0, 0, 5, 1, 1}, 0}},
-		{7, {{1, 1, 0, 0, 5, 1, 0}, 1}},        {7, {{1, 1, 0, 0, 5, 1, 0}, TOP_BYTE}},
-		{9, {{1, 2, 1, 1, 4, 7, 1}, 0}},        {10, {{1, 2, 1, 1, 4, 3, 0}, 0}},
-		{11, {{0, 1, 0, 2, 0, 0, 0}, 0}},       {11, {{0, 1, 0, 0, 0, 0, 0}, 0}},
+		{1, {{2, 3, 0, 2, 0, 0, 0, 1}, 0}},         {1, {{1, 1, 0, 0, 5, 1, 2, 1}, 0}},
+		{1, {{0, 3, 1, 2, 0, 0, 0, 1}, 0}},         {1, {{0, 99, 0, 2, 256, 0, 0, 1}, 0}},
+		{1, {{0, 3, 0, 2, 0, 0, 0, 1}, 1}},         {1, {{0, 3, 0, 2, 0, 0, 0, 1}, TOP_BYTE}},
+		{1, {{0, 3, 0, 2, 0, 0, 1, 256}, 0}},       {1, {{1, 1, 0, 0, 5, 1, 2, 256}, 0}},
+		{2, {{0, 0, 0, 2, 0, 0, 0, 1}, 0}},         {2, {{0, 16, 0, 2, 0, 0, 0, 1}, 0}},
+		{2, {{0, 259, 0, 2, 0, 0, 0, 1}, 0}},       {2, {{0, 3, 0, 8, 0, 0, 0, 1}, 0}},
+		{2, {{1, 1, 256, 0, 5, 1, 1, 1}, 0}},       {2, {{1, 1, 0, 0, 32, 1, 1, 1}, 0}},
+		{2, {{1, 1, 0, 0, 5, 257, 1, 1}, 0}},       {2, {{0, 3, 0, 2, 0, 0, 0, 256}, 0}},
+		{2, {{0, 3, 0, 2, 0, 0, 0, 257}, 0}},       {2, {{0, 3, 0, 2, 0, 0, 0, UINT32_MAX}, 0}},
+		{2, {{1, 1, 0, 0, 5, 1, 1, 256}, 0}},       {2, {{1, 1, 0, 0, 5, 1, 1, 257}, 0}},
+		{2, {{1, 1, 0, 0, 5, 1, 1, 1u << 31}, 0}},  {2, {{1, 1, 0, 0, 5, 2, 1, 256}, 0}},
+		{2, {{0, 1, 0, 2, 0, 0, 0, 256}, 0}},       {7, {{1, 1, 0, 0, 5, 2, 1, 1}, 0}},
+		{7, {{1, 1, 0, 1, 5, 3, 1, 1}, 0}},         {7, {{1, 1, 0, 0, 5, 1, 0, 1}, 1}},
+		{7, {{1, 1, 0, 0, 5, 1, 0, 1}, TOP_BYTE}},  {7, {{1, 2, 0, 0, 5, 2, 1, 9}, 0}},
+		{8, {{1, 2, 0, 0, 5, 1, 1, 1}, 0}},         {8, {{1, 2, 0, 0, 5, 1, 1, 3}, 0}},
+		{9, {{1, 2, 1, 1, 4, 7, 1, 3}, 0}},         {9, {{1, 2, 1, 1, 4, 7, 1, 2}, 0}},
+		{10, {{1, 2, 1, 1, 4, 3, 0, 3}, 0}},        {10, {{1, 2, 1, 1, 4, 3, 0, 4}, 0}},
+		{11, {{0, 1, 0, 2, 0, 0, 0, 1}, 0}},        {11, {{0, 1, 0, 2, 0, 0, 0, 255}, 0}},
+		{11, {{0, 1, 0, 1, 0, 0, 0, 2}, 0}},        {11, {{0, 2, 0, 0, 0, 0, 0, 1}, 0}},
+		{12, {{0, 1, 0, 0, 0, 0, 0, 0}, 0}},        {12, {{0, 1, 0, 0, 0, 0, 0, 1}, 0}},
+		{12, {{0, 2, 0, 1, 0, 0, 0, 0}, 0}},        {12, {{0, 2, 0, 1, 0, 0, 0, 2}, 0}},
+		{12, {{0, 2, 0, 1, 0, 0, 0, 3}, 0}},        {12, {{1, 1, 0, 0, 5, 1, 1, 2}, 0}},
+		{12, {{1, 1, 0, 0, 5, 1, 1, 255}, 0}},      {12, {{1, 2, 1, 1, 5, 2, 1, 0}, 0}},
+		{12, {{1, 2, 1, 1, 5, 2, 1, 2}, 0}},        {12, {{1, 2, 1, 1, 5, 2, 0, 4}, 0}},
+		{12, {{1, 2, 1, 0, 5, 3, 0, 1}, 0}},
 	};
 	for (size_t i = 0; i < sizeof cases / sizeof *cases; i++) {
 		for (size_t more = 0; more <= RELEASE_LOG_RECORD_SIZE; more += RELEASE_LOG_RECORD_SIZE) {
@@ -177,8 +196,8 @@ static void test_no_place(void)
 /* An update has these bytes in its record, and in its row of a replay. */
 static void expect_update(uint64_t update, const uint8_t bytes[UPDATE_SIZE])
 {
-	const struct numbers vote = {{1, 1, 0, 0, 5, 1, 1}, update};
-	uint8_t record[RELEASE_LOG_RECORD_SIZE] = {1, 1, 0, 0, 5, 1, 1, 0};
+	const struct numbers vote = {{1, 1, 0, 0, 5, 1, 1, 1}, update};
+	uint8_t record[RELEASE_LOG_RECORD_SIZE] = {1, 1, 0, 0, 5, 1, 1, 1};
 	uint8_t value[1 + RELEASE_LOG_ROW_SIZE] = {1, 1, 5};
 	const size_t len = 2 * sizeof record;
 	uint8_t *records = malloc(len), *out = malloc(sizeof value);
@@ -227,9 +246,10 @@ static void test_records(void)
 		size_t record, at;
 		uint8_t byte;
 	} faults[] = {
-		{1, 0, 0, 2},  {1, 0, 2, 1},  {1, 0, 7, 1},  {1, 0, 8, 1},  {1, 0, 15, 1}, {1, 2, 6, 2},
-		{1, 3, 7, 9},  {2, 0, 1, 0},  {2, 1, 1, 16}, {2, 0, 3, 8},  {2, 2, 4, 32}, {2, 2, 2, 8},
-		{7, 2, 5, 2},  {7, 2, 6, 0},  {8, 2, 1, 2},  {9, 3, 5, 7},  {11, 1, 1, 1},
+		{1, 0, 0, 2},  {1, 0, 2, 1},  {1, 0, 6, 1},  {1, 0, 8, 1},  {1, 0, 15, 1}, {1, 2, 6, 2},
+		{2, 0, 1, 0},  {2, 1, 1, 16}, {2, 0, 3, 8},  {2, 2, 4, 32}, {2, 2, 2, 8},  {7, 2, 5, 2},
+		{7, 2, 6, 0},  {8, 2, 1, 2},  {9, 3, 5, 7},  {11, 1, 1, 1}, {12, 0, 7, 2}, {12, 1, 7, 0},
+		{12, 2, 7, 2}, {12, 3, 7, 0}, {12, 3, 7, 1}, {12, 3, 7, 4}, {12, 3, 7, 255},
 	};
 	uint8_t records[4][RELEASE_LOG_RECORD_SIZE];
 	for (size_t i = 0; i < sizeof faults / sizeof *faults; i++) {
@@ -248,6 +268,119 @@ static void test_records(void)
 	expect_refused("twice", records, sizeof records, 4, RELEASE_LOG_KEPT_ALREADY);
 }
 
+/* An entry is accepted behind these records, which stay as they are, and stored so. */
+static void expect_stored(const char *what, const void *before, size_t count,
+    const struct numbers *entry, uint8_t turn)
+{
+	const size_t len = (count + 1) * RELEASE_LOG_RECORD_SIZE;
+	uint8_t *records = malloc(len);
+	if (count > 0)
+		memcpy(records, before, len - RELEASE_LOG_RECORD_SIZE);
+	expect(what, add(records, len, count, entry), RELEASE_LOG_OK);
+	if (count > 0)
+		expect_bytes(what, records, before, len - RELEASE_LOG_RECORD_SIZE);
+	expect(what, records[len - RELEASE_LOG_RECORD_SIZE + RECORD_TURN], turn);
+	free(records);
+}
+
+/* The numbers with that turn. */
+static struct numbers in_turn(struct numbers n, uint32_t turn)
+{
+	n.first[RECORD_TURN] = turn;
+	return n;
+}
+
+/* Each turn of a call and of a record. A first take of it is accepted, and 0 is stored as 1. Then
+   the process votes in this turn and in no other, and takes its store again in a later one. */
+static void test_turns(void)
+{
+	static const struct numbers take = {{0, 1, 0, 0, 0, 0, 0, 0}, 0};
+	static const struct numbers vote = {{1, 1, 0, 0, 5, 1, 1, 0}, 0};
+	uint8_t records[2][RELEASE_LOG_RECORD_SIZE] = {{0, 1}};
+	for (uint32_t turn = 0; turn <= RELEASE_LOG_TURNS; turn++) {
+		const uint32_t kept = turn == 0 ? 1 : turn;
+		const uint32_t others[] = {0, 1, kept - 1, kept, kept + 1, 255, 256, kept + 256, UINT32_MAX};
+		struct numbers entry = in_turn(take, turn);
+		expect_stored("a take of a turn", NULL, 0, &entry, (uint8_t)kept);
+		entry = in_turn(vote, turn);
+		records[0][RECORD_TURN] = (uint8_t)turn;
+		expect_stored("a vote of that turn", records, 1, &entry, (uint8_t)kept);
+		for (size_t i = 0; i < sizeof others / sizeof *others; i++) {
+			const uint32_t other = others[i] == 0 ? 1 : others[i];
+			const uint32_t outside = other > RELEASE_LOG_TURNS ? RELEASE_LOG_OUTSIDE : 0;
+			const uint32_t wrong = outside != 0 ? outside : RELEASE_LOG_WRONG_TURN;
+			entry = in_turn(vote, others[i]);
+			expect("a vote of some turn", add(records[0], sizeof records, 1, &entry),
+			    other == kept ? RELEASE_LOG_OK : wrong);
+			entry = in_turn(take, others[i]);
+			expect("its store again", add(records[0], sizeof records, 1, &entry),
+			    other > kept ? outside : wrong);
+		}
+	}
+}
+
+/* Process 1 comes back in turn 2, and holds store 0 again or not. */
+static void test_back(void)
+{
+	static const struct numbers early_vote = {{1, 1, 0, 0, 5, 1, 1, 1}, 0};
+	static const struct numbers late_vote = {{1, 1, 0, 0, 5, 1, 1, 2}, 0};
+	static const struct numbers take_0_early = {{0, 1, 0, 0, 0, 0, 0, 1}, 0};
+	static const struct numbers take_0_late = {{0, 1, 0, 0, 0, 0, 0, 2}, 0};
+	static const struct numbers take_2_early = {{0, 1, 0, 2, 0, 0, 0, 1}, 0};
+	static const struct numbers take_2_late = {{0, 1, 0, 2, 0, 0, 0, 2}, 0};
+	static const struct numbers takeover = {{0, 4, 0, 0, 0, 0, 0, 1}, 0};
+	uint8_t records[8][RELEASE_LOG_RECORD_SIZE];
+	const size_t len = sizeof records;
+	memcpy(records, story, sizeof story);
+	/* It takes its own store again, without anybody between. */
+	expect("early vote", add(records[0], len, 4, &early_vote), RELEASE_LOG_OK);
+	expect("own store", add(records[0], len, 4, &take_0_late), RELEASE_LOG_OK);
+	expect("early vote behind it", add(records[0], len, 5, &early_vote), RELEASE_LOG_WRONG_TURN);
+	expect("late vote", add(records[0], len, 5, &late_vote), RELEASE_LOG_OK);
+	/* Process 4 takes the store, and process 1 does not come back: another store is free to it,
+	   this one only in a later turn. */
+	expect("takeover", add(records[0], len, 4, &takeover), RELEASE_LOG_OK);
+	expect("held before", add(records[0], len, 5, &take_0_early), RELEASE_LOG_WRONG_TURN);
+	expect("never held", add(records[0], len, 5, &take_2_early), RELEASE_LOG_OK);
+	expect("held before, late", add(records[0], len, 5, &take_0_late), RELEASE_LOG_OK);
+	/* Its turn 2 counts for every store from its take on. */
+	expect("own store", add(records[0], len, 4, &take_0_late), RELEASE_LOG_OK);
+	expect("takeover", add(records[0], len, 5, &takeover), RELEASE_LOG_OK);
+	expect("never held, early", add(records[0], len, 6, &take_2_early), RELEASE_LOG_WRONG_TURN);
+	expect("never held, late", add(records[0], len, 6, &take_2_late), RELEASE_LOG_OK);
+	/* A store that it held in turn 1 only is one that it held, in turn 2 too. */
+	expect("takeover", add(records[0], len, 4, &takeover), RELEASE_LOG_OK);
+	expect("never held, late", add(records[0], len, 5, &take_2_late), RELEASE_LOG_OK);
+	expect("takeover of 2", release_log_add_take(records[0], len, 6, 5, 2, 1), RELEASE_LOG_OK);
+	expect("held early", add(records[0], len, 7, &take_0_late), RELEASE_LOG_WRONG_TURN);
+	expect("held early", release_log_add_take(records[0], len, 7, 1, 0, 3), RELEASE_LOG_OK);
+}
+
+/* Records of version 2, whose turns are 0: they are read as they are, and stay so. */
+static void test_zero_turns(void)
+{
+	static const struct numbers vote = {{1, 1, 0, 0, 5, 1, 1, 1}, 0};
+	static const struct numbers again = {{0, 2, 0, 1, 0, 0, 0, 0}, 0};
+	uint8_t zeros[4][RELEASE_LOG_RECORD_SIZE], *records, *out = malloc(RELEASE_LOG_REPLAY_ROOM);
+	memcpy(zeros, story, sizeof story);
+	for (size_t n = 0; n < 4; n++)
+		zeros[n][RECORD_TURN] = 0;
+	expect_stored("behind turns of 0", zeros, 4, &vote, 1);
+	expect_stored("behind turns of 0", zeros, 4, &third_take, 1);
+	records = lent(zeros, sizeof zeros);
+	expect("turns of 0", add(records, sizeof zeros, 4, &again), RELEASE_LOG_WRONG_TURN);
+	expect("turns of 0", release_log_outcome(records, sizeof zeros, 4, 4, out, 1), RELEASE_LOG_OK);
+	expect("turns of 0", out[0], RELEASE_LOG_OUTCOME_COMMIT);
+	expect("turns of 0", release_log_replay(records, sizeof zeros, 4, 1, out, 11), RELEASE_LOG_OK);
+	expect("turns of 0", out[0], 1);
+	expect_bytes("turns of 0", records, zeros[0], sizeof zeros);
+	/* A 0 beside a 1 is the same turn. */
+	records[RECORD_TURN] = 1;
+	expect("0 and 1", release_log_outcome(records, sizeof zeros, 4, 4, out, 1), RELEASE_LOG_OK);
+	free(records);
+	free(out);
+}
+
 /* What stands after the counted records is not looked at. */
 static void test_records_counted(void)
 {
@@ -260,13 +393,15 @@ static void test_records_counted(void)
 }
 
 /* Records of version 1, lent with their count: the buffer is too short for so many, or the first
-   one, a take, has an update, which is the start of the second one. */
+   one, a take, has an update, which is the start of the second one. Byte 7 is 0 in them. */
 static void test_old_records(void)
 {
 	uint8_t old[RELEASE_LOG_RECORDS_ROOM] = {0};
 	const size_t len = 4 * OLD_RECORD_SIZE;
-	for (size_t n = 0; n < 4; n++)
+	for (size_t n = 0; n < 4; n++) {
 		memcpy(old + n * OLD_RECORD_SIZE, story[n], OLD_RECORD_SIZE);
+		old[n * OLD_RECORD_SIZE + RECORD_TURN] = 0;
+	}
 	for (size_t count = 1; count <= 4; count++) {
 		uint32_t answer = count <= len / RELEASE_LOG_RECORD_SIZE ? 1 : 2;
 		expect_refused("old records", old, len, count, answer);
@@ -333,20 +468,26 @@ static void test_replay(void)
 	free(exact);
 }
 
-/* Eight takes and 256 votes, and then each query, on a stack of the thread's own. */
+/* Eight takes, one process's takes of all turns and 256 votes, and then each query, on a stack of
+   the thread's own. */
 static void *many_calls(void *nothing)
 {
 	uint8_t *records = malloc(RELEASE_LOG_RECORDS_ROOM), *out = malloc(RELEASE_LOG_REPLAY_ROOM);
 	const size_t room = RELEASE_LOG_RECORDS_ROOM;
 	size_t count = 0;
 	for (uint32_t s = 0; s < RELEASE_LOG_STORES; s++, count++)
-		expect("many takes", release_log_add_take(records, room, count, s + 1, s), RELEASE_LOG_OK);
+		expect("many takes", release_log_add_take(records, room, count, s + 1, s, 0), RELEASE_LOG_OK);
+	for (uint32_t turn = 2; turn <= RELEASE_LOG_TURNS; turn++, count++)
+		expect("many turns", release_log_add_take(records, room, count, 1, 0, turn), RELEASE_LOG_OK);
 	for (uint32_t i = 0; i < RELEASE_LOG_STORES * RELEASE_LOG_TRANSACTIONS; i++, count++) {
 		uint32_t s = i % RELEASE_LOG_STORES, tx = i / RELEASE_LOG_STORES;
 		struct release_log_vote vote = {
-			s + 1, s, s, tx, 0xff, RELEASE_LOG_SAY_COMMIT, i * UINT64_C(0x0101010101010101)};
+			.process = s + 1, .by = s, .store = s, .tx = tx, .list = 0xff,
+			.say = RELEASE_LOG_SAY_COMMIT, .turn = s == 0 ? RELEASE_LOG_TURNS : 0,
+			.update = i * UINT64_C(0x0101010101010101)};
 		expect("many votes", release_log_add_vote(records, room, count, &vote), RELEASE_LOG_OK);
 	}
+	expect("many", (uint32_t)count, 8 + 254 + 256);
 	expect("many", release_log_outcome(records, room, count, 31, out, 1), RELEASE_LOG_OK);
 	expect("many", out[0], RELEASE_LOG_OUTCOME_COMMIT);
 	expect("many", release_log_involvement(records, room, count, 31, 7, out, 1), RELEASE_LOG_OK);
@@ -377,6 +518,9 @@ int main(void)
 	test_update();
 	test_count();
 	test_records();
+	test_turns();
+	test_back();
+	test_zero_turns();
 	test_records_counted();
 	test_old_records();
 	test_outcome();

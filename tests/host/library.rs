@@ -14,6 +14,7 @@ extern "C" {
         tx: u32,
         list: u32,
         say: u32,
+        turn: u32,
         update: u64,
     ) -> u32;
     fn release_log_outcome(
@@ -44,9 +45,9 @@ extern "C" {
 }
 
 pub fn add(records: &mut [u8], count: usize, n: &Numbers) -> u32 {
-    let [kind, process, by, store, tx, list, say] = n.first;
-    let (p, len) = (records.as_mut_ptr(), records.len());
-    unsafe { release_log_add(p, len, count, kind, process, by, store, tx, list, say, n.update) }
+    let [kind, process, by, store, tx, list, say, turn] = n.first;
+    let (p, len, update) = (records.as_mut_ptr(), records.len(), n.update);
+    unsafe { release_log_add(p, len, count, kind, process, by, store, tx, list, say, turn, update) }
 }
 
 pub fn outcome(records: &[u8], count: usize, tx: u32, out: &mut [u8]) -> u32 {

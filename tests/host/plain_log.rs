@@ -1,6 +1,6 @@
-//! The plain log of document 01, with the updates of document 02, request 3, and the hosts' calls
-//! on it, written from the documents by themselves. The tests set the library and the example host
-//! beside it, and the benchmarks measure with it.
+//! The plain log of document 01, with the updates of document 02, request 3, and the turns of
+//! request 4, and the hosts' calls on it, written from the documents by themselves. The tests set
+//! the library and the example host beside it, and the benchmarks measure with it.
 
 // A program that uses this module need not use all of it.
 #![allow(dead_code)]
@@ -8,12 +8,14 @@
 /// Bytes of a record, and of a replay's row.
 pub const RECORD: usize = 16;
 pub const ROW: usize = 10;
-/// Where a record's update begins.
+/// Where a record has its turn, and where its update begins.
+pub const TURN: usize = 7;
 const UPDATE: usize = 8;
 
 pub const STORES: usize = 8;
 pub const TRANSACTIONS: usize = 32;
 pub const PROCESSES: u8 = 15;
+pub const TURNS: u8 = 255;
 
 /// An answer: 0, or the number of the refusal.
 pub mod answer {
@@ -25,7 +27,8 @@ pub mod answer {
     pub const NOT_HOLDER: u32 = 8;
     pub const OTHER_LIST: u32 = 9;
     pub const KEPT_ALREADY: u32 = 10;
-    pub const HOLDS_OR_HELD: u32 = 11;
+    pub const HOLDS_ANOTHER: u32 = 11;
+    pub const WRONG_TURN: u32 = 12;
 }
 use answer::*;
 
@@ -54,6 +57,7 @@ pub struct Vote {
     pub tx: u8,
     pub list: u8,
     pub commit: bool,
+    pub turn: u8,
     pub update: u64,
 }
 
@@ -69,22 +73,22 @@ impl Vote {
 
 #[derive(Clone, Copy, PartialEq, Eq, Debug)]
 pub enum Entry {
-    Take { process: u8, store: u8 },
+    Take { process: u8, store: u8, turn: u8 },
     Vote(Vote),
 }
 
 /// An entry's numbers as a call has them.
 #[derive(Clone, Copy, PartialEq, Eq, Debug)]
 pub struct Numbers {
-    /// Kind, process, by, store, tx, list and say, as at the start of a record.
-    pub first: [u32; 7],
+    /// Kind, process, by, store, tx, list, say and turn, as at the start of a record.
+    pub first: [u32; 8],
     pub update: u64,
 }
 
 impl Entry {
     /// The entry that the numbers stand for, or refusal 1 or 2.
     pub fn read(n: &Numbers) -> Result<Entry, u32> {
-        let [kind, process, by, store, tx, list, say] = n.first;
+        let [kind, process, by, store, tx, list, say, turn] = n.first;
         match kind {
             0 if by | tx | list | say == 0 && n.update == 0 => {}
             1 if say <= 1 => {}
@@ -96,11 +100,13 @@ impl Entry {
             || by >= STORES as u32
             || tx >= TRANSACTIONS as u32
             || list > 0xff
+            || turn > TURNS as u32
         {
             return Err(OUTSIDE);
         }
+        let turn = turn.max(1) as u8;
         if kind == 0 {
-            return Ok(Entry::Take { process: process as u8, store: store as u8 });
+            return Ok(Entry::Take { process: process as u8, store: store as u8, turn });
         }
         Ok(Entry::Vote(Vote {
             process: process as u8,
@@ -109,28 +115,23 @@ impl Entry {
             tx: tx as u8,
             list: list as u8,
             commit: say == 1,
+            turn,
             update: n.update,
         }))
     }
 
     pub fn numbers(&self) -> Numbers {
         let (first, update) = match *self {
-            Entry::Take { process, store } => ([0, process, 0, store, 0, 0, 0], 0),
+            Entry::Take { process, store, turn } => ([0, process, 0, store, 0, 0, 0, turn], 0),
             Entry::Vote(v) => {
-                ([1, v.process, v.by, v.store, v.tx, v.list, v.commit as u8], v.update)
+                ([1, v.process, v.by, v.store, v.tx, v.list, v.commit as u8, v.turn], v.update)
             }
         };
         Numbers { first: first.map(u32::from), update }
     }
 
     pub fn from_record(r: &[u8]) -> Result<Entry, u32> {
-        if r[7] != 0 {
-            return Err(UNREADABLE);
-        }
-        let mut first = [0; 7];
-        for i in 0..7 {
-            first[i] = r[i] as u32;
-        }
+        let first = std::array::from_fn(|i| r[i] as u32);
         let update = u64::from_le_bytes(r[UPDATE..RECORD].try_into().expect("eight bytes"));
         Entry::read(&Numbers { first, update })
     }
@@ -138,7 +139,7 @@ impl Entry {
     pub fn to_record(&self) -> [u8; RECORD] {
         let n = self.numbers();
         let mut r = [0; RECORD];
-        for i in 0..7 {
+        for i in 0..UPDATE {
             r[i] = n.first[i] as u8;
         }
         r[UPDATE..].copy_from_slice(&n.update.to_le_bytes());
@@ -150,7 +151,11 @@ impl Entry {
 pub struct Log {
     votes: [[Option<Vote>; STORES]; TRANSACTIONS],
     holders: [u8; STORES],
-    /// Bit p: process p took the store.
+    /// The turn in which the holder took the store.
+    turns: [u8; STORES],
+    /// The turn of each process's last accepted take, of any store; 0 if none.
+    last_turns: [u8; PROCESSES as usize + 1],
+    /// Bit p: process p took the store, at any time.
     held: [u16; STORES],
     /// 0 if none.
     group: [u8; TRANSACTIONS],
@@ -174,6 +179,8 @@ impl Log {
         Log {
             votes: [[None; STORES]; TRANSACTIONS],
             holders: [0; STORES],
+            turns: [0; STORES],
+            last_turns: [0; PROCESSES as usize + 1],
             held: [0; STORES],
             group: [0; TRANSACTIONS],
             groups: 0,
@@ -213,6 +220,16 @@ impl Log {
         self.holders[store as usize]
     }
 
+    /// The turn of the process that holds the store; 0 if none does.
+    pub fn holder_turn(&self, store: u8) -> u8 {
+        self.turns[store as usize]
+    }
+
+    /// The turn of the process's last accepted take; 0 if none.
+    pub fn last_turn(&self, process: u8) -> u8 {
+        self.last_turns[process as usize]
+    }
+
     fn running(&self) -> u32 {
         let mut set = 0;
         for tx in 0..TRANSACTIONS as u8 {
@@ -223,12 +240,19 @@ impl Log {
         set
     }
 
-    fn take(&mut self, process: u8, store: u8) -> u32 {
+    fn take(&mut self, process: u8, store: u8, turn: u8) -> u32 {
         let s = store as usize;
-        if self.holders.contains(&process) || self.held[s] >> process & 1 == 1 {
-            return HOLDS_OR_HELD;
+        if (0..STORES).any(|other| other != s && self.holders[other] == process) {
+            return HOLDS_ANOTHER;
+        }
+        let last = self.last_turns[process as usize];
+        let held = self.held[s] >> process & 1 == 1;
+        if turn < last || turn == last && held {
+            return WRONG_TURN;
         }
         self.holders[s] = process;
+        self.turns[s] = turn;
+        self.last_turns[process as usize] = turn;
         self.held[s] |= 1 << process;
         ACCEPTED
     }
@@ -250,6 +274,9 @@ impl Log {
         if row[v.store as usize].is_some() {
             return KEPT_ALREADY;
         }
+        if self.turns[v.by as usize] != v.turn {
+            return WRONG_TURN;
+        }
         let running = self.has_vote(v.tx);
         self.votes[v.tx as usize][v.store as usize] = Some(v);
         if self.outcome(v.tx) == Outcome::Commit {
@@ -269,7 +296,7 @@ impl Log {
 
     pub fn enter(&mut self, e: &Entry) -> u32 {
         match *e {
-            Entry::Take { process, store } => self.take(process, store),
+            Entry::Take { process, store, turn } => self.take(process, store, turn),
             Entry::Vote(v) => self.vote(v),
         }
     }

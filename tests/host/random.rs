@@ -57,21 +57,34 @@ pub fn update(r: &mut Random) -> u64 {
     }
 }
 
-/// An entry within its limits that a log may well accept.
-pub fn sensible(r: &mut Random, holders: &[u8; 8]) -> Entry {
+/// The turn, or at times another one.
+fn turn_near(r: &mut Random, turn: u8) -> u8 {
+    match r.below(24) {
+        0 => turn.saturating_add(1),
+        1 => turn.saturating_sub(1).max(1),
+        2 => r.pick(&[1, 2, 254, 255]),
+        _ => turn.max(1),
+    }
+}
+
+/// An entry within its limits that the log may well accept.
+pub fn sensible(r: &mut Random, log: &Log) -> Entry {
     let tx = r.below(32) as u8;
     let list = list_of(r, tx);
     let mut store = r.below(8) as u8;
     while list >> store & 1 == 0 && !r.once_in(8) {
         store = (store + 1) % 8;
     }
-    if r.once_in(6) || holders[store as usize] == 0 {
-        let process = r.below(15) as u8 + 1;
-        return Entry::Take { process, store };
+    if r.once_in(6) || log.holder(store) == 0 {
+        let own_again = r.once_in(3) && log.holder(store) != 0;
+        let process = if own_again { log.holder(store) } else { r.below(15) as u8 + 1 };
+        let last = log.last_turn(process);
+        let turn = if r.once_in(2) { last.saturating_add(1) } else { last };
+        return Entry::Take { process, store, turn: turn_near(r, turn) };
     }
     let commit = !r.once_in(8);
     let by = if commit { store } else { r.below(8) as u8 };
-    let held_by = holders[by as usize];
+    let held_by = log.holder(by);
     Entry::Vote(Vote {
         process: if held_by == 0 { r.below(15) as u8 + 1 } else { held_by },
         by,
@@ -79,6 +92,7 @@ pub fn sensible(r: &mut Random, holders: &[u8; 8]) -> Entry {
         tx,
         list,
         commit,
+        turn: turn_near(r, log.holder_turn(by)),
         update: if commit { update(r) } else { 0 },
     })
 }
@@ -90,14 +104,11 @@ pub struct History {
 
 impl History {
     pub fn grown(r: &mut Random) -> History {
-        let length = r.pick(&[3, 20, 60, 120, 376]);
-        let (mut log, mut holders, mut entries) = (Log::new(), [0u8; 8], Vec::new());
+        let length = r.pick(&[3, 20, 60, 120, 400]);
+        let (mut log, mut entries) = (Log::new(), Vec::new());
         for _ in 0..length * 4 {
-            let e = sensible(r, &holders);
+            let e = sensible(r, &log);
             if log.enter(&e) == 0 {
-                if let Entry::Take { process, store } = e {
-                    holders[store as usize] = process;
-                }
                 entries.push(e);
             }
             if entries.len() == length {
@@ -107,14 +118,12 @@ impl History {
         History { entries }
     }
 
-    /// The holders after the first n entries.
-    pub fn holders(&self, n: usize) -> [u8; 8] {
-        let mut holders = [0; 8];
+    /// The log after the first n entries.
+    pub fn log(&self, n: usize) -> Log {
+        let mut log = Log::new();
         for e in &self.entries[..n] {
-            if let Entry::Take { process, store } = *e {
-                holders[store as usize] = process;
-            }
+            log.enter(e);
         }
-        holders
+        log
     }
 }

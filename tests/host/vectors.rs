@@ -59,7 +59,7 @@ fn called(host: &Host, line: &str) -> String {
     let mut out = if words[0] == "apply" { Vec::new() } else { vec![0xee; last] };
     let answer = match words[0] {
         "apply" => {
-            let update = words[10].parse().expect("an update");
+            let update = words[11].parse().expect("an update");
             let n = Numbers { first: std::array::from_fn(|i| number(3 + i)), update };
             (host.add)(&mut records, count, &n)
         }

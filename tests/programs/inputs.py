@@ -24,9 +24,12 @@ def short(name):
     if name == "plain":
         rows = [plain_take(1, 0), plain_vote(1, 0, 4, "01", LARGEST)]
         rows += [plain_vote(1, 0, 5, "01", 10, SHORT_DIGITS), b"do=take proc=1 store=9"]
+        rows += [b"do=take proc=1 turn=255 store=0", b"do=take proc=1 turn=256 store=0"]
     else:
         script = Script()
         script.queue(script.take(1, 0))
+        script.back(1, 255)
+        script.take(1, 0)
         rows = script.rows + [b"do=open coord=0 inst=0 ballot=999", b"do=crash role=proc id=2"]
     return joined(rows + [b"", b"x" * (BYTES + 1)])[:-1]
 

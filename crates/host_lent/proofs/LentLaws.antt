@@ -55,7 +55,9 @@ pub take-stored : (l : Log) (e : Entry) → e .take ≡ true → e .process < 16
     (record {
       rows = l .rows;
       holders = set (l .holders) (e .store) (e .process);
+      turns = set (l .turns) (e .store) (e .turn);
       takers = set (l .takers) (e .store) (bitOr (getD (l .takers) (e .store) 0) (1 * 2 ^ e .process % 65536));
+      latest = set (l .latest) (e .process) (e .turn);
       groups = l .groups;
       remembered = l .remembered;
     })
@@ -66,12 +68,13 @@ take-stored l e take h ok =
 
 -- what a vote is decided on, by the summary of its row
 pub vote-parts : (l : Log) (e : Entry) (s : Summary) (last : ℕ) → IsOf s (rowOf l (e .tx)) → last ≡ remembered l (l .groups)
-    → summaryParts s e (getD (l .holders) (e .by) 0) (l .groups) last ≡ votePartsOf (partsOf l e) e
+    → summaryParts s e (getD (l .holders) (e .by) 0) (getD (l .turns) (e .by) 0) (l .groups) last ≡ votePartsOf (partsOf l e) e
 vote-parts l e s last is remembers = λ i. record {
   tally = is .0 i;
   clash = is .2 e i;
   group = is .1 i;
   holder = getD (l .holders) (e .by) 0;
+  turn = getD (l .turns) (e .by) 0;
   groups = l .groups;
   remembered = remembers i;
 }
@@ -94,7 +97,7 @@ module _ (l : Log) (e : Entry) (vote : e .take ≡ false) (f : Effect) (is : f �
   pub vote-agrees : outside e ≡ false → f .answer ≡ accepted
       → (anyClash e (rowOf l (e .tx) .votes) ≡ false) × (voteOfStore (e .store) (rowOf l (e .tx)) .kept ≡ false)
   vote-agrees inside ok =
-      accepted-vote (rowOf l (e .tx)) (getD (l .holders) (e .by) 0) e (answer-vote (partsOf l e) e inside vote ∙ sym said ∙ ok)
+      accepted-vote (rowOf l (e .tx)) (getD (l .holders) (e .by) 0) (getD (l .turns) (e .by) 0) e (answer-vote (partsOf l e) e inside vote ∙ sym said ∙ ok)
 
 -- what the last group remembers, once it is begun
 pub last-begun : (all : List ℕ) → length all ≡ transactions → (g running : ℕ) → 0 < g → g ≤ transactions

@@ -28,6 +28,6 @@ IsOf s r =
     (s .tally ≡ tallyOf (r .votes)) × (s .group ≡ r .group) × ((e : Entry) → clashesWith s e ≡ anyClash e (r .votes)) × (length (r .votes) ≡ stores)
 
 -- what a vote on the row is decided on
-abbrev pub summaryParts : Summary → Entry → ℕ → ℕ → ℕ → VoteParts
-summaryParts s e holder groups remembered =
-    record { tally = s .tally; clash = clashesWith s e; group = s .group; holder = holder; groups = groups; remembered = remembered }
+abbrev pub summaryParts : Summary → Entry → ℕ → ℕ → ℕ → ℕ → VoteParts
+summaryParts s e holder turn groups remembered =
+    record { tally = s .tally; clash = clashesWith s e; group = s .group; holder = holder; turn = turn; groups = groups; remembered = remembered }

@@ -12,6 +12,7 @@ use host_records::RECORD_SIZE;
 use host_records::Reading;
 use log_core::Log;
 use log_core::refusal::take_refusal;
+use log_entry::limits::PROCESS_PLACES;
 use log_entry::limits::STORE_PLACES;
 use log_entry::limits::TRANSACTION_PLACES;
 use log_entry::refusal::ACCEPTED;
@@ -72,7 +73,9 @@ fn entered(none: Row, lent: &[u8], count: usize, answer: &mut u8) -> Log
 {
     let mut rows = [none; TRANSACTION_PLACES];
     let mut holders: [u8; STORE_PLACES] = [0; STORE_PLACES];
+    let mut turns: [u8; STORE_PLACES] = [0; STORE_PLACES];
     let mut takers: [u16; STORE_PLACES] = [0; STORE_PLACES];
+    let mut latest: [u8; PROCESS_PLACES] = [0; PROCESS_PLACES];
     let mut groups: u8 = 0;
     let mut remembered: [u32; TRANSACTION_PLACES] = [0; TRANSACTION_PLACES];
     let summary = Summary::none();
@@ -93,18 +96,22 @@ fn entered(none: Row, lent: &[u8], count: usize, answer: &mut u8) -> Log
         left -= 1;
         let store = e.store as usize;
         if e.take {
-            let refused = take_refusal(holders, takers[store], e);
+            let process = e.process as usize;
+            let refused = take_refusal(holders, takers[store], latest[process], e);
             if refused != ACCEPTED {
                 *answer = refused;
                 break;
             }
             holders[store] = e.process;
+            turns[store] = e.turn;
             takers[store] = takers[store] | (1u16 << e.process);
+            latest[process] = e.turn;
             continue;
         }
         let tx = e.tx as usize;
         let old = summaries[tx];
-        let f = old.parts(e, holders[e.by as usize], groups, last).decide(e);
+        let by = e.by as usize;
+        let f = old.parts(e, holders[by], turns[by], groups, last).decide(e);
         if f.answer != ACCEPTED {
             *answer = f.answer;
             break;
@@ -130,7 +137,9 @@ fn entered(none: Row, lent: &[u8], count: usize, answer: &mut u8) -> Log
     Log {
         rows: rows,
         holders: holders,
+        turns: turns,
         takers: takers,
+        latest: latest,
         groups: groups,
         remembered: remembered,
     }

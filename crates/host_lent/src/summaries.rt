@@ -43,8 +43,8 @@ impl Summary {
     }
 
     // What a vote on the row is decided on.
-    pub fn parts(self, e: Entry, holder: u8, groups: u8, remembered: u32) -> VoteParts
-        ensures { λ r. ⌜ r ≡ summaryParts self e holder groups remembered ⌝ }
+    pub fn parts(self, e: Entry, holder: u8, turn: u8, groups: u8, remembered: u32) -> VoteParts
+        ensures { λ r. ⌜ r ≡ summaryParts self e holder turn groups remembered ⌝ }
     {
         let tally = self.tally;
         VoteParts {
@@ -52,6 +52,7 @@ impl Summary {
             clash: self.clashes(e),
             group: self.group,
             holder: holder,
+            turn: turn,
             groups: groups,
             remembered: remembered,
         }

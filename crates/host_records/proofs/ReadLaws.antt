@@ -1,18 +1,33 @@
 -- What numbers read as. A number that no byte holds is outside its limits.
-use Prim.Native.Nat.{_<_, _≤_}
+use Prim.Native.Nat.{ℕ, _<_, _≤_}
 use mathlib.Core.Bool.{Bool, false, or-true, true, true≢false, _||_}
-use mathlib.Core.Logic.{_⊎_, inl, inr, ⊎-elim}
+use mathlib.Core.Logic.{_⊎_, ⊎-elim}
 use mathlib.Core.Path.{_≡_, refl, sym, _∙_}
 use native.Mathlib.Omega.{arith}
 use borrow.Author.Tests.{eqb-true, le-leb, leb-false, leb-true, lt-ltb, ne-eqb}
 use lib.Dec.{eqb, leb}
 use Rattle.log_entry.proofs.Tests.{neither-left, neither-right, or-cases}
+use Rattle.log_entry.specs.declared.Entry.{Entry}
 use Rattle.log_entry.specs.Entry.{outside}
-use Rattle.log_entry.specs.Limits.{lists, processes, stores, transactions}
+use Rattle.log_entry.specs.Limits.{lists, processes, stores, transactions, turns}
 use Rattle.log_entry.specs.Refusal.{outsideLimits, unreadable as unreadableNumber}
-use Rattle.host_records.specs.Numbers.{beyondByte, byteValues, entryOf, readNumbers, takeKind, unreadable, unusedIsSet}
+use Rattle.host_records.specs.Numbers.{beyondByte, byteValues, commitSay, entryOf, readNumbers, takeKind, turnMeant, unreadable, unusedIsSet}
 use Rattle.host_records.specs.declared.Numbers.{Numbers}
 use Rattle.host_records.specs.declared.Reading.the-variants.{Of, Refused}
+
+-- the entry that numbers stand for in this turn
+abbrev inTurn : Numbers → ℕ → Entry
+inTurn n t = record {
+  take = eqb (n .kind) takeKind;
+  process = n .process;
+  turn = t;
+  by = n .by;
+  store = n .store;
+  tx = n .tx;
+  participants = n .list;
+  commit = eqb (n .say) commitSay;
+  update = n .update;
+}
 
 module _ (n : Numbers) (readable : unreadable n ≡ false) where
   -- what a take does not use is 0, so who uses it is no take
@@ -50,28 +65,40 @@ module _ (n : Numbers) (readable : unreadable n ≡ false) where
   outside-list h =
       simp (vote-if-used (simp (ne-eqb (n .list) 0 (λ e. omega arith), or-true)), le-leb lists (n .list) h, or-true)
 
+  outside-turn : byteValues ≤ n .turn → outside (entryOf n) ≡ true
+  unfolding outside
+  outside-turn h = simp (ne-eqb (n .turn) 0 (λ e. omega arith), lt-ltb turns (n .turn) (omega arith), or-true)
+
   beyond-is-outside : beyondByte n ≡ true → outside (entryOf n) ≡ true
   unfolding beyondByte
   beyond-is-outside h =
       ⊎-elim (λ h.
       ⊎-elim (λ h.
       ⊎-elim (λ h.
+      ⊎-elim (λ h.
       ⊎-elim (λ h. outside-process (leb-true byteValues (n .process) h)) (λ h. outside-by (leb-true byteValues (n .by) h)) (or-cases _ _ h))
       (λ h. outside-store (leb-true byteValues (n .store) h)) (or-cases _ _ h))
       (λ h. outside-tx (leb-true byteValues (n .tx) h)) (or-cases _ _ h))
-      (λ h. outside-list (leb-true byteValues (n .list) h)) (or-cases _ _ h)
+      (λ h. outside-list (leb-true byteValues (n .list) h)) (or-cases _ _ h))
+      (λ h. outside-turn (leb-true byteValues (n .turn) h)) (or-cases _ _ h)
 
   pub read-beyond : beyondByte n ≡ true → Refused outsideLimits ≡ readNumbers n
   unfolding readNumbers
   read-beyond h = rw (readable, beyond-is-outside h)
 
-  pub read-outside : outside (entryOf n) ≡ true → Refused outsideLimits ≡ readNumbers n
+  pub read-above : byteValues ≤ n .turn → readNumbers n ≡ Refused outsideLimits
   unfolding readNumbers
-  read-outside h = rw (readable, h)
+  read-above h = rw (readable, outside-turn h)
 
-  pub read-entry : outside (entryOf n) ≡ false → Of (entryOf n) ≡ readNumbers n
-  unfolding readNumbers
-  read-entry h = rw (readable, h)
+  -- t is the turn that they stand for
+  module _ {t : ℕ} (meant : t ≡ turnMeant (n .turn)) where
+    pub read-outside : outside (inTurn n t) ≡ true → Refused outsideLimits ≡ readNumbers n
+    unfolding readNumbers
+    read-outside h = rw (readable, ← meant, h)
+
+    pub read-entry : outside (inTurn n t) ≡ false → Of (inTurn n t) ≡ readNumbers n
+    unfolding readNumbers
+    read-entry h = rw (readable, ← meant, h)
 
 module _ (n : Numbers) where
   pub read-unreadable : unreadable n ≡ true → Refused unreadableNumber ≡ readNumbers n
@@ -85,6 +112,7 @@ pub record Bytes (n : Numbers) : Type 0 where
   pub store : n .store < byteValues
   pub tx : n .tx < byteValues
   pub list : n .list < byteValues
+  pub turn : n .turn < byteValues
 
 pub bytes-of : (n : Numbers) → beyondByte n ≡ false → Bytes n
 unfolding beyondByte
@@ -94,7 +122,9 @@ bytes-of n h =
     let store = leb byteValues (n .store) in
     let tx = leb byteValues (n .tx) in
     let list = leb byteValues (n .list) in
-    let to-tx : (process || by || store || tx) ≡ false = neither-left (process || by || store || tx) list h in
+    let turn = leb byteValues (n .turn) in
+    let to-list : (process || by || store || tx || list) ≡ false = neither-left (process || by || store || tx || list) turn h in
+    let to-tx : (process || by || store || tx) ≡ false = neither-left (process || by || store || tx) list to-list in
     let to-store : (process || by || store) ≡ false = neither-left (process || by || store) tx to-tx in
     let to-by : (process || by) ≡ false = neither-left (process || by) store to-store in
     record {
@@ -102,5 +132,6 @@ bytes-of n h =
       by = leb-false byteValues (n .by) (neither-right process by to-by);
       store = leb-false byteValues (n .store) (neither-right (process || by) store to-store);
       tx = leb-false byteValues (n .tx) (neither-right (process || by || store) tx to-tx);
-      list = leb-false byteValues (n .list) (neither-right (process || by || store || tx) list h);
+      list = leb-false byteValues (n .list) (neither-right (process || by || store || tx) list to-list);
+      turn = leb-false byteValues (n .turn) (neither-right (process || by || store || tx || list) turn h);
     }

@@ -2,13 +2,13 @@
 use Prim.Native.Nat.{_≤_}
 use mathlib.Core.Bool.{Bool, cond, false, not, true, true≢false, _||_}
 use mathlib.Core.Logic.{_⊎_, inl, inr, ⊎-elim}
-use mathlib.Core.Path.{_≡_, refl, sym, _∙_}
+use mathlib.Core.Path.{_≡_, ap, refl, sym, _∙_}
 use native.Mathlib.Omega.{arith}
 use borrow.Author.Tests.{eqb-false, eqb-true, ltb-false, not-false}
 use lib.Dec.{eqb}
 use Rattle.log_entry.proofs.Tests.{neither-left, neither-right}
 use Rattle.host_records.proofs.NumbersLaws.{other-kind}
-use Rattle.host_records.specs.Numbers.{abortSay, commitSay, entryOf, numbersOf, takeKind, unreadable, unusedIsSet, voteKind}
+use Rattle.host_records.specs.Numbers.{abortSay, commitSay, entryOf, numbersOf, takeKind, turnMeant, unreadable, unusedIsSet, voteKind}
 use Rattle.host_records.specs.declared.Numbers.{Numbers}
 
 module _ (n : Numbers) (readable : unreadable n ≡ false) where
@@ -57,7 +57,20 @@ module _ (n : Numbers) (readable : unreadable n ≡ false) where
       split true e = sym (eqb-true (n .say) commitSay e)
       split false e = let z = eqb-false (n .say) commitSay e in let y = said in omega arith
 
-  pub numbers-of-entry : numbersOf (entryOf n) ≡ n
+  -- the numbers of what they stand for, but for a turn that is 0
+  abbrev said-again : Numbers
+  said-again =
+      record { kind = n .kind; process = n .process; by = n .by; store = n .store; tx = n .tx; list = n .list; say = n .say; turn = turnMeant (n .turn); update = n .update }
+
+  numbers-of-entry : numbersOf (entryOf n) ≡ said-again
   numbers-of-entry =
       λ i.
-      record { kind = kind-said i; process = n .process; by = n .by; store = n .store; tx = n .tx; list = n .list; say = say-said i; update = n .update }
+      record { kind = kind-said i; process = n .process; by = n .by; store = n .store; tx = n .tx; list = n .list; say = say-said i; turn = turnMeant (n .turn); update = n .update }
+
+  -- whether they read does not hang on the turn
+  same-readable : unreadable said-again ≡ unreadable n
+  unfolding unreadable
+  same-readable = refl
+
+  pub entry-readable : unreadable (numbersOf (entryOf n)) ≡ false
+  entry-readable = ap unreadable numbers-of-entry ∙ same-readable ∙ readable

@@ -1,6 +1,6 @@
 -- What the tests of a record's bytes come to, and what its bytes are.
 use Prim.Native.Nat.{ℕ, _-_}
-use mathlib.Core.Bool.{and-false, cond}
+use mathlib.Core.Bool.{cond}
 use mathlib.Core.List.{List}
 use mathlib.Core.Path.{_≡_}
 use native.Mathlib.Omega.{arith}
@@ -10,7 +10,7 @@ use lib.Seq.{take-all}
 use Rattle.log_entry.specs.Refusal.{unreadable as unreadableNumber}
 use Rattle.log_entry.specs.declared.Entry.{Entry}
 use Rattle.host_records.specs.Numbers.{abortSay, commitSay, numbers, readNumbers, takeKind, voteKind}
-use Rattle.host_records.specs.Record.{bytesOf, fromLowFirst, numbersIn, readRecord, recordOf, recordSize, updateAt, zeroAt}
+use Rattle.host_records.specs.Record.{bytesOf, fromLowFirst, numbersIn, readRecord, recordOf, recordSize, updateAt}
 use Rattle.host_records.specs.declared.Numbers.{Numbers}
 use Rattle.host_records.specs.declared.Reading.{Reading}
 use Rattle.host_records.specs.declared.Reading.the-variants.{Refused}
@@ -20,22 +20,17 @@ module _ (bytes : List ℕ) where
   unfolding readRecord
   no-record h = rw (ne-eqb (length bytes) recordSize h)
 
-  module _ (size : length bytes ≡ recordSize) where
-    pub zero-is-set : (getD bytes zeroAt 0 ≡ 0 → ⊥) → Refused unreadableNumber ≡ readRecord bytes
-    unfolding readRecord
-    zero-is-set h = rw (ne-eqb (getD bytes zeroAt 0) 0 h, and-false)
+  pub read-as-numbers : length bytes ≡ recordSize → {r : Reading} {n : Numbers} → r ≡ readNumbers n → n ≡ numbersIn bytes → r ≡ readRecord bytes
+  unfolding readRecord
+  read-as-numbers size h k = rw (h, k, eq-eqb (length bytes) recordSize size)
 
-    pub read-as-numbers : getD bytes zeroAt 0 ≡ 0 → {r : Reading} {n : Numbers} → r ≡ readNumbers n → n ≡ numbersIn bytes → r ≡ readRecord bytes
-    unfolding readRecord
-    read-as-numbers zero h k = rw (h, k, eq-eqb (length bytes) recordSize size, eq-eqb (getD bytes zeroAt 0) 0 zero)
-
-pub numbers-read : (bytes : List ℕ) {kind process by store tx list say update : ℕ}
+pub numbers-read : (bytes : List ℕ) {kind process by store tx list say turn update : ℕ}
     → kind ≡ getD bytes 0 0 → process ≡ getD bytes 1 0 → by ≡ getD bytes 2 0 → store ≡ getD bytes 3 0 → tx ≡ getD bytes 4 0 → list ≡ getD bytes 5 0
-    → say ≡ getD bytes 6 0 → update ≡ fromLowFirst (take (length bytes - updateAt) (drop updateAt bytes)) → numbers kind process by store tx list say update ≡ numbersIn bytes
-numbers-read bytes kind process by store tx list say update =
-    rw (kind, process, by, store, tx, list, say, update, take-all (length bytes - updateAt) (drop updateAt bytes) (omega (arith, length-drop updateAt bytes)))
+    → say ≡ getD bytes 6 0 → turn ≡ getD bytes 7 0 → update ≡ fromLowFirst (take (length bytes - updateAt) (drop updateAt bytes)) → numbers kind process by store tx list say turn update ≡ numbersIn bytes
+numbers-read bytes kind process by store tx list say turn update =
+    rw (kind, process, by, store, tx, list, say, turn, update, take-all (length bytes - updateAt) (drop updateAt bytes) (omega (arith, length-drop updateAt bytes)))
 
-pub record-bytes : (e : Entry) {kind say : ℕ} {bytes : List ℕ} → bytes ≡ bytesOf (numbers kind (e .process) (e .by) (e .store) (e .tx) (e .participants) say (e .update))
+pub record-bytes : (e : Entry) {kind say : ℕ} {bytes : List ℕ} → bytes ≡ bytesOf (numbers kind (e .process) (e .by) (e .store) (e .tx) (e .participants) say (e .turn) (e .update))
     → kind ≡ cond (e .take) takeKind voteKind → say ≡ cond (e .commit) commitSay abortSay → bytes ≡ recordOf e
 unfolding recordOf
 record-bytes e h kind say = rw (h, kind, say)

@@ -1,17 +1,17 @@
 -- What a record's reading says of its bytes.
 use Prim.Native.Nat.{ℕ}
-use mathlib.Core.Bool.{Bool, cond, false, true, _&&_}
+use mathlib.Core.Bool.{Bool, cond, false, true}
 use mathlib.Core.List.{List}
 use mathlib.Core.Path.{_≡_, ap, sym, _∙_}
 use native.Mathlib.Omega.{arith}
 use lib.Dec.{eqb}
-use lib.ListN.{getD, length}
+use lib.ListN.{length}
 use Rattle.log_entry.specs.declared.Entry.{Entry}
 use Rattle.log_entry.specs.Entry.{outside}
 use Rattle.log_entry.specs.Refusal.{accepted, unreadable as unreadableNumber}
 use Rattle.host_records.proofs.ReadingLaws.{entry-read, passed-read, refusal-read}
 use Rattle.host_records.specs.Numbers.{readNumbers}
-use Rattle.host_records.specs.Record.{entryIn, numbersIn, readRecord, recordSize, zeroAt}
+use Rattle.host_records.specs.Record.{entryIn, numbersIn, readRecord, recordSize}
 use Rattle.host_records.specs.declared.Numbers.{Numbers}
 use Rattle.host_records.specs.declared.Reading.the-variants.{Of, Refused}
 
@@ -27,14 +27,14 @@ module _ (n : Numbers) where
 module _ (bytes : List ℕ) where
   pub record-entry : {e : Entry} → readRecord bytes ≡ Of e → entryIn bytes ≡ e
   unfolding readRecord
-  record-entry h = entry-read (numbersIn bytes) (tested-entry (numbersIn bytes) (eqb (length bytes) recordSize && eqb (getD bytes zeroAt 0) 0) h)
+  record-entry h = entry-read (numbersIn bytes) (tested-entry (numbersIn bytes) (eqb (length bytes) recordSize) h)
 
   pub record-inside : {e : Entry} → readRecord bytes ≡ Of e → outside e ≡ false
   unfolding readRecord
   record-inside h =
       ap (λ (f : Entry). outside f) (sym (record-entry h))
-      ∙ passed-read (numbersIn bytes) (tested-entry (numbersIn bytes) (eqb (length bytes) recordSize && eqb (getD bytes zeroAt 0) 0) h) .1
+      ∙ passed-read (numbersIn bytes) (tested-entry (numbersIn bytes) (eqb (length bytes) recordSize) h) .1
 
   pub record-refusal : {k : ℕ} → readRecord bytes ≡ Refused k → k ≡ accepted → ⊥
   unfolding readRecord
-  record-refusal h = tested-refusal (numbersIn bytes) (eqb (length bytes) recordSize && eqb (getD bytes zeroAt 0) 0) h
+  record-refusal h = tested-refusal (numbersIn bytes) (eqb (length bytes) recordSize) h

@@ -1,19 +1,23 @@
--- An entry that is written as a record and read back is the same entry.
+-- An entry that is written as a record and read back is the same entry. What is read as a turn, and
+-- what is stored.
 use Prim.Native.Nat.{ℕ, _<_}
 use mathlib.Core.Bool.{Bool, cond, false, not, true, false≢true, _&&_}
-use mathlib.Core.Path.{_≡_, ap, refl, _∙_}
+use mathlib.Core.Path.{_≡_, ap, refl, sym, _∙_}
 use native.Mathlib.Omega.{arith}
-use borrow.Author.Tests.{not-true}
+use borrow.Author.Tests.{ne-eqb, not-true}
 use lib.Dec.{eqb}
 use lib.ListN.{length}
-use Rattle.log_entry.proofs.InsideLaws.{inside-vote}
+use Rattle.log_entry.proofs.InsideLaws.{inside-turn, inside-vote}
 use Rattle.log_entry.specs.declared.Entry.{Entry}
 use Rattle.log_entry.specs.Entry.{outside, takeEntry, voteEntry}
 use Rattle.log_entry.specs.Limits.{updateBytes, updates}
 use Rattle.host_records.proofs.LowFirst.{low-first-back}
-use Rattle.host_records.proofs.ReadableLaws.{numbers-of-entry, take-update}
+use Rattle.host_records.proofs.ReadableLaws.{entry-readable, take-update}
 use Rattle.host_records.proofs.ReadingLaws.{entry-read, passed-read}
-use Rattle.host_records.specs.Numbers.{abortSay, commitSay, entryOf, numbers, numbersOf, readNumbers, takeKind, unreadable, voteKind}
+use Rattle.host_records.proofs.ReadLaws.{read-above}
+use Rattle.host_records.proofs.RecordReadings.{record-entry}
+use Rattle.host_records.specs.Claims.{StoredTurn, TurnAbove, TurnRead, ZeroMeansFirst, ZeroMeansFirstInCall}
+use Rattle.host_records.specs.Numbers.{abortSay, commitSay, entryOf, numbers, numbersOf, readNumbers, takeKind, turnMeant, unreadable, voteKind}
 use Rattle.host_records.specs.Record.{proper, readRecord, recordOf}
 use Rattle.host_records.specs.declared.Numbers.{Numbers}
 use Rattle.host_records.specs.declared.Reading.the-variants.{Of}
@@ -30,14 +34,25 @@ say-back : (t : Bool) → eqb (cond t commitSay abortSay) commitSay ≡ t
 say-back true = refl
 say-back false = refl
 
-entry-of-numbers : (e : Entry) → entryOf (numbersOf e) ≡ e
-entry-of-numbers e =
-    λ i.
-    record { take = kind-back (e .take) i; process = e .process; by = e .by; store = e .store; tx = e .tx; participants = e .participants; commit = say-back (e .commit) i; update = e .update }
+turn-back : (t : ℕ) → 0 < t → turnMeant t ≡ t
+turn-back t some = rw (ne-eqb t 0 (λ z. omega (arith, some, z)))
+
+entry-of-numbers : (e : Entry) → 0 < e .turn → entryOf (numbersOf e) ≡ e
+entry-of-numbers e some = λ i. record {
+  take = kind-back (e .take) i;
+  process = e .process;
+  turn = turn-back (e .turn) some i;
+  by = e .by;
+  store = e .store;
+  tx = e .tx;
+  participants = e .participants;
+  commit = say-back (e .commit) i;
+  update = e .update;
+}
 
 with-update : Entry → ℕ → Numbers
 with-update e u =
-    numbers (cond (e .take) takeKind voteKind) (e .process) (e .by) (e .store) (e .tx) (e .participants) (cond (e .commit) commitSay abortSay) u
+    numbers (cond (e .take) takeKind voteKind) (e .process) (e .by) (e .store) (e .tx) (e .participants) (cond (e .commit) commitSay abortSay) (e .turn) u
 
 module _ (e : Entry) (h : proper e ≡ true) where
   readable : unreadable (numbersOf e) ≡ false
@@ -55,30 +70,50 @@ module _ (e : Entry) (h : proper e ≡ true) where
 
   numbers-read-back : readNumbers (numbersOf e) ≡ Of e
   unfolding readNumbers
-  numbers-read-back = rw (readable, entry-of-numbers e, inside)
+  numbers-read-back = rw (readable, entry-of-numbers e (inside-turn e inside .0), inside)
 
   pub record-reads-back : readRecord (recordOf e) ≡ Of e
   unfolding readRecord recordOf with-update
   record-reads-back = ap (λ (u : ℕ). readNumbers (with-update e u)) (low-first-back updateBytes (e .update) update-fits) ∙ numbers-read-back
 
 -- each entry of document 01 whose numbers are within their limits is such an entry
-pub take-is-proper : (process store : ℕ) → outside (takeEntry process store) ≡ false → proper (takeEntry process store) ≡ true
+pub take-is-proper : (process turn store : ℕ) → outside (takeEntry process turn store) ≡ false → proper (takeEntry process turn store) ≡ true
 unfolding unreadable
-take-is-proper process store h = rw h
+take-is-proper process turn store h = rw h
 
-pub vote-is-proper : (process by store tx list : ℕ) (commit : Bool) (update : ℕ)
-    → outside (voteEntry process by store tx list commit update) ≡ false → proper (voteEntry process by store tx list commit update) ≡ true
+pub vote-is-proper : (process turn by store tx list : ℕ) (commit : Bool) (update : ℕ)
+    → outside (voteEntry process turn by store tx list commit update) ≡ false → proper (voteEntry process turn by store tx list commit update) ≡ true
 unfolding unreadable
-vote-is-proper process by store tx list true update h = rw h
-vote-is-proper process by store tx list false update h = rw h
+vote-is-proper process turn by store tx list true update h = rw h
+vote-is-proper process turn by store tx list false update h = rw h
 
 -- so is what was read from numbers
 pub read-is-proper : (n : Numbers) {e : Entry} → readNumbers n ≡ Of e → proper e ≡ true
 read-is-proper n {e} h =
     let passed = passed-read n h in
-    rw (← entry-read n h, numbers-of-entry n (passed .0), passed .0, passed .1)
+    rw (← entry-read n h, entry-readable n (passed .0), passed .1)
 
 -- "a host's record grows to 16 bytes"
 pub record-size : (e : Entry) → length (recordOf e) ≡ 16
 unfolding recordOf
 record-size e = refl
+
+pub zero-means-first : ZeroMeansFirst
+unfolding readRecord readNumbers unreadable
+zero-means-first kind process by store tx list say rest = refl
+
+pub zero-means-first-in-call : ZeroMeansFirstInCall
+unfolding readNumbers unreadable
+zero-means-first-in-call kind process by store tx list say update = refl
+
+pub turn-read : TurnRead
+turn-read bytes e h = ap (λ (e : Entry). e .turn) (sym (record-entry bytes h))
+
+pub stored-turn : StoredTurn
+unfolding recordOf
+stored-turn n e h =
+    let inside = ap (λ (f : Entry). outside f) (sym (entry-read n h)) ∙ passed-read n h .1 in
+    (inside-turn e inside .0, inside-turn e inside .1, ap (λ (e : Entry). e .turn) (sym (entry-read n h)))
+
+pub turn-above : TurnAbove
+turn-above n readable h = read-above n readable h

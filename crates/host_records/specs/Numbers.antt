@@ -5,6 +5,7 @@ use mathlib.Core.Bool.{Bool, _||_, not, cond}
 use lib.Dec.{eqb, leb, ltb}
 use Rattle.log_entry.specs.declared.Entry.{Entry}
 use Rattle.log_entry.specs.Entry.{outside}
+use Rattle.log_entry.specs.Limits.{firstTurn}
 use Rattle.log_entry.specs.Refusal.{outsideLimits, unreadable as unreadableNumber}
 use Rattle.host_records.specs.declared.Numbers.{Numbers}
 use Rattle.host_records.specs.declared.Reading.{Reading}
@@ -29,20 +30,26 @@ abbrev pub byteValues : ℕ
 byteValues = 256
 
 -- the numbers, in the order of a record
-abbrev pub numbers : ℕ → ℕ → ℕ → ℕ → ℕ → ℕ → ℕ → ℕ → Numbers
-numbers kind process by store tx list say update =
-    record { kind = kind; process = process; by = by; store = store; tx = tx; list = list; say = say; update = update }
+abbrev pub numbers : ℕ → ℕ → ℕ → ℕ → ℕ → ℕ → ℕ → ℕ → ℕ → Numbers
+numbers kind process by store tx list say turn update =
+    record { kind = kind; process = process; by = by; store = store; tx = tx; list = list; say = say; turn = turn; update = update }
 
 -- the numbers of an entry
 abbrev pub numbersOf : Entry → Numbers
 numbersOf e =
-    numbers (cond (e .take) takeKind voteKind) (e .process) (e .by) (e .store) (e .tx) (e .participants) (cond (e .commit) commitSay abortSay) (e .update)
+    numbers (cond (e .take) takeKind voteKind) (e .process) (e .by) (e .store) (e .tx) (e .participants) (cond (e .commit) commitSay abortSay) (e .turn) (e .update)
+
+-- "a host's record carries the turn in its zero byte, 0 meaning 1, in a call too; turn 1 is stored
+-- as 1": the turn that such a number stands for
+abbrev pub turnMeant : ℕ → ℕ
+turnMeant n = cond (eqb n 0) firstTurn n
 
 -- the entry that numbers stand for
 abbrev pub entryOf : Numbers → Entry
 entryOf n = record {
   take = eqb (n .kind) takeKind;
   process = n .process;
+  turn = turnMeant (n .turn);
   by = n .by;
   store = n .store;
   tx = n .tx;
@@ -51,10 +58,11 @@ entryOf n = record {
   update = n .update;
 }
 
--- "bytes a take does not use are 0": all but kind, process and store
+-- "bytes a take does not use are 0": all but kind, process, store and turn
 abbrev pub unusedIsSet : Numbers → Bool
 unusedIsSet n = not (eqb (n .by) 0) || not (eqb (n .tx) 0) || not (eqb (n .list) 0) || not (eqb (n .say) 0) || not (eqb (n .update) 0)
 
+-- "A wrong kind or say, or a byte that should be 0 and is not, is 1"
 unfoldable pub unreadable : Numbers → Bool
 unreadable n =
     cond (eqb (n .kind) voteKind)
@@ -74,3 +82,4 @@ beyondByte n =
     || leb byteValues (n .store)
     || leb byteValues (n .tx)
     || leb byteValues (n .list)
+    || leb byteValues (n .turn)

@@ -1,6 +1,6 @@
 -- Document 01, "Hosts in C": "kind (0 take, 1 vote), process, by, store, tx, list, say (0 abort, 1
 -- commit), a zero, and the update, low byte first". Document 02: "a host's record grows to 16
--- bytes".
+-- bytes", and it "carries the turn in its zero byte".
 use Prim.Native.Nat.{ℕ, zero, suc, _+_, _*_, _/_, _%_}
 use mathlib.Core.Bool.{Bool, _&&_, cond, not}
 use mathlib.Core.List.{List, [], _∷_}
@@ -19,10 +19,6 @@ use Rattle.host_records.specs.Numbers.{byteValues, entryOf, numbers, num
 abbrev pub updateAt : ℕ
 updateAt = 8
 
--- the place of the zero
-abbrev pub zeroAt : ℕ
-zeroAt = 7
-
 abbrev pub recordSize : ℕ
 recordSize = updateAt + updateBytes
 
@@ -38,22 +34,21 @@ fromLowFirst (b ∷ bs) = b + byteValues * fromLowFirst bs
 
 -- numbers as a record
 abbrev pub bytesOf : Numbers → List ℕ
-bytesOf n = n .kind ∷ n .process ∷ n .by ∷ n .store ∷ n .tx ∷ n .list ∷ n .say ∷ 0 ∷ lowFirst updateBytes (n .update)
+bytesOf n = n .kind ∷ n .process ∷ n .by ∷ n .store ∷ n .tx ∷ n .list ∷ n .say ∷ n .turn ∷ lowFirst updateBytes (n .update)
 
 -- an entry as a record
 unfoldable pub recordOf : Entry → List ℕ
 recordOf e = bytesOf (numbersOf e)
 
--- the numbers of a record: all its bytes but the zero
+-- the numbers of a record
 abbrev pub numbersIn : List ℕ → Numbers
 numbersIn bytes =
-    numbers (getD bytes 0 0) (getD bytes 1 0) (getD bytes 2 0) (getD bytes 3 0) (getD bytes 4 0) (getD bytes 5 0) (getD bytes 6 0) (fromLowFirst (drop updateAt bytes))
+    numbers (getD bytes 0 0) (getD bytes 1 0) (getD bytes 2 0) (getD bytes 3 0) (getD bytes 4 0) (getD bytes 5 0) (getD bytes 6 0) (getD bytes 7 0) (fromLowFirst (drop updateAt bytes))
 
--- what a record reads as: "a byte that should be 0 and is not, is 1"; so is what is no record, for
--- its length
+-- what a record reads as; what is no record, for its length, is 1
 unfoldable pub readRecord : List ℕ → Reading
 readRecord bytes =
-    cond (eqb (length bytes) recordSize && eqb (getD bytes zeroAt 0) 0) (readNumbers (numbersIn bytes)) (Refused unreadableNumber)
+    cond (eqb (length bytes) recordSize) (readNumbers (numbersIn bytes)) (Refused unreadableNumber)
 
 -- the entry that a record's numbers stand for
 abbrev pub entryIn : List ℕ → Entry

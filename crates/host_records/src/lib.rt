@@ -5,9 +5,10 @@ ghost use mathlib.Core.Path.{_≡_};
 ghost use lib.ListN.{length};
 ghost use lib.Seq.{sets};
 ghost use Rattle.log_entry.specs.Limits.{updateBytes};
-ghost use Rattle.host_records.specs.Numbers.{beyondByte, readNumbers, unreadable};
+ghost use Rattle.host_records.specs.Numbers.{beyondByte, readNumbers, turnMeant, unreadable};
 ghost use Rattle.host_records.specs.Record.{fromLowFirst, lowFirst, readRecord, recordOf};
 use log_entry::Entry;
+use log_entry::limits::FIRST_TURN;
 use log_entry::limits::UPDATE_BYTES;
 use log_entry::limits::Update;
 use log_entry::refusal::OUTSIDE_LIMITS;
@@ -18,8 +19,6 @@ const UPDATE_AT: usize = 8;
 // The bytes of a record.
 pub const RECORD_SIZE: usize = UPDATE_AT + UPDATE_BYTES;
 
-// The place of a record's zero.
-const ZERO_AT: usize = 7;
 // A kind.
 const TAKE: u8 = 0;
 
@@ -44,6 +43,8 @@ pub struct Numbers {
     pub list: u32,
     // 0 abort, 1 commit.
     pub say: u32,
+    // 0 means the first.
+    pub turn: u32,
     pub update: Update,
 }
 
@@ -51,6 +52,16 @@ pub struct Numbers {
 pub enum Reading {
     Of(Entry),
     Refused(u8),
+}
+
+// The turn that the number stands for.
+fn turn_meant(n: u8) -> u8
+    ensures { λ r. ⌜ r ≡ turnMeant n ⌝ }
+{
+    if n == 0 {
+        return FIRST_TURN;
+    }
+    n
 }
 
 impl Numbers {
@@ -78,6 +89,7 @@ impl Numbers {
             | (BYTE_VALUES <= self.store)
             | (BYTE_VALUES <= self.tx)
             | (BYTE_VALUES <= self.list)
+            | (BYTE_VALUES <= self.turn)
     }
 
     pub fn read(self) -> Reading
@@ -92,6 +104,7 @@ impl Numbers {
         let e = Entry {
             take: self.kind == TAKE as u32,
             process: self.process as u8,
+            turn: turn_meant(self.turn as u8),
             by: self.by as u8,
             store: self.store as u8,
             tx: self.tx as u8,
@@ -139,9 +152,6 @@ pub fn read(bytes: &[u8]) -> Reading
     if bytes.len() != RECORD_SIZE {
         return Reading::Refused(UNREADABLE);
     }
-    if bytes[ZERO_AT] != 0 {
-        return Reading::Refused(UNREADABLE);
-    }
     let n = Numbers {
         kind: wide(bytes[0]),
         process: wide(bytes[1]),
@@ -150,6 +160,7 @@ pub fn read(bytes: &[u8]) -> Reading
         tx: wide(bytes[4]),
         list: wide(bytes[5]),
         say: wide(bytes[6]),
+        turn: wide(bytes[7]),
         update: from_low_first(&bytes[UPDATE_AT..]),
     };
     n.read()
@@ -194,6 +205,7 @@ pub fn record_of(e: Entry) -> [u8; RECORD_SIZE]
     bytes[4] = e.tx;
     bytes[5] = e.participants;
     bytes[6] = either(e.commit, COMMIT, ABORT);
+    bytes[7] = e.turn;
     put_low_first(&mut bytes, UPDATE_AT, e.update);
     bytes
 }

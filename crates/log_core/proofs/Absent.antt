@@ -10,8 +10,8 @@ use mir.Val.{Val}
 use Rattle.log_entry.specs.Limits.{stores, transactions}
 use Rattle.log_votes.specs.Row.{noRow}
 use Rattle.log_core.specs.declared.Log.{Log}
-use Rattle.log_core.specs.Log.{holderOf, rowOf}
-use Rattle.log_core.proofs.Lengths.{holders-length, rows-length}
+use Rattle.log_core.specs.Log.{holderOf, rowOf, turnOf}
+use Rattle.log_core.proofs.Lengths.{holders-length, rows-length, turns-length}
 use Rattle.log_core.proofs.Log.{the-type as log-type}
 
 module _ (l : Log) (vs : List Val) (good : Is (row log-type) l vs) where
@@ -20,3 +20,6 @@ module _ (l : Log) (vs : List Val) (good : Is (row log-type) l vs) where
 
   pub no-holder : (store : ℕ) → stores ≤ store → 0 ≡ holderOf l store
   no-holder store h = sym (List·getD-eq-default (l .holders) 0 (omega (arith, holders-length l vs good)))
+
+  pub no-turn : (store : ℕ) → stores ≤ store → 0 ≡ turnOf l store
+  no-turn store h = sym (List·getD-eq-default (l .turns) 0 (omega (arith, turns-length l vs good)))

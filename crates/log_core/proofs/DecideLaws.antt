@@ -31,11 +31,11 @@ module _ (p : Parts) (e : Entry) where
   answer-outside h = rw h
 
   module _ (inside : outside e ≡ false) where
-    pub answer-take : e .take ≡ true → firstRefusal (takeChecks (p .holders) (p .takers) e) ≡ refusal p e
+    pub answer-take : e .take ≡ true → firstRefusal (takeChecks (p .holders) (p .takers) (p .latest) e) ≡ refusal p e
     unfolding refusal firstRefusal
     answer-take take = rw (inside, take)
 
-    pub answer-vote : e .take ≡ false → voteRefusal (p .row) (getD (p .holders) (e .by) 0) e ≡ refusal p e
+    pub answer-vote : e .take ≡ false → voteRefusal (p .row) (getD (p .holders) (e .by) 0) (getD (p .turns) (e .by) 0) e ≡ refusal p e
     unfolding refusal voteRefusal firstRefusal
     answer-vote vote = rw (inside, vote)
 
@@ -72,12 +72,12 @@ module _ (p : Parts) (e : Entry) where
 
   -- of a vote, by what of the parts it is decided on
   module _ (vote : e .take ≡ false) {v : VoteParts} (so : v ≡ votePartsOf p e) where
-    pub vote-answer : outside e ≡ false → (n : ℕ) → n ≡ voteRefusal (p .row) (v .holder) e → n ≡ refusal p e
-    vote-answer inside n is = is ∙ ap (λ (v : VoteParts). voteRefusal (p .row) (v .holder) e) so ∙ answer-vote p e inside vote
+    pub vote-answer : outside e ≡ false → (n : ℕ) → n ≡ voteRefusal (p .row) (v .holder) (v .turn) e → n ≡ refusal p e
+    vote-answer inside n is = is ∙ ap (λ (v : VoteParts). voteRefusal (p .row) (v .holder) (v .turn) e) so ∙ answer-vote p e inside vote
 
     -- and the vote is accepted
-    pub vote-fits : {n : ℕ} → n ≡ voteRefusal (p .row) (v .holder) e → n ≡ accepted → (anyClash e (p .row .votes) ≡ false) × (voteOfStore (e .store) (p .row) .kept ≡ false)
-    vote-fits is ok = accepted-vote (p .row) (v .holder) e (sym is ∙ ok)
+    pub vote-fits : {n : ℕ} → n ≡ voteRefusal (p .row) (v .holder) (v .turn) e → n ≡ accepted → (anyClash e (p .row .votes) ≡ false) × (voteOfStore (e .store) (p .row) .kept ≡ false)
+    vote-fits is ok = accepted-vote (p .row) (v .holder) (v .turn) e (sym is ∙ ok)
 
     in-group : (n : ℕ) (begins runs : Bool) → effect n (v .group) begins runs ≡ effect n (p .row .group) begins runs
     in-group n begins runs = ap (λ (v : VoteParts). effect n (v .group) begins runs) so

@@ -22,7 +22,7 @@ use Rattle.log_core.specs.declared.Parts.{Parts}
 use Rattle.log_core.specs.Decide.{effectOf, partsOf, refusal}
 use Rattle.log_core.specs.Enter.{answered, enter, entered, stored}
 use Rattle.log_core.specs.Group.{remembered, runningSet}
-use Rattle.log_core.specs.Log.{rowOf, withGroup, withHolder, withRow}
+use Rattle.log_core.specs.Log.{latestOf, rowOf, withGroup, withHolder, withRow}
 use Rattle.log_core.proofs.DecideLaws.{answer-outside}
 
 -- the answer to an entry
@@ -45,7 +45,7 @@ accepted-inside l e h = split (outside e) refl
 
 -- what is stored
 module _ (l : Log) (e : Entry) (f : Effect) where
-  pub stored-holder : e .take ≡ true → withHolder l (e .process) (e .store) ≡ stored l e f
+  pub stored-holder : e .take ≡ true → withHolder l (e .process) (e .turn) (e .store) ≡ stored l e f
   unfolding stored
   stored-holder take = rw take
 
@@ -78,7 +78,9 @@ pub holder-stored : (l : Log) (e : Entry) (f : Effect) → e .take ≡ true → 
     → record {
       rows = l .rows;
       holders = set (l .holders) (e .store) (e .process);
+      turns = set (l .turns) (e .store) (e .turn);
       takers = set (l .takers) (e .store) (bitOr (getD (l .takers) (e .store) 0) (1 * 2 ^ e .process % 65536));
+      latest = set (l .latest) (e .process) (e .turn);
       groups = l .groups;
       remembered = l .remembered;
     }
@@ -103,7 +105,9 @@ abbrev pub partsAt : Log → Entry → ℕ → ℕ → Parts
 partsAt l e at last = record {
   row = rowOf l at;
   holders = l .holders;
+  turns = l .turns;
   takers = getD (l .takers) (e .store) 0;
+  latest = latestOf l (e .process);
   groups = l .groups;
   remembered = last;
 }
@@ -113,9 +117,9 @@ unfolding effectOf
 effect-answer p e = refl
 
 -- a take is answered whatever the row
-take-answer : (p q : Parts) (e : Entry) → e .take ≡ true → p .holders ≡ q .holders → p .takers ≡ q .takers → refusal p e ≡ refusal q e
+take-answer : (p q : Parts) (e : Entry) → e .take ≡ true → p .holders ≡ q .holders → p .takers ≡ q .takers → p .latest ≡ q .latest → refusal p e ≡ refusal q e
 unfolding refusal firstRefusal
-take-answer p q e take h k = rw (take, h, k)
+take-answer p q e take h k m = rw (take, h, k, m)
 
 -- an effect that was decided on those parts
 module _ (l : Log) (e : Entry) (at last : ℕ) (place : at ≡ cond (e .take) 0 (e .tx)) (remembers : last ≡ remembered l (l .groups)) (f : Effect) (is : f ≡ effectOf (partsAt l e at last) e) where
@@ -137,7 +141,7 @@ module _ (l : Log) (e : Entry) (at last : ℕ) (place : at ≡ cond (e .take) 0 
       by-kind true take =
           ap (λ (f : Effect). f .answer) is
           ∙ effect-answer (partsAt l e at last) e
-          ∙ take-answer (partsAt l e at last) (partsOf l e) e take refl refl
+          ∙ take-answer (partsAt l e at last) (partsOf l e) e take refl refl refl
           ∙ sym (effect-answer (partsOf l e) e)
       by-kind false vote = ap (λ (f : Effect). f .answer) (vote-same vote)
 
@@ -173,7 +177,7 @@ pub enter-accepted : (l : Log) (e : Entry) → refusalOf l e ≡ accepted → an
 unfolding enter
 enter-accepted l e ok = entered-accepted l e (effectOf (partsOf l e) e) (effect-answer (partsOf l e) e ∙ ok)
 
-pub take-entered : (l : Log) (e : Entry) → e .take ≡ true → refusalOf l e ≡ accepted → answered (withHolder l (e .process) (e .store)) accepted ≡ enter l e
+pub take-entered : (l : Log) (e : Entry) → e .take ≡ true → refusalOf l e ≡ accepted → answered (withHolder l (e .process) (e .turn) (e .store)) accepted ≡ enter l e
 take-entered l e take ok =
     ap (λ (m : Log). answered m accepted) (stored-holder l e (effectOf (partsOf l e) e) take) ∙ enter-accepted l e ok
 
@@ -182,7 +186,9 @@ abbrev pub answerParts : Log → Entry → ℕ → Parts
 answerParts l e at = record {
   row = rowOf l at;
   holders = l .holders;
+  turns = l .turns;
   takers = getD (l .takers) (e .store) 0;
+  latest = latestOf l (e .process);
   groups = 0;
   remembered = 0;
 }
@@ -195,6 +201,6 @@ pub answer-at : (l : Log) (e : Entry) {at : ℕ} → at ≡ cond (e .take) 0 (e 
 answer-at l e {at} place = by-kind (e .take) refl ∙ sym (answer-is l e)
   where
     by-kind : (t : Bool) → e .take ≡ t → refusal (answerParts l e at) e ≡ refusalOf l e
-    by-kind true take = take-answer (answerParts l e at) (partsOf l e) e take refl refl
+    by-kind true take = take-answer (answerParts l e at) (partsOf l e) e take refl refl refl
     by-kind false vote =
         ap (λ (t : ℕ). refusal (answerParts l e t) e) (place ∙ ap (λ (b : Bool). cond b 0 (e .tx)) vote) ∙ same-answer l e

@@ -18,8 +18,11 @@ rows-length l vs g = simp length-map at (g .1 .1 .0 .1 .0 .1)
 pub holders-length : (l : Log) (vs : List Val) → Is (row log-type) l vs → length (l .holders) ≡ stores
 holders-length l vs g = simp length-map at (g .1 .1 .1 .0 .1 .0 .1)
 
+pub turns-length : (l : Log) (vs : List Val) → Is (row log-type) l vs → length (l .turns) ≡ stores
+turns-length l vs g = simp length-map at (g .1 .1 .1 .1 .0 .1 .0 .1)
+
 pub takers-length : (l : Log) (vs : List Val) → Is (row log-type) l vs → length (l .takers) ≡ stores
-takers-length l vs g = simp length-map at (g .1 .1 .1 .1 .0 .1 .0 .1)
+takers-length l vs g = simp length-map at (g .1 .1 .1 .1 .1 .0 .1 .0 .1)
 
 -- of the row among the parts of a log
 pub row-length : (p : Parts) (vs : List Val) → Is (row parts-type) p vs → length (p .row .votes) ≡ stores

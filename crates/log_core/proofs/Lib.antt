@@ -6,3 +6,4 @@ pub mod Lengths
 pub mod ReplayLaws
 pub mod ReplayLength
 pub mod ReplayedRows
+pub mod TurnCases

@@ -17,7 +17,7 @@ use Rattle.log_core.specs.declared.Log.{Log}
 use Rattle.log_core.specs.declared.Parts.{Parts}
 use Rattle.log_core.specs.declared.VoteParts.{VoteParts}
 use Rattle.log_core.specs.Group.{nextGroup, remembered}
-use Rattle.log_core.specs.Log.{rowOf}
+use Rattle.log_core.specs.Log.{latestOf, rowOf}
 use Rattle.log_core.specs.Refusal.{takeChecks}
 
 -- the parts of the log that an entry is decided on
@@ -25,17 +25,21 @@ abbrev pub partsOf : Log → Entry → Parts
 partsOf l e = record {
   row = rowOf l (e .tx);
   holders = l .holders;
+  turns = l .turns;
   takers = getD (l .takers) (e .store) 0;
+  latest = latestOf l (e .process);
   groups = l .groups;
   remembered = remembered l (l .groups);
 }
 
--- the answer to an entry: 2, then 11 of a take, and 7 to 10 of a vote
+-- the answer to an entry: 2, then 11 and 12 of a take, and 7 to 10 and 12 of a vote
 unfoldable pub refusal : Parts → Entry → ℕ
 refusal p e =
     firstRefusal
     (check outsideLimits (outside e)
-    ∷ cond (e .take) (takeChecks (p .holders) (p .takers) e) (voteChecks (p .row) (getD (p .holders) (e .by) 0) e))
+    ∷ cond (e .take)
+    (takeChecks (p .holders) (p .takers) (p .latest) e)
+    (voteChecks (p .row) (getD (p .holders) (e .by) 0) (getD (p .turns) (e .by) 0) e))
 
 -- what of the parts a vote is decided on
 abbrev pub votePartsOf : Parts → Entry → VoteParts
@@ -44,6 +48,7 @@ votePartsOf p e = record {
   clash = anyClash e (p .row .votes);
   group = p .row .group;
   holder = getD (p .holders) (e .by) 0;
+  turn = getD (p .turns) (e .by) 0;
   groups = p .groups;
   remembered = p .remembered;
 }

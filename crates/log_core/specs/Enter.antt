@@ -26,7 +26,7 @@ rowAfter l e f = inGroup (keeping (rowOf l (e .tx)) e) (f .group)
 unfoldable pub stored : Log → Entry → Effect → Log
 stored l e f =
     cond (e .take)
-    (withHolder l (e .process) (e .store))
+    (withHolder l (e .process) (e .turn) (e .store))
     (cond (f .begins)
     (withGroup (withRow l (e .tx) (rowAfter l e f)) (f .group) (runningSet (l .rows)))
     (withRow l (e .tx) (rowAfter l e f)))
@@ -38,6 +38,11 @@ entered l e f = answered (cond (eqb (f .answer) accepted) (stored l e f) l) (f .
 -- the log after an entry, and the answer
 unfoldable pub enter : Log → Entry → Entered
 enter l e = entered l e (effectOf (partsOf l e) e)
+
+-- the answers to a list of entries, one after the other
+unfoldable pub answersTo : Log → List Entry → List ℕ
+answersTo l [] = []
+answersTo l (e ∷ es) = enter l e .answer ∷ answersTo (enter l e .log) es
 
 -- the log fed a list of entries, refused ones skipped
 unfoldable pub feed : Log → List Entry → Log

@@ -5,3 +5,4 @@ pub mod Group
 pub mod Log
 pub mod Refusal
 pub mod Replay
+pub mod TurnCases

@@ -3,7 +3,7 @@ use Prim.Native.Nat.{ℕ, _-_}
 use mathlib.Core.Bool.{Bool}
 use lib.ListN.{getD, replicate, set}
 use Rattle.log_entry.specs.Bits.{has, with}
-use Rattle.log_entry.specs.Limits.{stores, transactions}
+use Rattle.log_entry.specs.Limits.{processPlaces, stores, transactions}
 use Rattle.log_votes.specs.declared.Involvement.{Involvement}
 use Rattle.log_votes.specs.declared.Outcome.{Outcome}
 use Rattle.log_votes.specs.declared.Row.{Row}
@@ -18,7 +18,9 @@ unfoldable pub emptyLog : Log
 emptyLog = record {
   rows = replicate transactions emptyRow;
   holders = replicate stores 0;
+  turns = replicate stores 0;
   takers = replicate stores 0;
+  latest = replicate processPlaces 0;
   groups = 0;
   remembered = replicate transactions 0;
 }
@@ -38,6 +40,14 @@ groupOf l tx = rowOf l tx .group
 abbrev pub holderOf : Log → ℕ → ℕ
 holderOf l store = getD (l .holders) store 0
 
+-- "the log records each holder's turn"; 0 if there is none
+abbrev pub turnOf : Log → ℕ → ℕ
+turnOf l store = getD (l .turns) store 0
+
+-- the turn of the process's last accepted take, of any store; 0 if there is none
+abbrev pub latestOf : Log → ℕ → ℕ
+latestOf l process = getD (l .latest) process 0
+
 -- the process took the store before; the present holder did too
 abbrev pub heldBefore : Log → ℕ → ℕ → Bool
 heldBefore l process store = has (getD (l .takers) store 0) process
@@ -52,14 +62,16 @@ involvementOf l tx store = involvementOfVotes store (rowOf l tx .votes)
 
 abbrev pub withRow : Log → ℕ → Row → Log
 withRow l tx r =
-    record { rows = set (l .rows) tx r; holders = l .holders; takers = l .takers; groups = l .groups; remembered = l .remembered }
+    record { rows = set (l .rows) tx r; holders = l .holders; turns = l .turns; takers = l .takers; latest = l .latest; groups = l .groups; remembered = l .remembered }
 
--- "An accepted take makes the process the store's holder."
-abbrev pub withHolder : Log → ℕ → ℕ → Log
-withHolder l process store = record {
+-- "An accepted take makes the process the store's holder", in its turn.
+abbrev pub withHolder : Log → ℕ → ℕ → ℕ → Log
+withHolder l process turn store = record {
   rows = l .rows;
   holders = set (l .holders) store process;
+  turns = set (l .turns) store turn;
   takers = set (l .takers) store (with (getD (l .takers) store 0) process);
+  latest = set (l .latest) process turn;
   groups = l .groups;
   remembered = l .remembered;
 }
@@ -67,4 +79,4 @@ withHolder l process store = record {
 -- the log with one more group, which remembers the transactions of the set
 abbrev pub withGroup : Log → ℕ → ℕ → Log
 withGroup l g running =
-    record { rows = l .rows; holders = l .holders; takers = l .takers; groups = g; remembered = set (l .remembered) (g - 1) running }
+    record { rows = l .rows; holders = l .holders; turns = l .turns; takers = l .takers; latest = l .latest; groups = g; remembered = set (l .remembered) (g - 1) running }

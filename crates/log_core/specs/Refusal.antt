@@ -1,20 +1,31 @@
--- Document 01's refusal of a take, 11.
+-- The refusals of a take, 11 and 12, in the order in which they are tried.
 use Prim.Native.Nat.{ℕ}
-use mathlib.Core.Bool.{Bool, _||_}
+use mathlib.Core.Bool.{Bool, _&&_, _||_, not}
 use mathlib.Core.List.{List, [], _∷_}
-use lib.Dec.{eqb}
+use lib.Dec.{eqb, ltb}
 use Rattle.log_entry.specs.declared.Entry.{Entry}
 use Rattle.log_entry.specs.Bits.{has}
-use Rattle.log_entry.specs.Refusal.{Check, check, holdsOrHeld}
+use Rattle.log_entry.specs.Refusal as refusal
+use Rattle.log_entry.specs.Refusal.{Check, check}
 use Rattle.log_votes.specs.Scan.{anyFrom}
 
-abbrev pub isHolder : ℕ → ℕ → ℕ → Bool
-isHolder process s holder = eqb holder process
+-- the holder of store s is the process, and it is another store
+abbrev pub isOther : ℕ → ℕ → ℕ → ℕ → Bool
+isOther process store s holder = eqb holder process && not (eqb s store)
 
--- the process holds some store
-abbrev pub holdsAny : List ℕ → ℕ → Bool
-holdsAny holders process = anyFrom (isHolder process) 0 holders
+-- 11: "it holds another store now"
+abbrev pub holdsAnother : List ℕ → ℕ → ℕ → Bool
+holdsAnother holders process store = anyFrom (isOther process store) 0 holders
 
--- of a take, by the holders and the set of those that took its store
-abbrev pub takeChecks : List ℕ → ℕ → Entry → List Check
-takeChecks holders takers e = check holdsOrHeld (holdsAny holders (e .process) || has takers (e .process)) ∷ []
+-- 12: "a take whose turn is below the last accepted one of that process, or equal to it where the
+-- process holds or held that store". The set has those that took the store, the present holder too
+unfoldable pub wrongTurn : ℕ → ℕ → Entry → Bool
+wrongTurn takers latest e = ltb (e .turn) latest || eqb (e .turn) latest && has takers (e .process)
+
+-- of a take, by the holders, the set of those that took its store, and the turn of its process's
+-- last accepted take
+abbrev pub takeChecks : List ℕ → ℕ → ℕ → Entry → List Check
+takeChecks holders takers latest e =
+    check refusal.holdsAnother (holdsAnother holders (e .process) (e .store))
+    ∷ check refusal.wrongTurn (wrongTurn takers latest e)
+    ∷ []

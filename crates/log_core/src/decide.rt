@@ -26,9 +26,11 @@ impl Parts {
         }
         let holders = self.holders;
         if e.take {
-            return take_refusal(holders, self.takers, e);
+            return take_refusal(holders, self.takers, self.latest, e);
         }
-        self.row.vote_refusal(holders[e.by as usize], e)
+        let turns = self.turns;
+        let by = e.by as usize;
+        self.row.vote_refusal(holders[by], turns[by], e)
     }
 
     // What the entry is answered, and what it changes.
@@ -48,17 +50,20 @@ impl Parts {
         let holders = self.holders;
         if e.take {
             return Effect {
-                answer: take_refusal(holders, self.takers, e),
+                answer: take_refusal(holders, self.takers, self.latest, e),
                 group: group,
                 begins: false,
                 runs: false,
             };
         }
+        let turns = self.turns;
+        let by = e.by as usize;
         let p = VoteParts {
             tally: row.tally(),
             clash: row.any_clash(e),
             group: group,
-            holder: holders[e.by as usize],
+            holder: holders[by],
+            turn: turns[by],
             groups: self.groups,
             remembered: self.remembered,
         };
@@ -74,7 +79,7 @@ impl VoteParts {
     {
         let tally = self.tally;
         let group = self.group;
-        let answer = tally.refusal(self.clash, self.holder, e);
+        let answer = tally.refusal(self.clash, self.holder, self.turn, e);
         if answer != ACCEPTED {
             return Effect {
                 answer: answer,

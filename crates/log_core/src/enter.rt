@@ -26,11 +26,11 @@ pub fn row_place(e: Entry) -> usize
 }
 
 impl Log {
-    // The process takes the store.
-    pub fn take(mut self, process: u8, store: u8) -> Entered
-        ensures { λ r. ⌜ r ≡ enter self (takeEntry process store) ⌝ }
+    // The process takes the store, in this turn.
+    pub fn take(mut self, process: u8, turn: u8, store: u8) -> Entered
+        ensures { λ r. ⌜ r ≡ enter self (takeEntry process turn store) ⌝ }
     {
-        let e = Entry::take_of(process, store);
+        let e = Entry::take_of(process, turn, store);
         self.enter(e)
     }
 
@@ -39,6 +39,7 @@ impl Log {
     pub fn vote(
         mut self,
         process: u8,
+        turn: u8,
         by: u8,
         store: u8,
         tx: u8,
@@ -46,9 +47,9 @@ impl Log {
         commit: bool,
         update: Update,
     ) -> Entered
-        ensures { λ r. ⌜ r ≡ enter self (voteEntry process by store tx list commit update) ⌝ }
+        ensures { λ r. ⌜ r ≡ enter self (voteEntry process turn by store tx list commit update) ⌝ }
     {
-        let e = Entry::vote_of(process, by, store, tx, list, commit, update);
+        let e = Entry::vote_of(process, turn, by, store, tx, list, commit, update);
         self.enter(e)
     }
 
@@ -60,7 +61,10 @@ impl Log {
     {
         let store = e.store as usize;
         if e.take {
+            let process = e.process as usize;
             self.holders[store] = e.process;
+            self.turns[store] = e.turn;
+            self.latest[process] = e.turn;
             self.takers[store] = self.takers[store] | (1u16 << e.process);
             return self;
         }
@@ -91,12 +95,15 @@ impl Log {
             };
         }
         let store = e.store as usize;
+        let process = e.process as usize;
         let tx = row_place(e);
         let remembered = self.remembered;
         let p = Parts {
             row: self.rows[tx],
             holders: self.holders,
+            turns: self.turns,
             takers: self.takers[store],
+            latest: self.latest[process],
             groups: self.groups,
             remembered: remembered_in(remembered, self.groups),
         };
@@ -121,11 +128,14 @@ impl Log {
             return OUTSIDE_LIMITS;
         }
         let store = e.store as usize;
+        let process = e.process as usize;
         let tx = row_place(e);
         let p = Parts {
             row: self.rows[tx],
             holders: self.holders,
+            turns: self.turns,
             takers: self.takers[store],
+            latest: self.latest[process],
             groups: 0,
             remembered: 0,
         };

@@ -2,6 +2,7 @@
 ghost use mathlib.Core.Path.{_≡_};
 ghost use Rattle.log_core.specs.Log.{emptyLog};
 ghost use Rattle.log_core.specs.Replay.{noReplay};
+use log_entry::limits::PROCESS_PLACES;
 use log_entry::limits::STORE_PLACES;
 use log_entry::limits::TRANSACTION_PLACES;
 use log_entry::limits::Update;
@@ -21,8 +22,12 @@ pub struct Log {
     pub rows: [Row; TRANSACTION_PLACES],
     // By store, 0 if none.
     pub holders: [u8; STORE_PLACES],
+    // By store: its holder's turn, 0 if none.
+    pub turns: [u8; STORE_PLACES],
     // By store: the processes that took it, bit p for process p.
     pub takers: [u16; STORE_PLACES],
+    // By process: the turn of its last accepted take, of any store; 0 if none.
+    pub latest: [u8; PROCESS_PLACES],
     // How many groups were begun.
     pub groups: u8,
     // By group, the first is group 1: the transactions that ran just before its first commit, bit t
@@ -36,8 +41,11 @@ pub struct Parts {
     pub row: Row,
     // By store, 0 if none.
     pub holders: [u8; STORE_PLACES],
+    pub turns: [u8; STORE_PLACES],
     // The processes that took its store.
     pub takers: u16,
+    // The turn of its process's last accepted take, 0 if none.
+    pub latest: u8,
     // How many groups were begun.
     pub groups: u8,
     // What the last group remembers.
@@ -52,8 +60,9 @@ pub struct VoteParts {
     pub clash: bool,
     // Its transaction's.
     pub group: u8,
-    // Who holds the store in `by`.
+    // Who holds the store in `by`, and the holder's turn.
     pub holder: u8,
+    pub turn: u8,
     pub groups: u8,
     pub remembered: u32,
 }
@@ -114,7 +123,9 @@ impl Log {
         Log {
             rows: [row; TRANSACTION_PLACES],
             holders: [0; STORE_PLACES],
+            turns: [0; STORE_PLACES],
             takers: [0; STORE_PLACES],
+            latest: [0; PROCESS_PLACES],
             groups: 0,
             remembered: [0; TRANSACTION_PLACES],
         }

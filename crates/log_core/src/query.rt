@@ -1,6 +1,6 @@
 // What the log answers. A number outside its limits names nothing: no vote, no group, no holder.
 ghost use mathlib.Core.Path.{_≡_};
-ghost use Rattle.log_core.specs.Log.{groupOf, holderOf, involvementOf, outcomeOf};
+ghost use Rattle.log_core.specs.Log.{groupOf, holderOf, involvementOf, outcomeOf, turnOf};
 use crate::Log;
 use log_entry::limits::STORES;
 use log_entry::limits::TRANSACTIONS;
@@ -37,6 +37,16 @@ impl Log {
             return 0;
         }
         self.holders[store as usize]
+    }
+
+    // The turn of the store's holder, 0 if there is none.
+    pub fn turn(self, store: u8) -> u8
+        ensures { λ r. ⌜ r ≡ turnOf self store ⌝ }
+    {
+        if STORES <= store {
+            return 0;
+        }
+        self.turns[store as usize]
     }
 
     pub fn involvement(self, tx: u8, store: u8) -> Involvement

@@ -1,29 +1,34 @@
 -- Document 01, "Plain log": entries are `take` (process, store) and `vote` (process, by, store, tx,
--- list, say, update).
+-- list, say, update). Document 02: "Takes and votes gain `turn=`, 1 to 255, after `proc=`".
 use Prim.Native.Nat.{ℕ}
 use mathlib.Core.Bool.{Bool, Bool·beq, true, false, _&&_, _||_, not, cond}
 use lib.Dec.{eqb, leb, ltb}
 use Rattle.log_entry.specs.declared.Entry.{Entry}
 use Rattle.log_entry.specs.Bits.{has}
-use Rattle.log_entry.specs.Limits.{stores, transactions, processes, lists, updates}
+use Rattle.log_entry.specs.Limits.{lists, processes, stores, transactions, turns, updates}
 
 -- the entry `take` of these values; what a take does not use is 0
-abbrev pub takeEntry : ℕ → ℕ → Entry
-takeEntry process store = record { take = true; process = process; by = 0; store = store; tx = 0; participants = 0; commit = false; update = 0 }
+abbrev pub takeEntry : ℕ → ℕ → ℕ → Entry
+takeEntry process turn store = record { take = true; process = process; turn = turn; by = 0; store = store; tx = 0; participants = 0; commit = false; update = 0 }
 
 -- the entry `vote` of these values; `say` is commit or abort
-abbrev pub voteEntry : ℕ → ℕ → ℕ → ℕ → ℕ → Bool → ℕ → Entry
-voteEntry process by store tx list commit update =
-    record { take = false; process = process; by = by; store = store; tx = tx; participants = list; commit = commit; update = update }
+abbrev pub voteEntry : ℕ → ℕ → ℕ → ℕ → ℕ → ℕ → Bool → ℕ → Entry
+voteEntry process turn by store tx list commit update =
+    record { take = false; process = process; turn = turn; by = by; store = store; tx = tx; participants = list; commit = commit; update = update }
 
 -- processes are 1 to 15
 abbrev pub noProcess : ℕ → Bool
 noProcess p = eqb p 0 || ltb processes p
 
--- 2: a number of the entry is outside its limits; a take has two numbers, a vote all
+-- turns are 1 to 255
+abbrev pub noTurn : ℕ → Bool
+noTurn t = eqb t 0 || ltb turns t
+
+-- 2: a number of the entry is outside its limits; a take has three numbers, a vote all
 unfoldable pub outside : Entry → Bool
 outside e =
     noProcess (e .process)
+    || noTurn (e .turn)
     || leb stores (e .store)
     || not (e .take) && (leb stores (e .by) || leb transactions (e .tx) || leb lists (e .participants) || leb updates (e .update))
 
@@ -40,6 +45,7 @@ unfoldable pub sameEntry : Entry → Entry → Bool
 sameEntry e f =
     Bool·beq (e .take) (f .take)
     && eqb (e .process) (f .process)
+    && eqb (e .turn) (f .turn)
     && eqb (e .by) (f .by)
     && eqb (e .store) (f .store)
     && eqb (e .tx) (f .tx)

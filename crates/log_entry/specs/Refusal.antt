@@ -52,9 +52,14 @@ otherList = 9
 abbrev pub keptAlready : ℕ
 keptAlready = 10
 
--- 11: it holds some store, or held this one before
-abbrev pub holdsOrHeld : ℕ
-holdsOrHeld = 11
+-- 11: "it holds another store now"
+abbrev pub holdsAnother : ℕ
+holdsAnother = 11
+
+-- 12: "a take whose turn is below the last accepted one of that process, or equal to it where the
+-- process holds or held that store, or a vote whose turn is not the holder's"
+abbrev pub wrongTurn : ℕ
+wrongTurn = 12
 
 -- a refusal, and whether its condition holds
 pub record Check : Type 0 where

@@ -1,6 +1,6 @@
 // An entry of the commit log: a request that a process makes.
 ghost use mathlib.Core.Path.{_≡_};
-ghost use Rattle.log_entry.specs.Entry.{illFormed, noProcess, outside, sameEntry, takeEntry, voteEntry};
+ghost use Rattle.log_entry.specs.Entry.{illFormed, noProcess, noTurn, outside, sameEntry, takeEntry, voteEntry};
 use limits::PROCESSES;
 use limits::STORES;
 use limits::TRANSACTIONS;
@@ -11,11 +11,13 @@ pub mod refusal;
 pub mod sets;
 
 // Document 01's entries: `take` (process, store), or `vote` (process, by, store, tx, list, say,
-// update). What a take does not use is 0.
+// update). Document 02: "Takes and votes gain `turn=`". What a take does not use is 0.
 pub struct Entry {
     // A take, and else a vote.
     pub take: bool,
     pub process: u8,
+    // The turn of the process: in which of its starts it is.
+    pub turn: u8,
     // The store that the voting process holds.
     pub by: u8,
     pub store: u8,
@@ -34,13 +36,21 @@ pub fn no_process(p: u8) -> bool
     (p == 0) | (PROCESSES < p)
 }
 
+// Whether no turn has the number. A byte is never above the last turn.
+pub fn no_turn(t: u8) -> bool
+    ensures { λ r. ⌜ r ≡ noTurn t ⌝ }
+{
+    t == 0
+}
+
 impl Entry {
-    pub fn take_of(process: u8, store: u8) -> Entry
-        ensures { λ r. ⌜ r ≡ takeEntry process store ⌝ }
+    pub fn take_of(process: u8, turn: u8, store: u8) -> Entry
+        ensures { λ r. ⌜ r ≡ takeEntry process turn store ⌝ }
     {
         Entry {
             take: true,
             process: process,
+            turn: turn,
             by: 0,
             store: store,
             tx: 0,
@@ -52,6 +62,7 @@ impl Entry {
 
     pub fn vote_of(
         process: u8,
+        turn: u8,
         by: u8,
         store: u8,
         tx: u8,
@@ -59,11 +70,12 @@ impl Entry {
         commit: bool,
         update: Update,
     ) -> Entry
-        ensures { λ r. ⌜ r ≡ voteEntry process by store tx list commit update ⌝ }
+        ensures { λ r. ⌜ r ≡ voteEntry process turn by store tx list commit update ⌝ }
     {
         Entry {
             take: false,
             process: process,
+            turn: turn,
             by: by,
             store: store,
             tx: tx,
@@ -78,7 +90,10 @@ impl Entry {
         ensures { λ r. ⌜ r ≡ outside self ⌝ }
     {
         let beyond = (STORES <= self.by) | (TRANSACTIONS <= self.tx);
-        no_process(self.process) | (STORES <= self.store) | (!self.take & beyond)
+        no_process(self.process)
+            | no_turn(self.turn)
+            | (STORES <= self.store)
+            | (!self.take & beyond)
     }
 
     // Refusal 7, of a vote.
@@ -99,6 +114,7 @@ impl Entry {
     {
         (self.take == other.take)
             & (self.process == other.process)
+            & (self.turn == other.turn)
             & (self.by == other.by)
             & (self.store == other.store)
             & (self.tx == other.tx)

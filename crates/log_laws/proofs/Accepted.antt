@@ -1,56 +1,62 @@
 -- What is known of an entry that is accepted.
-use Prim.Native.Nat.{ℕ, _<_}
+use Prim.Native.Nat.{ℕ}
 use mathlib.Core.Path.{_≡_, refl, sym, ap, _∙_}
-use mathlib.Core.Bool.{Bool, true, false, not, _||_, cond}
+use mathlib.Core.Bool.{Bool, true, false, not, cond}
 use mathlib.Core.List.{List, _∷_}
 use mathlib.Core.Logic.{_≢_}
-use lib.Dec.{eqb, leb, ltb}
+use native.Mathlib.Omega.{arith}
+use lib.Dec.{eqb}
 use lib.ListN.{getD}
-use borrow.Author.Tests.{eqb-false, leb-false, not-false}
+use borrow.Author.Tests.{eqb-true, not-false}
+use Rattle.log_entry.proofs.InsideLaws.{inside-process}
 use Rattle.log_entry.specs.declared.Entry.{Entry}
 use Rattle.log_entry.specs.Bits.{has}
-use Rattle.log_entry.specs.Entry.{illFormed, noProcess, outside}
-use Rattle.log_entry.specs.Limits.{lists, processes, stores, transactions, updates}
+use Rattle.log_entry.specs.Entry.{illFormed, outside}
 use Rattle.log_entry.specs.Refusal.{Check, accepted, check, firstRefusal, outsideLimits}
 use Rattle.log_core.specs.declared.Log.{Log}
 use Rattle.log_votes.specs.declared.Row.{Row}
 use Rattle.log_core.proofs.EnterLaws.{refusalOf}
 use Rattle.log_core.specs.Decide.{refusal}
-use Rattle.log_core.specs.Log.{heldBefore, holderOf, rowOf}
+use Rattle.log_core.specs.Log.{holderOf, latestOf, rowOf, turnOf}
 use Rattle.log_votes.specs.Row.{noVote}
 use Rattle.log_votes.specs.Refusal.{anyClash, voteChecks}
-use Rattle.log_core.specs.Refusal.{holdsAny, takeChecks}
-use Rattle.log_laws.specs.Answers.{None}
-use Rattle.log_laws.proofs.Answers.{conditions, none-applies}
-use Rattle.log_entry.proofs.Tests.{and-false, neither-left, neither-right}
+use Rattle.log_core.specs.Refusal.{takeChecks}
+use Rattle.log_laws.specs.Answers.{None, another, holdsNot, otherTurn, stale}
+use Rattle.log_laws.proofs.Answers.{conditions, no-refusal, none-applies}
+use Rattle.log_entry.proofs.Tests.{neither-left}
 
 -- no condition against the take holds
 pub record TakeOk (l : Log) (e : Entry) : Type 0 where
   pub is-take : e .take ≡ true
   pub in-limits : outside e ≡ false
-  pub not-held : (holdsAny (l .holders) (e .process) || heldBefore l (e .process) (e .store)) ≡ false
+  pub no-other : another l e ≡ false
+  pub fresh-turn : stale l e ≡ false
 
--- no condition against the vote holds
-pub record VoteOk (r : Row) (holder : ℕ) (e : Entry) : Type 0 where
+-- no condition against the vote holds; r is the row of its transaction
+pub record VoteOk (r : Row) (l : Log) (e : Entry) : Type 0 where
   pub is-vote : e .take ≡ false
   pub in-limits : outside e ≡ false
   pub well-formed : illFormed e ≡ false
-  pub holds : not (eqb holder (e .process)) ≡ false
+  pub holds : holdsNot l e ≡ false
   pub no-clash : anyClash e (r .votes) ≡ false
   pub free : getD (r .votes) (e .store) noVote .kept ≡ false
+  pub in-turn : otherTurn l e ≡ false
 
 -- the checks of a take and of a vote, in the order in which they are tried
+abbrev takeTried : Log → Entry → List Check
+takeTried l e = takeChecks (l .holders) (getD (l .takers) (e .store) 0) (latestOf l (e .process)) e
+
+abbrev voteTried : Log → Entry → List Check
+voteTried l e = voteChecks (rowOf l (e .tx)) (holderOf l (e .by)) (turnOf l (e .by)) e
+
 abbrev pub takeList : Log → Entry → List Check
-takeList l e = check outsideLimits (outside e) ∷ takeChecks (l .holders) (getD (l .takers) (e .store) 0) e
+takeList l e = check outsideLimits (outside e) ∷ takeTried l e
 
 abbrev pub voteList : Log → Entry → List Check
-voteList l e = check outsideLimits (outside e) ∷ voteChecks (rowOf l (e .tx)) (holderOf l (e .by)) e
+voteList l e = check outsideLimits (outside e) ∷ voteTried l e
 
 by-kind : Log → Entry → Bool → ℕ
-by-kind l e t =
-    firstRefusal
-    (check outsideLimits (outside e)
-    ∷ cond t (takeChecks (l .holders) (getD (l .takers) (e .store) 0) e) (voteChecks (rowOf l (e .tx)) (holderOf l (e .by)) e))
+by-kind l e t = firstRefusal (check outsideLimits (outside e) ∷ cond t (takeTried l e) (voteTried l e))
 
 pub take-refusal : (l : Log) (e : Entry) → e .take ≡ true → refusalOf l e ≡ firstRefusal (takeList l e)
 unfolding refusal by-kind
@@ -61,47 +67,42 @@ unfolding refusal by-kind
 vote-refusal l e t = ap (by-kind l e) t
 
 pub take-ok : (l : Log) (e : Entry) → e .take ≡ true → refusalOf l e ≡ accepted → TakeOk l e
-take-ok l e t h = record { is-take = t; in-limits = n .0; not-held = n .1 .0 }
+take-ok l e t h = record { is-take = t; in-limits = n .0; no-other = n .1 .0; fresh-turn = n .1 .1 .0 }
   where
     n : None (conditions (takeList l e))
     n = none-applies (takeList l e) refl (sym (take-refusal l e t) ∙ h)
 
-pub vote-ok : (l : Log) (e : Entry) → e .take ≡ false → refusalOf l e ≡ accepted → VoteOk (rowOf l (e .tx)) (holderOf l (e .by)) e
-vote-ok l e t h =
-    record { is-vote = t; in-limits = n .0; well-formed = n .1 .0; holds = n .1 .1 .0; no-clash = n .1 .1 .1 .0; free = n .1 .1 .1 .1 .0 }
+-- and so it is accepted
+pub ok-accepted : (l : Log) (e : Entry) → TakeOk l e → refusalOf l e ≡ accepted
+ok-accepted l e ok = take-refusal l e (ok .is-take) ∙ no-refusal (takeList l e) (ok .in-limits, (ok .no-other, (ok .fresh-turn, tt)))
+
+pub vote-ok : (l : Log) (e : Entry) → e .take ≡ false → refusalOf l e ≡ accepted → VoteOk (rowOf l (e .tx)) l e
+vote-ok l e t h = record {
+  is-vote = t;
+  in-limits = n .0;
+  well-formed = n .1 .0;
+  holds = n .1 .1 .0;
+  no-clash = n .1 .1 .1 .0;
+  free = n .1 .1 .1 .1 .0;
+  in-turn = n .1 .1 .1 .1 .1 .0;
+}
   where
     n : None (conditions (voteList l e))
     n = none-applies (voteList l e) refl (sym (vote-refusal l e t) ∙ h)
 
--- the limits
-module _ (e : Entry) (h : outside e ≡ false) where
-  small : (noProcess (e .process) || leb stores (e .store)) ≡ false
-  unfolding outside
-  small = neither-left (noProcess (e .process) || leb stores (e .store)) _ h
+pub process-from-1 : (e : Entry) → outside e ≡ false → e .process ≢ 0
+process-from-1 e h = omega (arith, inside-process e h .0)
 
-  pub process-from-1 : e .process ≢ 0
-  process-from-1 =
-      eqb-false (e .process) 0
-      (neither-left (eqb (e .process) 0) (ltb processes (e .process)) (neither-left (noProcess (e .process)) (leb stores (e .store)) small))
+-- a test that fails says that the two are equal
+same-by : (m n : ℕ) → not (eqb m n) ≡ false → m ≡ n
+same-by m n h = eqb-true m n (not-false (eqb m n) h)
 
-  pub store-in : e .store < stores
-  store-in = leb-false stores (e .store) (neither-right (noProcess (e .process)) (leb stores (e .store)) small)
+-- the process of an accepted vote holds `by`, in the vote's turn
+pub voter-holds : (r : Row) (l : Log) (e : Entry) → VoteOk r l e → holderOf l (e .by) ≡ e .process
+voter-holds r l e ok = same-by (holderOf l (e .by)) (e .process) (ok .holds)
 
-  module _ (t : e .take ≡ false) where
-    large : (leb stores (e .by) || leb transactions (e .tx) || leb lists (e .participants) || leb updates (e .update)) ≡ false
-    unfolding outside
-    large = and-false (not (e .take)) _ (neither-right (noProcess (e .process) || leb stores (e .store)) _ h) (ap not t)
-
-    pub tx-in : e .tx < transactions
-    tx-in =
-        leb-false transactions (e .tx)
-        (neither-right (leb stores (e .by)) (leb transactions (e .tx))
-        (neither-left (leb stores (e .by) || leb transactions (e .tx)) (leb lists (e .participants)) (neither-left _ (leb updates (e .update)) large)))
-
-    pub list-in : e .participants < lists
-    list-in =
-        leb-false lists (e .participants)
-        (neither-right (leb stores (e .by) || leb transactions (e .tx)) (leb lists (e .participants)) (neither-left _ (leb updates (e .update)) large))
+pub voter-turn : (r : Row) (l : Log) (e : Entry) → VoteOk r l e → turnOf l (e .by) ≡ e .turn
+voter-turn r l e ok = same-by (turnOf l (e .by)) (e .turn) (ok .in-turn)
 
 -- the vote's list has its store
 pub lists-store : (e : Entry) → illFormed e ≡ false → has (e .participants) (e .store) ≡ true

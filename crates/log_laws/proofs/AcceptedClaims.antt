@@ -1,26 +1,27 @@
 -- What an accepted entry leaves in the log.
-use Prim.Native.Nat.{ℕ, _<_}
-use mathlib.Core.Bool.{false, true}
+use Prim.Native.Nat.{_<_}
+use mathlib.Core.Bool.{false}
 use mathlib.Core.List.{List}
-use mathlib.Core.Path.{_≡_, ap, refl, sym, _∙_}
+use mathlib.Core.Path.{_≡_, ap, sym, _∙_}
 use native.Mathlib.Omega.{arith}
-use lib.ListN.{getD, length, set}
+use lib.ListN.{getD, length}
 use lib.Seq.{getD-set-same}
 use Rattle.log_entry.proofs.InsideLaws.{inside-store, inside-vote}
 use Rattle.log_entry.specs.declared.Entry.{Entry}
 use Rattle.log_entry.specs.Refusal.{accepted}
-use Rattle.log_core.proofs.EnterLaws.{accepted-inside, answer-is, refusalOf, take-entered}
-use Rattle.log_core.specs.declared.Entered.{Entered}
+use Rattle.log_core.proofs.EnterLaws.{accepted-inside, answer-is, refusalOf}
 use Rattle.log_core.specs.declared.Log.{Log}
 use Rattle.log_votes.specs.declared.Row.{Row}
 use Rattle.log_votes.specs.declared.Vote.{Vote}
 use Rattle.log_core.specs.Enter.{enter}
-use Rattle.log_core.specs.Log.{holderOf, rowOf, voteAt}
+use Rattle.log_core.specs.Log.{rowOf, voteAt}
 use Rattle.log_votes.specs.Row.{inGroup, keeping, noRow, noVote, voteOfEntry}
 use Rattle.log_laws.specs.Holders.{AcceptedTakeHolds}
 use Rattle.log_laws.specs.Reached.{reached}
 use Rattle.log_laws.specs.Votes.{AcceptedVoteIsKept}
-use Rattle.log_laws.proofs.Replicated.{holders-length, rows-length, votes-length}
+use Rattle.log_laws.proofs.Feed.{wf-reached}
+use Rattle.log_laws.proofs.Holding.{held-by}
+use Rattle.log_laws.proofs.Replicated.{rows-length, votes-length}
 use Rattle.log_laws.proofs.Steps.{groupAfter, vote-entered, voted-rows}
 
 stands-there : (es : List Entry) (e : Entry) → e .take ≡ false → enter (reached es) e .answer ≡ accepted
@@ -44,13 +45,10 @@ vote-is-kept es e vote ok =
       commit = ap (λ (v : Vote). v .commit) is;
       list = ap (λ (v : Vote). v .participants) is;
       process = ap (λ (v : Vote). v .process) is;
+      turn = ap (λ (v : Vote). v .turn) is;
       by = ap (λ (v : Vote). v .by) is;
       update = ap (λ (v : Vote). v .update) is;
     }
 
 pub take-holds : AcceptedTakeHolds
-take-holds es e take ok =
-    let l = reached es in
-    let is : refusalOf l e ≡ accepted = sym (answer-is l e) ∙ ok in
-    ap (λ (x : Entered). holderOf (x .log) (e .store)) (sym (take-entered l e take is))
-    ∙ getD-set-same (l .holders) (e .store) (e .process) 0 (omega (arith, holders-length es, inside-store e (accepted-inside l e is)))
+take-holds es e take ok = held-by (reached es) e (wf-reached es .sized) take (sym (answer-is (reached es) e) ∙ ok)

@@ -9,12 +9,12 @@ use lib.Dec.{eqb}
 use borrow.Author.Tests.{eqb-true}
 use Rattle.log_entry.specs.declared.Entry.{Entry}
 use Rattle.log_entry.specs.Entry.{illFormed, outside}
-use Rattle.log_entry.specs.Refusal.{Check, accepted, check, firstRefusal, holdsOrHeld, illFormedVote, keptAlready, notHolder, otherList, outsideLimits}
+use Rattle.log_entry.specs.Refusal.{Check, accepted, check, firstRefusal, holdsAnother, illFormedVote, keptAlready, notHolder, otherList, outsideLimits, wrongTurn}
 use Rattle.log_core.specs.declared.Log.{Log}
 use Rattle.log_core.specs.Decide.{effectOf}
 use Rattle.log_core.specs.Enter.{enter, entered}
 use Rattle.log_core.proofs.EnterLaws.{answer-is, refusalOf}
-use Rattle.log_laws.specs.Answers.{First, None, RefusedEntryChangesNothing, TakeAnswerExactly, VoteAnswerExactly, clash, held, holdsNot, kept}
+use Rattle.log_laws.specs.Answers.{First, None, RefusedEntryChangesNothing, TakeAnswerExactly, VoteAnswerExactly, another, clash, holdsNot, kept, otherTurn, stale}
 use Rattle.log_laws.proofs.Accepted.{take-refusal, takeList, vote-refusal, voteList}
 use Rattle.log_laws.proofs.Answers.{conditions, fresh, given-exactly, no-refusal, none-applies}
 use Rattle.log_entry.proofs.Tests.{by-test}
@@ -40,11 +40,12 @@ module _ (l : Log) (e : Entry) (cs : List Check) (is : refusalOf l e ≡ firstRe
 
 pub vote-exactly : VoteAnswerExactly
 vote-exactly l e v = record {
-  is-2 = by [] (c7 ∷ c8 ∷ c9 ∷ c10 ∷ []) outsideLimits (outside e) (omega arith) refl refl;
-  is-7 = by (c2 ∷ []) (c8 ∷ c9 ∷ c10 ∷ []) illFormedVote (illFormed e) (omega arith) refl refl;
-  is-8 = by (c2 ∷ c7 ∷ []) (c9 ∷ c10 ∷ []) notHolder (holdsNot l e) (omega arith) refl refl;
-  is-9 = by (c2 ∷ c7 ∷ c8 ∷ []) (c10 ∷ []) otherList (clash l e) (omega arith) refl refl;
-  is-10 = by (c2 ∷ c7 ∷ c8 ∷ c9 ∷ []) [] keptAlready (kept l e) (omega arith) refl refl;
+  is-2 = by [] (c7 ∷ c8 ∷ c9 ∷ c10 ∷ c12 ∷ []) outsideLimits (outside e) (omega arith) refl refl;
+  is-7 = by (c2 ∷ []) (c8 ∷ c9 ∷ c10 ∷ c12 ∷ []) illFormedVote (illFormed e) (omega arith) refl refl;
+  is-8 = by (c2 ∷ c7 ∷ []) (c9 ∷ c10 ∷ c12 ∷ []) notHolder (holdsNot l e) (omega arith) refl refl;
+  is-9 = by (c2 ∷ c7 ∷ c8 ∷ []) (c10 ∷ c12 ∷ []) otherList (clash l e) (omega arith) refl refl;
+  is-10 = by (c2 ∷ c7 ∷ c8 ∷ c9 ∷ []) (c12 ∷ []) keptAlready (kept l e) (omega arith) refl refl;
+  is-12 = by (c2 ∷ c7 ∷ c8 ∷ c9 ∷ c10 ∷ []) [] wrongTurn (otherTurn l e) (omega arith) refl refl;
   is-0 = zero-exactly l e cs (vote-refusal l e v) refl;
 }
   where
@@ -63,6 +64,9 @@ vote-exactly l e v = record {
     c10 : Check
     c10 = check keptAlready (kept l e)
 
+    c12 : Check
+    c12 = check wrongTurn (otherTurn l e)
+
     cs : List Check
     cs = voteList l e
 
@@ -72,11 +76,21 @@ vote-exactly l e v = record {
 
 pub take-exactly : TakeAnswerExactly
 take-exactly l e v = record {
-  is-2 = exactly l e cs is [] (check holdsOrHeld (held l e) ∷ []) outsideLimits (outside e) (omega arith) refl refl;
-  is-11 = exactly l e cs is (check outsideLimits (outside e) ∷ []) [] holdsOrHeld (held l e) (omega arith) refl refl;
+  is-2 = exactly l e cs is [] (c11 ∷ c12 ∷ []) outsideLimits (outside e) (omega arith) refl refl;
+  is-11 = exactly l e cs is (c2 ∷ []) (c12 ∷ []) holdsAnother (another l e) (omega arith) refl refl;
+  is-12 = exactly l e cs is (c2 ∷ c11 ∷ []) [] wrongTurn (stale l e) (omega arith) refl refl;
   is-0 = zero-exactly l e cs is refl;
 }
   where
+    c2 : Check
+    c2 = check outsideLimits (outside e)
+
+    c11 : Check
+    c11 = check holdsAnother (another l e)
+
+    c12 : Check
+    c12 = check wrongTurn (stale l e)
+
     cs : List Check
     cs = takeList l e
 

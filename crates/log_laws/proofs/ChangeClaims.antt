@@ -1,7 +1,6 @@
 -- What an accepted entry leaves as it was.
 use Prim.Native.Nat.{ℕ}
-use mathlib.Core.Path.{_≡_, refl, sym, ap, subst, _∙_}
-use mathlib.Core.Bool.{Bool, true, false}
+use mathlib.Core.Path.{_≡_, refl, ap, _∙_}
 use mathlib.Core.List.{List}
 use mathlib.Core.Logic.{_≢_}
 use lib.ListN.{getD}
@@ -9,26 +8,35 @@ use lib.Seq.{getD-set-other}
 use Rattle.log_entry.specs.declared.Entry.{Entry}
 use Rattle.log_entry.specs.Bits.{has}
 use Rattle.log_votes.specs.declared.Row.{Row}
-use Rattle.log_votes.specs.declared.Vote.{Vote}
 use Rattle.log_votes.specs.Row.{keeping, noRow, noVote, voteOfStore}
 use Rattle.log_core.specs.declared.Log.{Log}
 use Rattle.log_core.specs.Log.{rowOf}
 use Rattle.log_laws.specs.Changes.{OnlyHolderChanges, OnlyVoteChanges, TakeChangesOnly, VoteChangesOnly}
 use Rattle.log_laws.specs.Reached.{reached}
 use Rattle.log_laws.proofs.Places.{set-either}
-use Rattle.log_laws.proofs.Steps.{answer-cases, groupAfter, voted, voted-holders, voted-takers, voted-rows}
+use Rattle.log_laws.proofs.Steps.{Holders, answer-cases, holdersOf, voted, voted-holders, voted-rows}
 use Rattle.log_entry.proofs.Tests.{opposed}
 
 pub only-holder : TakeChangesOnly
 only-holder es e t =
-    answer-cases (λ (m : Log). OnlyHolderChanges l m (e .store)) l e
-    (record { rows = refl; groups = refl; remembered = refl; other-holders = λ s n. refl; other-past = λ p s n. refl })
+    answer-cases (λ (m : Log). OnlyHolderChanges l m (e .process) (e .store)) l e
+    (record {
+      rows = refl;
+      groups = refl;
+      remembered = refl;
+      other-holders = λ s n. refl;
+      other-turns = λ s n. refl;
+      other-past = λ p s n. refl;
+      other-latest = λ p n. refl;
+    })
     (λ ok k. record {
       rows = refl;
       groups = refl;
       remembered = refl;
       other-holders = λ s n. getD-set-other (l .holders) (e .store) s (e .process) 0 n;
+      other-turns = λ s n. getD-set-other (l .turns) (e .store) s (e .turn) 0 n;
       other-past = λ p s n. ap (λ (x : ℕ). has x p) (getD-set-other (l .takers) (e .store) s _ 0 n);
+      other-latest = λ p n. getD-set-other (l .latest) (e .process) p (e .turn) 0 n;
     })
     (λ ok k. absurd (opposed t k))
   where
@@ -59,11 +67,21 @@ pub only-vote : VoteChangesOnly
 unfolding r
 only-vote es e t =
     answer-cases (λ (m : Log). OnlyVoteChanges l m (e .tx) (e .store)) l e
-    (record { holders = refl; takers = refl; other-stores = λ s n. refl; other-votes = λ t s n. refl; other-groups = λ t n. refl })
+    (record {
+      holders = refl;
+      turns = refl;
+      takers = refl;
+      latest = refl;
+      other-stores = λ s n. refl;
+      other-votes = λ t s n. refl;
+      other-groups = λ t n. refl;
+    })
     (λ ok k. absurd (opposed k t))
     (λ ok k. record {
-      holders = voted-holders l (e .tx) (keeping (rowOf l (e .tx)) e);
-      takers = voted-takers l (e .tx) (keeping (rowOf l (e .tx)) e);
+      holders = ap (λ (x : Holders). x .holders) same;
+      turns = ap (λ (x : Holders). x .turns) same;
+      takers = ap (λ (x : Holders). x .takers) same;
+      latest = ap (λ (x : Holders). x .latest) same;
       other-stores = λ s n. other-vote l e s n;
       other-votes = λ t s n. ap (λ (x : Row). voteOfStore s x) (other-row l e t n);
       other-groups = λ t n. ap (λ (x : Row). x .group) (other-row l e t n);
@@ -71,3 +89,6 @@ only-vote es e t =
   where
     l : Log
     l = reached es
+
+    same : holdersOf (voted l (e .tx) (keeping (rowOf l (e .tx)) e)) ≡ holdersOf l
+    same = voted-holders l (e .tx) (keeping (rowOf l (e .tx)) e)

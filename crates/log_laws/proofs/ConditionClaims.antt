@@ -2,30 +2,31 @@
 use Prim.Native.Nat.{ℕ, _≤_, _<_}
 use mathlib.Core.Path.{_≡_, refl, sym, ap, _∙_}
 use mathlib.Core.Bool.{Bool, true, false, not, _&&_, _||_, cond}
-use mathlib.Core.List.{List}
-use mathlib.Core.Logic.{_≢_, ⊎-elim}
+use mathlib.Core.Logic.{_↔_, inl, inr, ⊎-elim}
 use native.Mathlib.Omega.{arith}
 use lib.Dec.{eqb, leb, ltb}
-use lib.ListN.{getD, length, List·getD-eq-default}
-use borrow.Author.Tests.{eq-eqb, eqb-true, le-ltb, lt-leb, ne-eqb, not-false}
-use Rattle.log_entry.proofs.InsideLaws.{inside-process, inside-store, inside-vote}
+use borrow.Author.Tests.{eq-eqb, eqb-true, le-ltb, lt-leb, lt-ltb, ltb-true, ne-eqb, not-false, not-true}
+use Rattle.log_entry.proofs.InsideLaws.{inside-process, inside-store, inside-turn, inside-vote}
 use Rattle.log_entry.specs.declared.Entry.{Entry}
 use Rattle.log_entry.specs.Bits.{has, within}
-use Rattle.log_entry.specs.Entry.{illFormed, noProcess, outside}
-use Rattle.log_entry.specs.Limits.{lists, processes, stores, transactions, updates}
+use Rattle.log_entry.specs.Entry.{illFormed, noProcess, noTurn, outside}
+use Rattle.log_entry.specs.Limits.{lists, processes, stores, transactions, turns, updates}
 use Rattle.log_votes.specs.Outcome.{isCommit}
 use Rattle.log_votes.specs.Refusal.{clashes, isClash}
 use Rattle.log_votes.specs.Row.{noVote}
 use Rattle.log_core.specs.declared.Log.{Log}
-use Rattle.log_core.specs.Log.{heldBefore, holderOf, rowOf, voteAt}
-use Rattle.log_core.specs.Refusal.{holdsAny, isHolder}
-use Rattle.log_laws.specs.Conditions.{ClashExactly, Fits, HeldExactly, HoldsNotExactly, IllFormedExactly, InLimits, OutsideExactly, WellFormed}
+use Rattle.log_core.specs.Log.{heldBefore, holderOf, latestOf, rowOf, turnOf, voteAt}
+use Rattle.log_core.specs.Refusal.{isOther, wrongTurn}
+use Rattle.log_laws.specs.Conditions.{Behind, ClashExactly, Fits, HoldsAnotherExactly, HoldsNotExactly, IllFormedExactly, InLimits, LastTake, OtherTurnExactly, OutsideExactly, StaleExactly, WellFormed}
 use Rattle.log_laws.specs.Reached.{reached}
+use Rattle.log_laws.proofs.Feed.{wf-reached}
+use Rattle.log_laws.proofs.Holding.{holds-only}
+use Rattle.log_laws.proofs.LastTakes.{latest-exactly}
 use Rattle.log_laws.proofs.Outcomes.{kept-in}
-use Rattle.log_laws.proofs.Scans.{found, none-found, none-here}
+use Rattle.log_laws.proofs.Scans.{none-found, none-here}
 use Rattle.log_laws.proofs.Sets.{within-by, within-has}
 use Rattle.log_laws.proofs.TakenBefore.{held-exactly}
-use Rattle.log_entry.proofs.Tests.{and-false, and-left, and-right, below-or-not, both, is-false, neither, neither-left, neither-right, opposed}
+use Rattle.log_entry.proofs.Tests.{and-false, and-left, and-right, both, neither, neither-left, neither-right, opposed, or-cases, or-left, or-right}
 
 -- ---- 2
 
@@ -36,9 +37,12 @@ outside-by-limits e = (inside, within-limits)
     inside : outside e ≡ false → InLimits e
     inside h =
         let p = inside-process e h in
+        let t = inside-turn e h in
         record {
           process-from = omega (arith, p .0);
           process-to = p .1;
+          turn-from = omega (arith, t .0);
+          turn-to = t .1;
           store = omega (arith, inside-store e h);
           vote = λ t.
               let v = inside-vote e h t in
@@ -47,13 +51,17 @@ outside-by-limits e = (inside, within-limits)
 
     within-limits : InLimits e → outside e ≡ false
     within-limits i =
-        neither (noProcess (e .process) || leb stores (e .store)) _
-        (neither (noProcess (e .process)) (leb stores (e .store))
-        (neither (eqb (e .process) 0) (ltb processes (e .process))
-        (ne-eqb (e .process) 0 (λ z. omega (arith, i .process-from))) (le-ltb processes (e .process) (i .process-to)))
+        neither (noProcess (e .process) || noTurn (e .turn) || leb stores (e .store)) _
+        (neither (noProcess (e .process) || noTurn (e .turn)) (leb stores (e .store))
+        (neither (noProcess (e .process)) (noTurn (e .turn))
+        (from-to (e .process) processes (i .process-from) (i .process-to))
+        (from-to (e .turn) turns (i .turn-from) (i .turn-to)))
         (lt-leb stores (e .store) (omega (arith, i .store))))
         (numbers (e .take) refl)
       where
+        from-to : (n most : ℕ) → 1 ≤ n → n ≤ most → (eqb n 0 || ltb most n) ≡ false
+        from-to n most h k = neither (eqb n 0) (ltb most n) (ne-eqb n 0 (λ z. omega (arith, h))) (le-ltb most n k)
+
         numbers : (t : Bool) → e .take ≡ t
             → (not t && (leb stores (e .by) || leb transactions (e .tx) || leb lists (e .participants) || leb updates (e .update))) ≡ false
         numbers true h = refl
@@ -107,11 +115,12 @@ ill-formed-by-values e = (well, ill-not)
 
 -- ---- 8
 
+-- the two do not differ exactly if they are equal
+differs-exactly : (m n : ℕ) → (not (eqb m n) ≡ false) ↔ (m ≡ n)
+differs-exactly m n = (λ h. eqb-true m n (not-false (eqb m n) h), λ h. ap not (eq-eqb m n h))
+
 pub holds-not-by-holder : HoldsNotExactly
-holds-not-by-holder l e = (
-  λ h. eqb-true (holderOf l (e .by)) (e .process) (not-false _ h),
-  λ h. ap not (eq-eqb (holderOf l (e .by)) (e .process) h),
-)
+holds-not-by-holder l e = differs-exactly (holderOf l (e .by)) (e .process)
 
 -- ---- 9
 
@@ -148,27 +157,51 @@ clash-by-lists l e = (
 
 -- ---- 11
 
--- a process that holds a store is found
-some-store : (holders : List ℕ) (p s : ℕ) → 1 ≤ p → holdsAny holders p ≡ false → getD holders s 0 ≢ p
-some-store holders p s n h e =
-    ⊎-elim
-    (λ (b : s < length holders). opposed (eq-eqb (getD holders s 0) p e) (none-here (isHolder p) 0 holders h s b))
-    (λ b. let z : 0 ≡ p = sym (List·getD-eq-default holders 0 {n = s} b) ∙ e in omega arith)
-    (below-or-not s (length holders))
+pub another-by-holders : HoldsAnotherExactly
+another-by-holders l e n = (
+  λ h s q. holds-only (l .holders) (e .process) (e .store) s (omega arith) h q,
+  λ f. none-found (isOther (e .process) (e .store)) 0 (l .holders) (λ s b m.
+      let holds = and-left (eqb (holderOf l s) (e .process)) (not (eqb s (e .store))) m in
+      let elsewhere = and-right (eqb (holderOf l s) (e .process)) (not (eqb s (e .store))) m in
+      opposed (eq-eqb s (e .store) (f s (eqb-true (holderOf l s) (e .process) holds))) (not-true (eqb s (e .store)) elsewhere)),
+)
 
-pub held-by-takes : HeldExactly
-held-by-takes es e n = (
-  λ h. (
-    λ s. some-store (reached es .holders) (e .process) s n (neither-left any before h),
-    λ t. opposed (held-exactly es (e .process) (e .store) .1 t) (neither-right any before h),
-  ),
-  λ f. neither any before
-      (is-false any (λ a. let r = found (isHolder (e .process)) 0 (reached es .holders) a in f .0 (r .0) (eqb-true _ (e .process) (r .2))))
-      (is-false before (λ b. f .1 (held-exactly es (e .process) (e .store) .0 b))),
+-- ---- 12
+
+pub stale-by-takes : StaleExactly
+unfolding wrongTurn
+stale-by-takes es e = (
+  λ h. ⊎-elim below same (or-cases (ltb (e .turn) last) (eqb (e .turn) last && took) h),
+  λ k.
+      let is : latestOf l (e .process) ≡ k .0 = latest-exactly es (e .process) (k .0) .1 (k .1) .1 in
+      ⊎-elim
+      (λ (b : e .turn < k .0). or-left (ltb (e .turn) last) (eqb (e .turn) last && took) (lt-ltb (e .turn) last (omega (arith, b, is))))
+      (λ b. or-right (ltb (e .turn) last) (eqb (e .turn) last && took)
+      (both (eqb (e .turn) last) took (eq-eqb (e .turn) last (b .0 ∙ sym is)) (held-exactly es (e .process) (e .store) .1 (b .1))))
+      (k .2),
 )
   where
-    any : Bool
-    any = holdsAny (reached es .holders) (e .process)
+    l : Log
+    l = reached es
 
-    before : Bool
-    before = heldBefore (reached es) (e .process) (e .store)
+    last : ℕ
+    last = latestOf (reached es) (e .process)
+
+    took : Bool
+    took = heldBefore (reached es) (e .process) (e .store)
+
+    below : ltb (e .turn) last ≡ true → (t : ℕ) × LastTake es (e .process) t × Behind es e t
+    below h =
+        let b : e .turn < last = ltb-true (e .turn) last h in
+        (last, latest-exactly es (e .process) last .0 (omega arith, refl), inl b)
+
+    same : (eqb (e .turn) last && took) ≡ true → (t : ℕ) × LastTake es (e .process) t × Behind es e t
+    same h =
+        let was = and-right (eqb (e .turn) last) took h in (
+          last,
+          latest-exactly es (e .process) last .0 (wf-reached es .holding .some-turn (e .process) (e .store) was, refl),
+          inr (eqb-true (e .turn) last (and-left (eqb (e .turn) last) took h), held-exactly es (e .process) (e .store) .0 was),
+        )
+
+pub other-turn-by-turn : OtherTurnExactly
+other-turn-by-turn l e = differs-exactly (turnOf l (e .by)) (e .turn)

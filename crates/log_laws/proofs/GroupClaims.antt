@@ -14,7 +14,7 @@ use Rattle.log_votes.specs.declared.Row.{Row}
 use Rattle.log_core.specs.Enter.{enter, feed}
 use Rattle.log_core.proofs.EnterLaws.{answer-is, refusalOf}
 use Rattle.log_core.specs.Group.{nextGroup, remembered}
-use Rattle.log_core.specs.Log.{emptyLog, holderOf, rowOf, outcomeOf}
+use Rattle.log_core.specs.Log.{emptyLog, rowOf, outcomeOf}
 use Rattle.log_votes.specs.Row.{inGroup, keeping}
 use Rattle.log_votes.specs.Outcome.{isCommitted, outcomeOfVotes, running}
 use Rattle.log_laws.specs.Groups.{Begins, BegunByCommit, FirstCommitBegins, GroupAtCommit, GroupIffCommitted, GroupNeverChanges, Grouped, GroupsWithoutGaps, JoinsIfRunningWhenBegun}
@@ -53,7 +53,7 @@ module _ (l : Log) (e : Entry) (w : Wf l) (vote : e .take ≡ false) (ok : refus
   abbrev after : Row
   after = keeping (rowOf l (e .tx)) e
 
-  fine : VoteOk (rowOf l (e .tx)) (holderOf l (e .by)) e
+  fine : VoteOk (rowOf l (e .tx)) l e
   fine = vote-ok l e vote ok
 
   row-entered : rowOf (enter l e .log) (e .tx) ≡ inGroup after (groupAfter l (e .tx) after)

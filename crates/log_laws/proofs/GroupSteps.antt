@@ -9,15 +9,16 @@ use lib.Dec.{eqb}
 use lib.ListN.{getD, length, set}
 use lib.Seq.{getD-set-other, getD-set-same}
 use borrow.Author.Tests.{eqb-false, ne-eqb}
+use Rattle.log_entry.proofs.InsideLaws.{inside-vote}
 use Rattle.log_entry.specs.declared.Entry.{Entry}
 use Rattle.log_entry.specs.Limits.{transactions}
 use Rattle.log_core.specs.declared.Log.{Log}
 use Rattle.log_votes.specs.declared.Row.{Row}
 use Rattle.log_core.specs.Enter.{enter}
 use Rattle.log_core.specs.Group.{nextGroup, remembered, runningSet}
-use Rattle.log_core.specs.Log.{emptyLog, groupOf, holderOf, rowOf}
+use Rattle.log_core.specs.Log.{emptyLog, groupOf, rowOf}
 use Rattle.log_votes.specs.Row.{inGroup, keeping, noRow}
-use Rattle.log_laws.proofs.Accepted.{VoteOk, tx-in}
+use Rattle.log_laws.proofs.Accepted.{VoteOk}
 use Rattle.log_laws.proofs.EmptyRows.{empty-rows}
 use Rattle.log_laws.proofs.Grouping.{Grouping, group-room, grouping-set}
 use Rattle.log_laws.proofs.RowSteps.{no-group}
@@ -28,15 +29,15 @@ use Rattle.log_entry.proofs.Tests.{by-test}
 
 -- an accepted vote, and the row with it
 module _ (l : Log) (e : Entry) (z : Sized l) (rows : (tx : ℕ) → RowWf (rowOf l tx)) (w : Grouping (l .rows) (l .groups))
-    (ok : VoteOk (rowOf l (e .tx)) (holderOf l (e .by)) e) where
+    (ok : VoteOk (rowOf l (e .tx)) l e) where
   abbrev after : Row
   after = keeping (rowOf l (e .tx)) e
 
   pub in-rows : e .tx < length (l .rows)
-  in-rows = subst (λ (n : ℕ). e .tx < n) (sym (z .rows-size)) (tx-in e (ok .in-limits) (ok .is-vote))
+  in-rows = subst (λ (n : ℕ). e .tx < n) (sym (z .rows-size)) (inside-vote e (ok .in-limits) (ok .is-vote) .tx)
 
   ungrouped : groupOf l (e .tx) ≡ 0
-  ungrouped = no-group (rowOf l (e .tx)) (holderOf l (e .by)) e (rows (e .tx)) ok
+  ungrouped = no-group (rowOf l (e .tx)) l e (rows (e .tx)) ok
 
   pub room : l .groups < transactions
   room = omega (arith, group-room (l .rows) (l .groups) (e .tx) w in-rows ungrouped, z .rows-size)

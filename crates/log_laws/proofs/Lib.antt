@@ -8,12 +8,14 @@ pub mod CommitIff
 pub mod ConditionClaims
 pub mod EmptyRows
 pub mod Feed
+pub mod FirstTurns
 pub mod GroupClaims
 pub mod GroupSteps
 pub mod Grouping
 pub mod Holding
 pub mod InvolvementClaims
 pub mod LastGroup
+pub mod LastTakes
 pub mod Lists
 pub mod Lost
 pub mod OutcomeClaims
@@ -35,3 +37,4 @@ pub mod TakenBefore
 pub mod TakenOver
 pub mod Theorems
 pub mod WellFormed
+pub mod WithoutTurns

@@ -1,11 +1,10 @@
 -- Abort and running, by the kept votes.
-use Prim.Native.Nat.{ℕ}
 use mathlib.Core.Path.{_≡_, refl, ap}
-use mathlib.Core.Bool.{Bool, true, false, not, false≢true}
+use mathlib.Core.Bool.{Bool, true, not, false≢true}
 use borrow.Author.Tests.{not-true}
 use Rattle.log_votes.specs.declared.Outcome.{Outcome}
 use Rattle.log_votes.specs.declared.Outcome.the-variants.{Abort, Commit, Open}
-use Rattle.log_votes.specs.Outcome.{isKept, isOpen, outcomeOfVotes, running}
+use Rattle.log_votes.specs.Outcome.{isKept, isOpen, running}
 use Rattle.log_votes.specs.Row.{noVote}
 use Rattle.log_votes.specs.Scan.{anyFrom}
 use Rattle.log_core.specs.Log.{outcomeOf, rowOf, voteAt}

@@ -10,7 +10,6 @@ use lib.Dec.{eqb}
 use lib.ListN.{getD, length, List·getD-eq-default}
 use borrow.Author.Tests.{eq-eqb, eqb-true}
 use Rattle.log_entry.specs.declared.Entry.{Entry}
-use Rattle.log_entry.specs.Limits.{transactions}
 use Rattle.log_core.proofs.ReplayedRows.{replay-row}
 use Rattle.log_core.proofs.ReplayLength.{replay-length}
 use Rattle.log_core.specs.declared.Log.{Log}

@@ -6,7 +6,7 @@ use mathlib.Core.List.{List, _++_}
 use mathlib.Core.Logic.{_≢_}
 use lib.ListN.{length}
 use Rattle.log_entry.specs.declared.Entry.{Entry}
-use Rattle.log_entry.specs.Limits.{stores, transactions}
+use Rattle.log_entry.specs.Limits.{processPlaces, stores, transactions}
 use Rattle.log_core.specs.declared.Log.{Log}
 use Rattle.log_votes.specs.declared.Outcome.the-variants.{Open}
 use Rattle.log_core.specs.Enter.{feed}
@@ -29,6 +29,12 @@ votes-length es = Feed.wf-reached es .sized .votes-size
 
 pub holders-length : (es : List Entry) → length (reached es .holders) ≡ stores
 holders-length es = Feed.wf-reached es .sized .holders-size
+
+pub turns-length : (es : List Entry) → length (reached es .turns) ≡ stores
+turns-length es = Feed.wf-reached es .sized .turns-size
+
+pub latest-length : (es : List Entry) → length (reached es .latest) ≡ processPlaces
+latest-length es = Feed.wf-reached es .sized .latest-size
 
 pub takers-length : (es : List Entry) → length (reached es .takers) ≡ stores
 takers-length es = Feed.wf-reached es .sized .takers-size

@@ -6,6 +6,7 @@ use mathlib.Core.Logic.{_≢_, ⊎-elim}
 use native.Mathlib.Omega.{arith}
 use lib.Dec.{eqb}
 use lib.ListN.{getD}
+use Rattle.log_entry.proofs.InsideLaws.{inside-vote}
 use Rattle.log_entry.specs.declared.Entry.{Entry}
 use Rattle.log_entry.specs.Bits.{has}
 use Rattle.log_entry.specs.Limits.{transactions}
@@ -13,9 +14,9 @@ use Rattle.log_core.specs.declared.Log.{Log}
 use Rattle.log_votes.specs.declared.Row.{Row}
 use Rattle.log_core.specs.Enter.{enter}
 use Rattle.log_core.specs.Group.{nextGroup, remembered}
-use Rattle.log_core.specs.Log.{emptyLog, holderOf, rowOf}
+use Rattle.log_core.specs.Log.{emptyLog, rowOf}
 use Rattle.log_votes.specs.Row.{keeping, noRow}
-use Rattle.log_laws.proofs.Accepted.{VoteOk, tx-in}
+use Rattle.log_laws.proofs.Accepted.{VoteOk}
 use Rattle.log_laws.proofs.EmptyRows.{blank, blank-kept, empty-rows}
 use Rattle.log_laws.proofs.Rows.{RowWf, committed, committed-refuses, row-empty, row-kept}
 use Rattle.log_laws.proofs.Sets.{empty-has}
@@ -42,17 +43,17 @@ group-commits l tx r z =
     by-test (λ (g : ℕ). g ≢ 0 → committed r ≡ true) (committed r) _ _ (λ c k. c) (λ c k. absurd (k z))
 
 -- a row for which a vote is accepted has no group yet
-pub no-group : (r : Row) (holder : ℕ) (e : Entry) → RowWf r → VoteOk r holder e → r .group ≡ 0
-no-group r holder e w ok =
-    ⊎-elim (λ (z : r .group ≡ 0). z) (λ n. absurd (committed-refuses r w (w .in-group n) holder e ok)) (same-number (r .group) 0)
+pub no-group : (r : Row) (l : Log) (e : Entry) → RowWf r → VoteOk r l e → r .group ≡ 0
+no-group r l e w ok =
+    ⊎-elim (λ (z : r .group ≡ 0). z) (λ n. absurd (committed-refuses r w (w .in-group n) l e ok)) (same-number (r .group) 0)
 
 pub rows-enter : (l : Log) (e : Entry) → Sized l → ((tx : ℕ) → RowWf (rowOf l tx)) → (tx : ℕ) → RowWf (rowOf (enter l e .log) tx)
 rows-enter l e s w tx =
     row-cases RowWf l e tx (w tx)
-    (λ ok k. row-kept (rowOf l tx) (holderOf l (e .by)) e (groupAfter l tx (keeping (rowOf l tx) e)) (w tx) ok
-    (s .votes-size tx (subst (λ (n : ℕ). n < transactions) (sym k) (tx-in e (ok .in-limits) (ok .is-vote))))
+    (λ ok k. row-kept (rowOf l tx) l e (groupAfter l tx (keeping (rowOf l tx) e)) (w tx) ok
+    (s .votes-size tx (subst (λ (n : ℕ). n < transactions) (sym k) (inside-vote e (ok .in-limits) (ok .is-vote) .tx)))
     (group-made l tx (keeping (rowOf l tx) e))
-    (group-commits l tx (keeping (rowOf l tx) e) (no-group (rowOf l tx) (holderOf l (e .by)) e (w tx) ok)))
+    (group-commits l tx (keeping (rowOf l tx) e) (no-group (rowOf l tx) l e (w tx) ok)))
 
 pub rows-empty : (tx : ℕ) → RowWf (rowOf emptyLog tx)
 rows-empty tx = empty-rows RowWf tx (row-empty blank blank-kept refl) (row-empty noRow (λ s. refl) refl)

@@ -6,15 +6,17 @@ use mathlib.Core.Bool.{Bool, true, false, _&&_}
 use mathlib.Core.Logic.{_≢_}
 use lib.ListN.{length, length-set}
 use borrow.Author.Tests.{eqb-true, not-false}
+use Rattle.log_entry.proofs.InsideLaws.{inside-vote}
 use Rattle.log_entry.specs.declared.Entry.{Entry}
 use Rattle.log_entry.specs.Bits.{has}
 use Rattle.log_entry.specs.Limits.{stores}
+use Rattle.log_core.specs.declared.Log.{Log}
 use Rattle.log_votes.specs.declared.Row.{Row}
 use Rattle.log_votes.specs.declared.Vote.{Vote}
 use Rattle.log_votes.specs.Row.{inGroup, keeping, noVote, voteOfEntry, voteOfStore}
 use Rattle.log_votes.specs.Outcome.{isCommit, isCommitted, outcomeOfVotes}
 use Rattle.log_votes.specs.Refusal.{clashes}
-use Rattle.log_laws.proofs.Accepted.{VoteOk, list-in, lists-store}
+use Rattle.log_laws.proofs.Accepted.{VoteOk, lists-store}
 use Rattle.log_laws.proofs.Outcomes.{commit-kept, committed-covered, committed-no-abort, covered-at, covering, kept-commit, kept-in}
 use Rattle.log_laws.proofs.Places.{set-either}
 use Rattle.log_laws.proofs.Scans.{none-here}
@@ -39,9 +41,9 @@ pub kept-cases : (P : Vote → Type 0) (r : Row) (e : Entry) (s : ℕ) → (s �
 kept-cases P r e s = set-either P (r .votes) (e .store) s (voteOfEntry e) noVote
 
 -- the list of an accepted vote does not clash with that of a kept commit vote
-no-clash-with : (r : Row) (holder : ℕ) (e : Entry) → VoteOk r holder e → (s : ℕ) → isCommit s (voteOfStore s r) ≡ true
+no-clash-with : (r : Row) (l : Log) (e : Entry) → VoteOk r l e → (s : ℕ) → isCommit s (voteOfStore s r) ≡ true
     → clashes e (voteOfStore s r .participants) ≡ false
-no-clash-with r holder e ok s k =
+no-clash-with r l e ok s k =
     and-false (isCommit s (voteOfStore s r)) (clashes e (voteOfStore s r .participants))
     (none-here (λ s v. isCommit s v && clashes e (v .participants)) noVote (r .votes) (ok .no-clash) s
     (kept-in (r .votes) s (commit-kept s (voteOfStore s r) k))) k
@@ -57,12 +59,12 @@ module _ (r : Row) (w : RowWf r) where
       covered-at (r .votes) (voteOfStore (c .0) r .participants) t (c .2) (w .lists-in s t k m) (subst (λ (x : ℕ). has x t ≡ true) list m)
 
   -- no vote is accepted for a committed row
-  pub committed-refuses : committed r ≡ true → (holder : ℕ) (e : Entry) → VoteOk r holder e → ⊥
-  committed-refuses h holder e ok =
+  pub committed-refuses : committed r ≡ true → (l : Log) (e : Entry) → VoteOk r l e → ⊥
+  committed-refuses h l e ok =
       let c = covering (r .votes) (committed-covered (r .votes) h) in
       let k = kept-commit (r .votes) (committed-no-abort (r .votes) h) (c .0) (c .1) in
       opposed
-      (commit-kept (e .store) (voteOfStore (e .store) r) (listed-commits h (c .0) (e .store) (c .1) (listed (voteOfStore (c .0) r .participants) (no-clash-with r holder e ok (c .0) k))))
+      (commit-kept (e .store) (voteOfStore (e .store) r) (listed-commits h (c .0) (e .store) (c .1) (listed (voteOfStore (c .0) r .participants) (no-clash-with r l e ok (c .0) k))))
       (ok .free)
     where
       -- a list with which the entry's does not clash has its store
@@ -73,7 +75,7 @@ module _ (r : Row) (w : RowWf r) where
           (λ c n. within-has (e .participants) list (e .store) (not-false _ n) (lists-store e (ok .well-formed)))
 
 -- an accepted vote keeps the row well formed, if the group it gets is right
-module _ (r : Row) (holder : ℕ) (e : Entry) (g : ℕ) (w : RowWf r) (ok : VoteOk r holder e) (size : length (r .votes) ≡ stores) where
+module _ (r : Row) (l : Log) (e : Entry) (g : ℕ) (w : RowWf r) (ok : VoteOk r l e) (size : length (r .votes) ≡ stores) where
   after : Row
   after = inGroup (keeping r e) g
 
@@ -87,13 +89,13 @@ module _ (r : Row) (holder : ℕ) (e : Entry) (g : ℕ) (w : RowWf r) (ok : Vote
       by-test (λ (b : Bool). b ≡ false → voteOfStore s r .participants ≡ e .participants) (e .commit) _ _
       (λ c n. eqb-true (voteOfStore s r .participants) (e .participants) (not-false _ n))
       (λ n. absurd (opposed c n))
-      (no-clash-with r holder e ok s k)
+      (no-clash-with r l e ok s k)
 
   kept-lists-in : (s t : ℕ) → voteOfStore s after .kept ≡ true → has (voteOfStore s after .participants) t ≡ true → t < length (after .votes)
   unfolding after
   kept-lists-in s t =
       kept-cases (λ (v : Vote). v .kept ≡ true → has (v .participants) t ≡ true → t < length (after .votes)) r e s
-      (λ k kept m. subst (λ (n : ℕ). t < n) (sym (same-size ∙ size)) (member-below (e .participants) stores t (list-in e (ok .in-limits) (ok .is-vote)) m))
+      (λ k kept m. subst (λ (n : ℕ). t < n) (sym (same-size ∙ size)) (member-below (e .participants) stores t (inside-vote e (ok .in-limits) (ok .is-vote) .list) m))
       (λ kept m. subst (λ (n : ℕ). t < n) (sym same-size) (w .lists-in s t kept m))
 
   kept-one-list : (s t : ℕ) → isCommit s (voteOfStore s after) ≡ true → isCommit t (voteOfStore t after) ≡ true

@@ -12,7 +12,7 @@ use Rattle.log_votes.specs.declared.Row.{Row}
 use Rattle.log_votes.specs.declared.Vote.{Vote}
 use Rattle.log_core.proofs.EnterLaws.{answer-is}
 use Rattle.log_core.specs.Enter.{enter, feed}
-use Rattle.log_core.specs.Log.{emptyLog, holderOf, rowOf, voteAt, outcomeOf}
+use Rattle.log_core.specs.Log.{emptyLog, rowOf, voteAt, outcomeOf}
 use Rattle.log_votes.specs.Outcome.{isAbort, isCommitted, outcomeOfVotes}
 use Rattle.log_votes.specs.Row.{voteOfStore}
 use Rattle.log_laws.specs.Reached.{reached}
@@ -50,7 +50,7 @@ settled-enter tx r l e w h = (
   h .0,
   row-cases (λ (x : Row). x ≡ r) l e tx (h .1)
       (λ ok k. absurd (committed-refuses (rowOf l tx) (w .row tx)
-      (ap (λ (x : Row). isCommitted (outcomeOfVotes (x .votes))) (h .1) ∙ h .0) (holderOf l (e .by)) e ok)),
+      (ap (λ (x : Row). isCommitted (outcomeOfVotes (x .votes))) (h .1) ∙ h .0) l e ok)),
 )
 
 pub row-stays : CommittedRowStays
@@ -58,7 +58,7 @@ row-stays es more tx h = later (Settled tx (rowOf (reached es) tx)) (settled-ent
 
 pub no-vote-kept : CommittedKeepsNoVote
 no-vote-kept es e t h a =
-    committed-refuses (rowOf (reached es) (e .tx)) (wf-reached es .row (e .tx)) (ap isCommitted h) (holderOf (reached es) (e .by)) e (vote-ok (reached es) e t (sym (answer-is (reached es) e) ∙ a))
+    committed-refuses (rowOf (reached es) (e .tx)) (wf-reached es .row (e .tx)) (ap isCommitted h) (reached es) e (vote-ok (reached es) e t (sym (answer-is (reached es) e) ∙ a))
 
 -- from any log in order, so also from one of a replicated service
 pub decided-stays : (l : Log) (es : List Entry) (tx : ℕ) → Wf l → outcomeOf l tx ≢ Open → outcomeOf (feed l es) tx ≡ outcomeOf l tx

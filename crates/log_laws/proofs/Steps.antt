@@ -16,7 +16,7 @@ use Rattle.log_votes.specs.declared.Row.{Row}
 use Rattle.log_core.specs.Decide.{effectOf, partsOf}
 use Rattle.log_core.specs.Enter.{enter, entered, stored}
 use Rattle.log_core.specs.Group.{nextGroup, remembered, runningSet}
-use Rattle.log_core.specs.Log.{holderOf, rowOf, withGroup, withHolder, withRow}
+use Rattle.log_core.specs.Log.{rowOf, withGroup, withHolder, withRow}
 use Rattle.log_core.proofs.EnterLaws.{enter-accepted, refusalOf, stored-holder}
 use Rattle.log_votes.specs.Row.{inGroup, keeping, noRow}
 use Rattle.log_laws.proofs.Accepted.{TakeOk, VoteOk, take-ok, vote-ok}
@@ -39,6 +39,16 @@ begun : {A : Type 0} (f : ℕ → A) (old : A) (c j : Bool) (g n r : ℕ)
 begun f old true true g n r = refl
 begun f old true false g n r = refl
 begun f old false j g n r = refl
+
+-- who holds and held what, and in which turns: the part of a log that a take changes
+pub record Holders : Type 0 where
+  pub holders : List ℕ
+  pub turns : List ℕ
+  pub takers : List ℕ
+  pub latest : List ℕ
+
+abbrev pub holdersOf : Log → Holders
+holdersOf l = record { holders = l .holders; turns = l .turns; takers = l .takers; latest = l .latest }
 
 -- the parts of a log after a vote: r is the row with the vote
 module _ (l : Log) (tx : ℕ) (r : Row) where
@@ -75,13 +85,9 @@ module _ (l : Log) (tx : ℕ) (r : Row) where
       in-arms (λ (x : Log). x .remembered) (committed r && not joins) _ _
       ∙ begun (λ (g : ℕ). set (l .remembered) (g - 1) (runningSet (l .rows))) (l .remembered) (committed r) joins (l .groups) (nextGroup (l .groups)) (r .group)
 
-  pub voted-holders : voted .holders ≡ l .holders
+  pub voted-holders : holdersOf voted ≡ holdersOf l
   unfolding voted
-  voted-holders = either-way (λ (x : Log). x .holders) (committed r && not joins) _ _ refl
-
-  pub voted-takers : voted .takers ≡ l .takers
-  unfolding voted
-  voted-takers = either-way (λ (x : Log). x .takers) (committed r && not joins) _ _ refl
+  voted-holders = either-way holdersOf (committed r && not joins) _ _ refl
 
 -- the effect of an accepted vote
 vote-stored : (l : Log) (e : Entry) → e .take ≡ false → refusalOf l e ≡ accepted
@@ -91,7 +97,7 @@ vote-stored l e t ok = rw (ok, t)
 
 -- refused, an accepted take, an accepted vote
 pub answer-cases : (P : Log → Type 0) (l : Log) (e : Entry) → P l
-    → (refusalOf l e ≡ accepted → e .take ≡ true → P (withHolder l (e .process) (e .store)))
+    → (refusalOf l e ≡ accepted → e .take ≡ true → P (withHolder l (e .process) (e .turn) (e .store)))
     → (refusalOf l e ≡ accepted → e .take ≡ false → P (voted l (e .tx) (keeping (rowOf l (e .tx)) e)))
     → P (enter l e .log)
 unfolding enter entered effectOf
@@ -102,9 +108,17 @@ answer-cases P l e old take vote =
     by-kind true k ok = subst P (stored-holder l e (effectOf (partsOf l e) e) k) (take ok k)
     by-kind false k ok = subst P (sym (vote-stored l e k ok)) (vote ok k)
 
-pub enter-cases : (P : Log → Type 0) (l : Log) (e : Entry) → P l → (TakeOk l e → P (withHolder l (e .process) (e .store)))
-    → (VoteOk (rowOf l (e .tx)) (holderOf l (e .by)) e → P (voted l (e .tx) (keeping (rowOf l (e .tx)) e))) → P (enter l e .log)
+pub enter-cases : (P : Log → Type 0) (l : Log) (e : Entry) → P l → (TakeOk l e → P (withHolder l (e .process) (e .turn) (e .store)))
+    → (VoteOk (rowOf l (e .tx)) l e → P (voted l (e .tx) (keeping (rowOf l (e .tx)) e))) → P (enter l e .log)
 enter-cases P l e old take vote = answer-cases P l e old (λ ok t. take (take-ok l e t ok)) (λ ok t. vote (vote-ok l e t ok))
+
+-- the holders after an entry: as they were, or with the taker
+pub holder-cases : (P : Holders → Type 0) (l : Log) (e : Entry) → P (holdersOf l)
+    → (TakeOk l e → P (holdersOf (withHolder l (e .process) (e .turn) (e .store))))
+    → P (holdersOf (enter l e .log))
+holder-cases P l e old new =
+    enter-cases (λ (x : Log). P (holdersOf x)) l e old new
+    (λ ok. subst P (sym (voted-holders l (e .tx) (keeping (rowOf l (e .tx)) e))) old)
 
 -- the log after an accepted vote
 pub vote-entered : (l : Log) (e : Entry) → refusalOf l e ≡ accepted → e .take ≡ false → enter l e .log ≡ voted l (e .tx) (keeping (rowOf l (e .tx)) e)
@@ -112,7 +126,7 @@ vote-entered l e ok t = ap (λ (x : Entered). x .log) (sym (enter-accepted l e o
 
 -- a row of the log after an entry: as it was, or with the entry's vote
 pub row-cases : (P : Row → Type 0) (l : Log) (e : Entry) (tx : ℕ) → P (rowOf l tx)
-    → (VoteOk (rowOf l tx) (holderOf l (e .by)) e → tx ≡ e .tx → P (inGroup (keeping (rowOf l tx) e) (groupAfter l tx (keeping (rowOf l tx) e))))
+    → (VoteOk (rowOf l tx) l e → tx ≡ e .tx → P (inGroup (keeping (rowOf l tx) e) (groupAfter l tx (keeping (rowOf l tx) e))))
     → P (rowOf (enter l e .log) tx)
 row-cases P l e tx old new =
     enter-cases (λ (x : Log). P (rowOf x tx)) l e old (λ ok. old)
@@ -121,8 +135,8 @@ row-cases P l e tx old new =
     R : ℕ → Row
     R t = inGroup (keeping (rowOf l t) e) (groupAfter l t (keeping (rowOf l t) e))
 
-    at-row : VoteOk (rowOf l (e .tx)) (holderOf l (e .by)) e → P (getD (set (l .rows) (e .tx) (R (e .tx))) tx noRow)
+    at-row : VoteOk (rowOf l (e .tx)) l e → P (getD (set (l .rows) (e .tx) (R (e .tx))) tx noRow)
     at-row ok =
         set-either P (l .rows) (e .tx) tx (R (e .tx)) noRow
-        (λ k. subst (λ (t : ℕ). P (R t)) k (new (subst (λ (t : ℕ). VoteOk (rowOf l t) (holderOf l (e .by)) e) (sym k) ok) k))
+        (λ k. subst (λ (t : ℕ). P (R t)) k (new (subst (λ (t : ℕ). VoteOk (rowOf l t) l e) (sym k) ok) k))
         old

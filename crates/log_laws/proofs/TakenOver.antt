@@ -1,13 +1,11 @@
 -- A store that is taken over: the commit votes of its earlier holders are rows of the replay, or
 -- their transactions run.
 use Prim.Native.Nat.{ℕ}
-use mathlib.Core.Path.{_≡_, refl, sym, ap, subst, _∙_}
+use mathlib.Core.Path.{_≡_, refl, sym, ap, subst, subst₂, _∙_}
 use mathlib.Core.Bool.{true, false}
-use mathlib.Core.List.{_++_}
+use mathlib.Core.List.{List, _++_}
 use mathlib.Core.Logic.{_⊎_, inl, inr}
 use native.Mathlib.Omega.{arith}
-use borrow.Author.Tests.{eqb-true, not-false}
-use lib.Dec.{eqb}
 use Rattle.log_entry.specs.declared.Entry.{Entry}
 use Rattle.log_entry.specs.Bits.{has}
 use Rattle.log_core.specs.declared.Log.{Log}
@@ -20,26 +18,28 @@ use Rattle.log_votes.specs.Outcome.{isCommit, outcomeOfVotes, running}
 use Rattle.log_votes.specs.Row.{noRow, voteOfStore}
 use Rattle.log_votes.specs.Scan.{anyFrom}
 use Rattle.log_votes.proofs.SetLaws.{set-has}
+use Rattle.log_core.proofs.EnterLaws.{answer-is}
 use Rattle.log_core.specs.Enter.{enter}
 use Rattle.log_core.specs.Follow.{awaitedOf, awaits}
-use Rattle.log_core.specs.Log.{groupOf, holderOf, outcomeOf, rowOf, voteAt}
+use Rattle.log_core.specs.Log.{groupOf, heldBefore, holderOf, latestOf, outcomeOf, rowOf, turnOf, voteAt}
 use Rattle.log_core.specs.Replay.{replayOf}
+use Rattle.log_laws.specs.Conditions.{Took}
 use Rattle.log_laws.specs.Reached.{reached}
 use Rattle.log_laws.specs.Replays.{InReplay, Replays, replayed}
 use Rattle.log_laws.specs.TakenOver.{AwaitedExactly, LostStoreVotesNoMore, ReplayedOrAwaited, RowIn, RowStaysCommitted}
 use Rattle.log_laws.specs.Votes.{Kept, KeptCommit}
-use Rattle.log_laws.proofs.Accepted.{VoteOk}
+use Rattle.log_laws.proofs.Accepted.{VoteOk, voter-holds, voter-turn}
 use Rattle.log_laws.proofs.ConditionClaims.{ill-formed-by-values}
 use Rattle.log_laws.proofs.Feed.{later}
-use Rattle.log_laws.proofs.Holding.{Lost, lost-enter}
+use Rattle.log_laws.proofs.Holding.{HadIn, LostIn, had-enter, held-by, lost-enter, taker-held}
 use Rattle.log_laws.proofs.OutcomeClaims.{running-by-votes}
 use Rattle.log_laws.proofs.ReplayClaims.{lists-exactly}
 use Rattle.log_laws.proofs.Rows.{kept-cases}
 use Rattle.log_laws.proofs.Stays.{outcome-stays, row-stays}
 use Rattle.log_laws.proofs.Steps.{row-cases}
-use Rattle.log_laws.proofs.TakenBefore.{held-exactly}
+use Rattle.log_laws.proofs.TakenBefore.{took-since}
 use Rattle.log_laws.proofs.WellFormed.{Wf}
-use Rattle.log_entry.proofs.Tests.{and-left, and-right, both, opposed}
+use Rattle.log_entry.proofs.Tests.{and-left, and-right, both}
 
 -- ---- the transactions that are listed
 
@@ -65,31 +65,43 @@ awaited-exactly l tx store = (
 
 -- ---- who lost the store votes no more
 
--- the process lost the store, and a commit vote of the store on tx that it cast, if any is kept,
--- was kept in the log before
-abbrev CastsNoMore : Log → ℕ → ℕ → ℕ → Log → Type 0
-CastsNoMore before p s tx l = Lost p s l × (KeptCommit l tx s → voteAt l tx s .process ≡ p → Kept before tx s)
+-- the process lost the store in this turn, and a commit vote of the store on tx that it cast then,
+-- if any is kept, was kept in the log before
+abbrev CastsNoMore : Log → ℕ → ℕ → ℕ → ℕ → Log → Type 0
+CastsNoMore before p t s tx l = LostIn p t s l × (KeptCommit l tx s → voteAt l tx s .process ≡ p → voteAt l tx s .turn ≡ t → Kept before tx s)
 
-casts-no-more : (before : Log) (p s tx : ℕ) (l : Log) (e : Entry) → Wf l → CastsNoMore before p s tx l → CastsNoMore before p s tx (enter l e .log)
-casts-no-more before p s tx l e w h = (
-  lost-enter l e p s (w .sized) (h .0),
+casts-no-more : (before : Log) (p t s tx : ℕ) (l : Log) (e : Entry) → Wf l → CastsNoMore before p t s tx l → CastsNoMore before p t s tx (enter l e .log)
+casts-no-more before p t s tx l e w h = (
+  lost-enter l e p t s (w .sized) (h .0),
   row-cases (λ (r : Row). Old (voteOfStore s r)) l e tx (h .1)
-      (λ ok k. kept-cases Old (rowOf l tx) e s (λ m c q. absurd (h .0 .1 (holder ok m (c .1) ∙ q))) (h .1)),
+      (λ ok k. kept-cases Old (rowOf l tx) e s
+      (λ m c q i. let own = at-by ok m (c .1) in
+      absurd (h .0 .1 (ap (holderOf l) own ∙ voter-holds (rowOf l tx) l e ok ∙ q, ap (turnOf l) own ∙ voter-turn (rowOf l tx) l e ok ∙ i)))
+      (h .1)),
 )
   where
     Old : Vote → Type 0
-    Old v = (v .kept ≡ true) × (v .commit ≡ true) → v .process ≡ p → Kept before tx s
+    Old v = (v .kept ≡ true) × (v .commit ≡ true) → v .process ≡ p → v .turn ≡ t → Kept before tx s
 
-    -- a commit vote is the store's own, so its process holds the store
-    holder : VoteOk (rowOf l tx) (holderOf l (e .by)) e → s ≡ e .store → e .commit ≡ true → holderOf l s ≡ e .process
-    holder ok m c =
-        ap (holderOf l) (m ∙ sym (ill-formed-by-values e .0 (ok .well-formed) .commit-own c))
-        ∙ eqb-true (holderOf l (e .by)) (e .process) (not-false (eqb (holderOf l (e .by)) (e .process)) (ok .holds))
+    -- a commit vote is the store's own
+    at-by : VoteOk (rowOf l tx) l e → s ≡ e .store → e .commit ≡ true → s ≡ e .by
+    at-by ok m c = m ∙ sym (ill-formed-by-values e .0 (ok .well-formed) .commit-own c)
+
+-- who took the store in a turn had it in that turn
+had : (es : List Entry) (p t s : ℕ) → Took es p t s → HadIn p t s (reached es)
+had es p t s k =
+    took-since (HadIn p t s) es p t s k
+    (λ l e w h.
+    let ok = sym (answer-is l e) ∙ h .is-accepted in (
+      subst₂ (λ (q r : ℕ). heldBefore (enter l e .log) q r ≡ true) (h .taker) (h .taken) (taker-held l e (w .sized) (h .is-take) ok),
+      omega (arith, held-by l e (w .sized) (h .is-take) ok .latest, ap (latestOf (enter l e .log)) (h .taker), h .in-turn),
+    ))
+    (λ l e w h. had-enter l e p t s (w .sized) h)
 
 pub votes-no-more : LostStoreVotesNoMore
-votes-no-more es more tx s p t lost c q =
-    later (CastsNoMore (reached es) p s tx) (casts-no-more (reached es) p s tx) es more
-    ((held-exactly es p s .1 t, lost), (λ k _. k .0)) .1 c q
+votes-no-more es more tx s p t k lost c q i =
+    later (CastsNoMore (reached es) p t s tx) (casts-no-more (reached es) p t s tx) es more
+    ((had es p t s k, lost), (λ k _ _. k .0)) .1 c q i
 
 -- ---- a vote that was kept by then
 

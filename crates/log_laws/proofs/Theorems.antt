@@ -1,30 +1,33 @@
 -- The theorems about the definitions of the commit log; specs/ has what each claims.
 use Rattle.log_laws.specs.Answers.{RefusedEntryChangesNothing, TakeAnswerExactly, VoteAnswerExactly}
+use Rattle.log_laws.specs.Base.{BaseCasesHold, BaseReadsNoTurn, OnlyRefusalsDiffer, TakesWithoutTurns, WithoutTurns}
 use Rattle.log_laws.specs.Cases.{CasesHold}
 use Rattle.log_laws.specs.Changes.{TakeChangesOnly, VoteChangesOnly}
-use Rattle.log_laws.specs.Conditions.{ClashExactly, HeldBeforeExactly, HeldExactly, HoldsNotExactly, IllFormedExactly, OutsideExactly}
+use Rattle.log_laws.specs.Conditions.{ClashExactly, HeldBeforeExactly, HoldsAnotherExactly, HoldsNotExactly, IllFormedExactly, LatestExactly, OtherTurnExactly, OutsideExactly, StaleExactly}
 use Rattle.log_laws.specs.Groups.{BegunByCommit, FirstCommitBegins, GroupAtCommit, GroupIffCommitted, GroupNeverChanges, GroupsWithoutGaps, JoinsIfRunningWhenBegun, LastGroupWasBegun, RememberedNeverChanges, GroupRemembersRunning}
-use Rattle.log_laws.specs.Holders.{AcceptedTakeHolds, HoldsAtMostOneStore, LostStoreNeverAgain}
+use Rattle.log_laws.specs.Holders.{AcceptedTakeHolds, HoldsAtMostOneStore, HoldsInLastTurn, LostStoreNeverAgain, NoEarlierTurnKept}
 use Rattle.log_laws.specs.Involvement.{InvolvementExactly}
 use Rattle.log_laws.specs.Replays.{ReplayListsExactly, ReplayListsOnce, ReplayOrdered}
 use Rattle.log_laws.specs.TakenOver.{AwaitedExactly, LostStoreVotesNoMore, ReplayedOrAwaited, RowStaysCommitted}
 use Rattle.log_laws.specs.Votes.{AcceptedVoteIsKept, CommitVotesNameOneList, CommittedKeepsNoVote, CommittedRowStays, KeptVoteStays, OutcomeAbortIff, OutcomeCommitIff, OutcomeNeverChanges, RunningExactly}
 use Rattle.log_laws.proofs.AcceptedClaims.{take-holds, vote-is-kept}
 use Rattle.log_laws.proofs.AnswerClaims.{refused-same, take-exactly, vote-exactly}
-use Rattle.log_laws.proofs.CaseTable.{table-holds}
+use Rattle.log_laws.proofs.CaseTable.{base-table-holds, table-holds}
 use Rattle.log_laws.proofs.ChangeClaims.{only-holder, only-vote}
 use Rattle.log_laws.proofs.CommitIff.{commit-iff}
-use Rattle.log_laws.proofs.ConditionClaims.{clash-by-lists, held-by-takes, holds-not-by-holder, ill-formed-by-values, outside-by-limits}
+use Rattle.log_laws.proofs.ConditionClaims.{another-by-holders, clash-by-lists, holds-not-by-holder, ill-formed-by-values, other-turn-by-turn, outside-by-limits, stale-by-takes}
 use Rattle.log_laws.proofs.GroupClaims.{at-commit, by-commit, first-begins, iff-committed, joins-if-running, never-changes, without-gaps}
 use Rattle.log_laws.proofs.InvolvementClaims.{involvement-by-votes}
 use Rattle.log_laws.proofs.LastGroup.{was-begun}
-use Rattle.log_laws.proofs.Lost.{never-again, one-store}
+use Rattle.log_laws.proofs.LastTakes
+use Rattle.log_laws.proofs.Lost.{last-turn, never-again, no-earlier, one-store}
 use Rattle.log_laws.proofs.OutcomeClaims.{abort-iff, running-by-votes}
 use Rattle.log_laws.proofs.Remembered.{remembered-stays, remembers-running}
 use Rattle.log_laws.proofs.ReplayClaims.{lists-exactly, lists-once, ordered}
 use Rattle.log_laws.proofs.Stays.{no-vote-kept, one-list-named, outcome-stays, row-stays, vote-stays}
 use Rattle.log_laws.proofs.TakenBefore.{held-exactly}
 use Rattle.log_laws.proofs.TakenOver
+use Rattle.log_laws.proofs.WithoutTurns
 
 pub outcome-commit-iff : OutcomeCommitIff
 outcome-commit-iff = commit-iff
@@ -61,6 +64,12 @@ accepted-take-holds = take-holds
 
 pub holds-at-most-one-store : HoldsAtMostOneStore
 holds-at-most-one-store = one-store
+
+pub holds-in-last-turn : HoldsInLastTurn
+holds-in-last-turn = last-turn
+
+pub no-earlier-turn-kept : NoEarlierTurnKept
+no-earlier-turn-kept = no-earlier
 
 pub lost-store-never-again : LostStoreNeverAgain
 lost-store-never-again = never-again
@@ -140,8 +149,17 @@ clash-exactly = clash-by-lists
 pub held-before-exactly : HeldBeforeExactly
 held-before-exactly = held-exactly
 
-pub held-exactly-by-takes : HeldExactly
-held-exactly-by-takes = held-by-takes
+pub holds-another-exactly : HoldsAnotherExactly
+holds-another-exactly = another-by-holders
+
+pub latest-exactly : LatestExactly
+latest-exactly = LastTakes.latest-exactly
+
+pub stale-exactly : StaleExactly
+stale-exactly = stale-by-takes
+
+pub other-turn-exactly : OtherTurnExactly
+other-turn-exactly = other-turn-by-turn
 
 pub take-changes-only : TakeChangesOnly
 take-changes-only = only-holder
@@ -151,3 +169,18 @@ vote-changes-only = only-vote
 
 pub cases-hold : CasesHold
 cases-hold = table-holds
+
+pub base-cases-hold : BaseCasesHold
+base-cases-hold = base-table-holds
+
+pub base-reads-no-turn : BaseReadsNoTurn
+base-reads-no-turn = WithoutTurns.base-reads-no-turn
+
+pub only-refusals-differ : OnlyRefusalsDiffer
+only-refusals-differ = WithoutTurns.only-refusals-differ
+
+pub without-turns : WithoutTurns
+without-turns = WithoutTurns.without-turns
+
+pub takes-without-turns : TakesWithoutTurns
+takes-without-turns = WithoutTurns.takes-without-turns

@@ -11,11 +11,12 @@ use Rattle.log_laws.proofs.Holding.{Holding, holding-empty, holding-ent
 use Rattle.log_laws.proofs.Rows.{RowWf}
 use Rattle.log_laws.proofs.RowSteps.{rows-empty, rows-enter}
 use Rattle.log_laws.proofs.Sizes.{Sized, sized-empty, sized-enter}
+use Rattle.log_laws.proofs.Steps.{holdersOf}
 
 pub record Wf (l : Log) : Type 0 where
   pub sized : Sized l
   pub row : (tx : ℕ) → RowWf (rowOf l tx)
-  pub holding : Holding (l .holders) (l .takers)
+  pub holding : Holding (holdersOf l)
   pub grouping : Grouping (l .rows) (l .groups)
 
 pub wf-empty : Wf emptyLog

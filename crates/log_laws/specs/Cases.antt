@@ -11,7 +11,7 @@ use Rattle.log_votes.specs.declared.Involvement.the-variants.{No, Yes, Unknown}
 use Rattle.log_core.specs.declared.Log.{Log}
 use Rattle.log_votes.specs.declared.Outcome.{Outcome}
 use Rattle.log_votes.specs.declared.Outcome.the-variants.{Open, Commit, Abort}
-use Rattle.log_core.specs.Enter.{enter, feed}
+use Rattle.log_core.specs.Enter.{answersTo, feed}
 use Rattle.log_core.specs.Log.{involvementOf, groupOf, outcomeOf}
 use Rattle.log_laws.specs.Reached.{reached}
 
@@ -29,26 +29,31 @@ pub record Case : Type 0 where
   pub answers : List ℕ
   pub results : List Result
 
+-- "A line without it means turn 1"
+abbrev pub take : ℕ → ℕ → Entry
+take process store = takeEntry process 1 store
+
 -- "Where no take is shown, process s + 1 took store s first"
 abbrev pub takes : List Entry
 takes =
-    takeEntry 1 0 ∷ takeEntry 2 1 ∷ takeEntry 3 2 ∷ takeEntry 4 3 ∷ takeEntry 5 4 ∷ takeEntry 6 5 ∷ takeEntry 7 6 ∷ takeEntry 8 7 ∷ []
+    take 1 0 ∷ take 2 1 ∷ take 3 2 ∷ take 4 3 ∷ take 5 4 ∷ take 6 5 ∷ take 7 6 ∷ take 8 7 ∷ []
 
 abbrev pub none : List Entry
 none = []
 
 -- votes of a store on a tx with a list, by the process that took it
 abbrev pub commit : ℕ → ℕ → ℕ → Entry
-commit store tx list = voteEntry (suc store) store store tx list true 0
+commit store tx list = voteEntry (suc store) 1 store store tx list true 0
 
 abbrev pub abort : ℕ → ℕ → ℕ → Entry
-abort store tx list = voteEntry (suc store) store store tx list false 0
+abort store tx list = voteEntry (suc store) 1 store store tx list false 0
 
 abbrev pub case : List Entry → List Entry → List ℕ → List Result → Case
 case took entries answers results = record { took = took; entries = entries; answers = answers; results = results }
 
-unfoldable pub cases : List Case
-cases =
+-- the last answer of P10 is given: it is 11 in document 01
+unfoldable pub casesWith : ℕ → List Case
+casesWith last =
     -- P1: none: tx 0 open, store 0 unknown
     case takes [] [] (outcome 0 Open ∷ involvement 0 0 Unknown ∷ [])
     -- P2: commit, list 01: commit, group 1
@@ -82,17 +87,16 @@ cases =
     (commit 0 1 0x03 ∷ commit 0 2 0x03 ∷ commit 1 1 0x03 ∷ commit 0 3 0x03 ∷ commit 1 3 0x03 ∷ commit 1 2 0x03 ∷ [])
     (0 ∷ 0 ∷ 0 ∷ 0 ∷ 0 ∷ 0 ∷ [])
     (group 2 2 ∷ group 3 2 ∷ [])
-    -- P10: 3 takes 0, 4 takes 0, 3 votes: 8; 3 takes 0 again: 11
+    -- P10: 3 takes 0, 4 takes 0, 3 votes: 8; 3 takes 0 again
     ∷ case none
-    (takeEntry 3 0 ∷ takeEntry 4 0 ∷ voteEntry 3 0 0 0 0x01 true 0 ∷ takeEntry 3 0 ∷ [])
-    (0 ∷ 0 ∷ 8 ∷ 11 ∷ [])
+    (take 3 0 ∷ take 4 0 ∷ voteEntry 3 1 0 0 0 0x01 true 0 ∷ take 3 0 ∷ [])
+    (0 ∷ 0 ∷ 8 ∷ last ∷ [])
     []
     ∷ []
 
--- the answers to the entries, one after the other
-unfoldable pub answersTo : Log → List Entry → List ℕ
-answersTo l [] = []
-answersTo l (e ∷ es) = enter l e .answer ∷ answersTo (enter l e .log) es
+-- document 02: "the last answer of P10 becomes 12"
+abbrev pub cases : List Case
+cases = casesWith 12
 
 -- the same question, with the log's answer
 abbrev pub said : Log → Result → Result

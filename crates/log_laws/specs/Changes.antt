@@ -7,24 +7,30 @@ use mathlib.Core.Logic.{_≢_}
 use Rattle.log_entry.specs.declared.Entry.{Entry}
 use Rattle.log_core.specs.declared.Log.{Log}
 use Rattle.log_core.specs.Enter.{enter}
-use Rattle.log_core.specs.Log.{groupOf, heldBefore, holderOf, voteAt}
+use Rattle.log_core.specs.Log.{groupOf, heldBefore, holderOf, latestOf, turnOf, voteAt}
 use Rattle.log_laws.specs.Reached.{reached}
 
--- a take: the holder of its store, now and in the past
-pub record OnlyHolderChanges (l m : Log) (store : ℕ) : Type 0 where
+-- a take: the holder of its store, now and in the past, the holder's turn, and the last turn of its
+-- process
+pub record OnlyHolderChanges (l m : Log) (process store : ℕ) : Type 0 where
   pub rows : m .rows ≡ l .rows
   pub groups : m .groups ≡ l .groups
   pub remembered : m .remembered ≡ l .remembered
   pub other-holders : (s : ℕ) → s ≢ store → holderOf m s ≡ holderOf l s
-  pub other-past : (process s : ℕ) → s ≢ store → heldBefore m process s ≡ heldBefore l process s
+  pub other-turns : (s : ℕ) → s ≢ store → turnOf m s ≡ turnOf l s
+  pub other-past : (p s : ℕ) → s ≢ store → heldBefore m p s ≡ heldBefore l p s
+  pub other-latest : (p : ℕ) → p ≢ process → latestOf m p ≡ latestOf l p
 
 abbrev pub TakeChangesOnly : Type 0
-TakeChangesOnly = (es : List Entry) (e : Entry) → e .take ≡ true → OnlyHolderChanges (reached es) (enter (reached es) e .log) (e .store)
+TakeChangesOnly =
+    (es : List Entry) (e : Entry) → e .take ≡ true → OnlyHolderChanges (reached es) (enter (reached es) e .log) (e .process) (e .store)
 
 -- a vote: the store's vote on that tx, and its group; `Groups` says what becomes of the groups
 pub record OnlyVoteChanges (l m : Log) (tx store : ℕ) : Type 0 where
   pub holders : m .holders ≡ l .holders
+  pub turns : m .turns ≡ l .turns
   pub takers : m .takers ≡ l .takers
+  pub latest : m .latest ≡ l .latest
   pub other-stores : (s : ℕ) → s ≢ store → voteAt m tx s ≡ voteAt l tx s
   pub other-votes : (t s : ℕ) → t ≢ tx → voteAt m t s ≡ voteAt l t s
   pub other-groups : (t : ℕ) → t ≢ tx → groupOf m t ≡ groupOf l t

@@ -1,18 +1,18 @@
--- What the conditions of the refusals say, in document 01's own numbers and words. `Answers` says
+-- What the conditions of the refusals say, in the documents' own numbers and words. `Answers` says
 -- which of them gives the answer.
 use Prim.Native.Nat.{ℕ, _^_, _≤_, _<_}
 use mathlib.Core.Path.{_≡_}
 use mathlib.Core.Bool.{true, false}
-use mathlib.Core.List.{List, _∷_, _++_}
-use mathlib.Core.Logic.{_↔_, _≢_}
+use mathlib.Core.List.{List, [], _∷_, _++_}
+use mathlib.Core.Logic.{_↔_, _⊎_}
 use Rattle.log_entry.specs.declared.Entry.{Entry}
 use Rattle.log_entry.specs.Bits.{has}
 use Rattle.log_entry.specs.Entry.{illFormed, outside}
 use Rattle.log_entry.specs.Refusal.{accepted}
 use Rattle.log_core.specs.declared.Log.{Log}
 use Rattle.log_core.specs.Enter.{enter, feed}
-use Rattle.log_core.specs.Log.{emptyLog, heldBefore, holderOf, voteAt}
-use Rattle.log_laws.specs.Answers.{clash, held, holdsNot}
+use Rattle.log_core.specs.Log.{emptyLog, heldBefore, holderOf, latestOf, turnOf, voteAt}
+use Rattle.log_laws.specs.Answers.{another, clash, holdsNot, otherTurn, stale}
 use Rattle.log_laws.specs.Reached.{reached}
 use Rattle.log_laws.specs.Votes.{KeptCommit}
 
@@ -26,10 +26,12 @@ pub record VoteInLimits (e : Entry) : Type 0 where
   pub list : e .participants < 2 ^ 8
   pub update : e .update < 2 ^ 64
 
--- "Processes 1 to 15"; a take has a process and a store
+-- "Processes 1 to 15"; "Takes and votes gain `turn=`, 1 to 255"; a take has these and a store
 pub record InLimits (e : Entry) : Type 0 where
   pub process-from : 1 ≤ e .process
   pub process-to : e .process ≤ 15
+  pub turn-from : 1 ≤ e .turn
+  pub turn-to : e .turn ≤ 255
   pub store : e .store ≤ 7
   pub vote : e .take ≡ false → VoteInLimits e
 
@@ -64,26 +66,57 @@ ClashExactly =
     (l : Log) (e : Entry)
     → (clash l e ≡ false) ↔ ((s : ℕ) → KeptCommit l (e .tx) s → Fits e (voteAt l (e .tx) s .participants))
 
--- ---- 11: "it holds some store, or held this one before"
+-- ---- 11: "it holds another store now"
 
--- a take of the store by the process stands in the list, and was accepted
-pub record TookFrom (l : Log) (es : List Entry) (process store : ℕ) : Type 0 where
+-- it does not exactly if each store that it holds is this one
+abbrev pub HoldsAnotherExactly : Type 0
+HoldsAnotherExactly =
+    (l : Log) (e : Entry) → 1 ≤ e .process → (another l e ≡ false) ↔ ((s : ℕ) → holderOf l s ≡ e .process → s ≡ e .store)
+
+-- ---- 12: "a take whose turn is below the last accepted one of that process, or equal to it where
+-- the process holds or held that store"
+
+-- a take of the store by the process in this turn stands in the list, and was accepted
+pub record TookFrom (l : Log) (es : List Entry) (process turn store : ℕ) : Type 0 where
   pub before : List Entry
   pub entry : Entry
   pub after : List Entry
   pub split : es ≡ before ++ entry ∷ after
   pub is-take : entry .take ≡ true
   pub taker : entry .process ≡ process
+  pub in-turn : entry .turn ≡ turn
   pub taken : entry .store ≡ store
   pub is-accepted : enter (feed l before) entry .answer ≡ accepted
 
-abbrev pub Took : List Entry → ℕ → ℕ → Type 0
-Took es process store = TookFrom emptyLog es process store
+abbrev pub Took : List Entry → ℕ → ℕ → ℕ → Type 0
+Took es process turn store = TookFrom emptyLog es process turn store
 
+-- "the process holds or held that store": it took it, in whichever turn
 abbrev pub HeldBeforeExactly : Type 0
-HeldBeforeExactly = (es : List Entry) (process store : ℕ) → (heldBefore (reached es) process store ≡ true) ↔ Took es process store
+HeldBeforeExactly =
+    (es : List Entry) (process store : ℕ) → (heldBefore (reached es) process store ≡ true) ↔ ((turn : ℕ) × Took es process turn store)
 
-abbrev pub HeldExactly : Type 0
-HeldExactly =
-    (es : List Entry) (e : Entry) → 1 ≤ e .process
-    → (held (reached es) e ≡ false) ↔ (((s : ℕ) → holderOf (reached es) s ≢ e .process) × (Took es (e .process) (e .store) → ⊥))
+-- the last accepted take of the process, of whichever store, is in this turn: none stands after it
+pub record LastTakeFrom (l : Log) (es : List Entry) (process turn : ℕ) : Type 0 where
+  pub store : ℕ
+  pub took : TookFrom l es process turn store
+  pub none-since : (t s : ℕ) → TookFrom (feed l (took .before ++ took .entry ∷ [])) (took .after) process t s → ⊥
+
+abbrev pub LastTake : List Entry → ℕ → ℕ → Type 0
+LastTake es process turn = LastTakeFrom emptyLog es process turn
+
+-- that is what the log records as the process's last turn
+abbrev pub LatestExactly : Type 0
+LatestExactly = (es : List Entry) (process turn : ℕ) → ((1 ≤ turn) × (latestOf (reached es) process ≡ turn)) ↔ LastTake es process turn
+
+-- the turn is below the last one, or equal to it, and the process took the store
+abbrev pub Behind : List Entry → Entry → ℕ → Type 0
+Behind es e last = (e .turn < last) ⊎ ((e .turn ≡ last) × ((turn : ℕ) × Took es (e .process) turn (e .store)))
+
+abbrev pub StaleExactly : Type 0
+StaleExactly = (es : List Entry) (e : Entry) → (stale (reached es) e ≡ true) ↔ ((last : ℕ) × LastTake es (e .process) last × Behind es e last)
+
+-- ---- 12: "a vote whose turn is not the holder's"
+
+abbrev pub OtherTurnExactly : Type 0
+OtherTurnExactly = (l : Log) (e : Entry) → (otherTurn l e ≡ false) ↔ (turnOf l (e .by) ≡ e .turn)

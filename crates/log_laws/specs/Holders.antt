@@ -1,30 +1,59 @@
--- The claims on holders. Processes are numbered from 1; 0 means no holder.
-use Prim.Native.Nat.{ℕ, _≤_}
+-- The claims on holders and their turns. Processes and turns are numbered from 1; 0 means none.
+use Prim.Native.Nat.{ℕ, _≤_, _<_}
 use mathlib.Core.Path.{_≡_}
-use mathlib.Core.Bool.{true}
-use mathlib.Core.List.{List, _++_}
+use mathlib.Core.Bool.{true, false}
+use mathlib.Core.List.{List, _∷_, _++_}
 use mathlib.Core.Logic.{_≢_}
 use Rattle.log_entry.specs.declared.Entry.{Entry}
 use Rattle.log_entry.specs.Refusal.{accepted}
+use Rattle.log_core.specs.declared.Log.{Log}
 use Rattle.log_core.specs.Enter.{enter}
-use Rattle.log_core.specs.Log.{holderOf}
+use Rattle.log_core.specs.Log.{holderOf, latestOf, turnOf}
 use Rattle.log_laws.specs.Reached.{reached}
 
--- "An accepted take makes the process the store's holder."
+-- the process holds the store, in this turn
+abbrev pub HoldsIn : Log → ℕ → ℕ → ℕ → Type 0
+HoldsIn l process turn s = (holderOf l s ≡ process) × (turnOf l s ≡ turn)
+
+-- "An accepted take makes the process the store's holder", "and the log records each holder's
+-- turn": which is the last accepted one of that process.
+pub record HeldBy (l : Log) (e : Entry) : Type 0 where
+  pub holder : holderOf l (e .store) ≡ e .process
+  pub turn : turnOf l (e .store) ≡ e .turn
+  pub latest : latestOf l (e .process) ≡ e .turn
+
 abbrev pub AcceptedTakeHolds : Type 0
 AcceptedTakeHolds =
-    (es : List Entry) (e : Entry) → e .take ≡ true → enter (reached es) e .answer ≡ accepted
-    → holderOf (enter (reached es) e .log) (e .store) ≡ e .process
+    (es : List Entry) (e : Entry) → e .take ≡ true → enter (reached es) e .answer ≡ accepted → HeldBy (enter (reached es) e .log) e
 
 -- a process holds at most one store
 abbrev pub HoldsAtMostOneStore : Type 0
 HoldsAtMostOneStore =
     (es : List Entry) (process s t : ℕ) → 1 ≤ process → holderOf (reached es) s ≡ process → holderOf (reached es) t ≡ process → s ≡ t
 
--- a process that held a store, and by a later log does not, never holds it after that
+-- in its last accepted turn
+abbrev pub HoldsInLastTurn : Type 0
+HoldsInLastTurn =
+    (es : List Entry) (process s : ℕ) → 1 ≤ process → holderOf (reached es) s ≡ process → turnOf (reached es) s ≡ latestOf (reached es) process
+
+-- a process that held a store in a turn, and by a later log does not hold it in that turn, never
+-- holds it in that turn after that
 abbrev pub LostStoreNeverAgain : Type 0
 LostStoreNeverAgain =
-    (es more later : List Entry) (process s : ℕ) → 1 ≤ process
-    → holderOf (reached es) s ≡ process
-    → holderOf (reached (es ++ more)) s ≢ process
-    → holderOf (reached (es ++ more ++ later)) s ≢ process
+    (es more later : List Entry) (process turn s : ℕ) → 1 ≤ process
+    → HoldsIn (reached es) process turn s
+    → (HoldsIn (reached (es ++ more)) process turn s → ⊥)
+    → HoldsIn (reached (es ++ more ++ later)) process turn s
+    → ⊥
+
+-- "Once a take of a later turn is accepted, no vote from an earlier turn of that process is kept."
+-- `t` is the take, `v` the vote, and `more` any entries between the two.
+abbrev pub NoEarlierTurnKept : Type 0
+NoEarlierTurnKept =
+    (es more : List Entry) (t v : Entry)
+    → t .take ≡ true
+    → enter (reached es) t .answer ≡ accepted
+    → v .take ≡ false
+    → v .process ≡ t .process
+    → v .turn < t .turn
+    → enter (reached (es ++ t ∷ more)) v .answer ≢ accepted

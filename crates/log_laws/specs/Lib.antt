@@ -1,4 +1,5 @@
 pub mod Answers
+pub mod Base
 pub mod Cases
 pub mod Changes
 pub mod Conditions

@@ -4,7 +4,7 @@ use Prim.Native.Nat.{ℕ, _<_}
 use mathlib.Core.Path.{_≡_}
 use mathlib.Core.Bool.{true}
 use mathlib.Core.List.{List, _++_}
-use mathlib.Core.Logic.{_↔_, _⊎_, _≢_}
+use mathlib.Core.Logic.{_↔_, _⊎_}
 use Rattle.log_entry.specs.declared.Entry.{Entry}
 use Rattle.log_entry.specs.Bits.{has}
 use Rattle.log_core.specs.declared.Log.{Log}
@@ -12,9 +12,10 @@ use Rattle.log_core.specs.declared.Replay.{Replay}
 use Rattle.log_votes.specs.declared.Outcome.the-variants.{Commit}
 use Rattle.log_votes.specs.Outcome.{running}
 use Rattle.log_core.specs.Follow.{awaitedOf}
-use Rattle.log_core.specs.Log.{holderOf, outcomeOf, rowOf, voteAt}
+use Rattle.log_core.specs.Log.{outcomeOf, rowOf, voteAt}
 use Rattle.log_core.specs.Replay.{replayOf, rowAt}
 use Rattle.log_laws.specs.Conditions.{Took}
+use Rattle.log_laws.specs.Holders.{HoldsIn}
 use Rattle.log_laws.specs.Reached.{reached}
 use Rattle.log_laws.specs.Votes.{Kept, KeptCommit}
 
@@ -22,15 +23,16 @@ use Rattle.log_laws.specs.Votes.{Kept, KeptCommit}
 abbrev pub AwaitedExactly : Type 0
 AwaitedExactly = (l : Log) (tx store : ℕ) → (has (awaitedOf l store) tx ≡ true) ↔ ((running (rowOf l tx) ≡ true) × KeptCommit l tx store)
 
--- a process that took the store and lost it has no commit vote of the store kept any more: those
--- that are kept, were kept by then
+-- a process that took the store in a turn, and does not hold it in that turn, has no commit vote of
+-- the store from that turn kept any more: those that are kept, were kept by then
 abbrev pub LostStoreVotesNoMore : Type 0
 LostStoreVotesNoMore =
-    (es more : List Entry) (tx store process : ℕ)
-    → Took es process store
-    → holderOf (reached es) store ≢ process
+    (es more : List Entry) (tx store process turn : ℕ)
+    → Took es process turn store
+    → (HoldsIn (reached es) process turn store → ⊥)
     → KeptCommit (reached (es ++ more)) tx store
     → voteAt (reached (es ++ more)) tx store .process ≡ process
+    → voteAt (reached (es ++ more)) tx store .turn ≡ turn
     → Kept (reached es) tx store
 
 -- the replay has a row of the transaction with this update

@@ -54,6 +54,7 @@ pub record KeptAs (v : Vote) (e : Entry) : Type 0 where
   pub commit : v .commit ≡ e .commit
   pub list : v .participants ≡ e .participants
   pub process : v .process ≡ e .process
+  pub turn : v .turn ≡ e .turn
   pub by : v .by ≡ e .by
   pub update : v .update ≡ e .update
 

@@ -12,7 +12,7 @@ use Rattle.log_votes.specs.Row.{noVote}
 use Rattle.log_votes.specs.Scan.{anyFrom}
 
 abbrev kept : Bool → ℕ → Vote
-kept commit list = record { kept = true; commit = commit; participants = list; process = 1; by = 0; update = 0 }
+kept commit list = record { kept = true; commit = commit; participants = list; process = 1; turn = 1; by = 0; update = 0 }
 
 -- of stores 0, 3 and 5
 abbrev involvements : List Vote → List Involvement

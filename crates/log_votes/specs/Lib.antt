@@ -1,3 +1,4 @@
+pub mod Claims
 pub mod Involvement
 pub mod Outcome
 pub mod Refusal

@@ -12,7 +12,7 @@ use Rattle.log_votes.specs.Outcome.{isCommit}
 
 -- the place of a vote that is not kept
 abbrev pub noVote : Vote
-noVote = record { kept = false; commit = false; participants = 0; process = 0; by = 0; update = 0 }
+noVote = record { kept = false; commit = false; participants = 0; process = 0; turn = 0; by = 0; update = 0 }
 
 -- the row of no transaction
 abbrev pub noRow : Row
@@ -29,7 +29,7 @@ voteOfStore store r = getD (r .votes) store noVote
 -- what is kept of a vote: all it said
 abbrev pub voteOfEntry : Entry → Vote
 voteOfEntry e =
-    record { kept = true; commit = e .commit; participants = e .participants; process = e .process; by = e .by; update = e .update }
+    record { kept = true; commit = e .commit; participants = e .participants; process = e .process; turn = e .turn; by = e .by; update = e .update }
 
 -- the row with the vote kept
 abbrev pub keeping : Row → Entry → Row

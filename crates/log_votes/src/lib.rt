@@ -20,6 +20,7 @@ pub struct Vote {
     pub commit: bool,
     pub participants: u8,
     pub process: u8,
+    pub turn: u8,
     pub by: u8,
     pub update: Update,
 }
@@ -66,6 +67,7 @@ impl Vote {
             commit: false,
             participants: 0,
             process: 0,
+            turn: 0,
             by: 0,
             update: 0,
         }

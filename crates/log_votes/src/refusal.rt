@@ -22,10 +22,10 @@ impl Row {
     }
 
     // The answer to a vote within its limits on the transaction, where `holder` holds the store in
-    // `by`.
-    pub fn vote_refusal(self, holder: u8, e: Entry) -> u8
-        ensures { λ r. ⌜ r ≡ voteRefusal self holder e ⌝ }
+    // `by` in this turn.
+    pub fn vote_refusal(self, holder: u8, turn: u8, e: Entry) -> u8
+        ensures { λ r. ⌜ r ≡ voteRefusal self holder turn e ⌝ }
     {
-        self.tally().refusal(self.any_clash(e), holder, e)
+        self.tally().refusal(self.any_clash(e), holder, turn, e)
     }
 }

@@ -39,10 +39,10 @@ impl Row {
 }
 
 impl Tally {
-    // The answer to a vote within its limits, where `holder` holds the store in `by`: on every row
-    // with this tally, with whose commit votes it clashes or not.
-    pub fn refusal(self, clash: bool, holder: u8, e: Entry) -> u8
-        ensures { λ n. ⌜ ((r : Row) → self ≡ tallyOf (r .votes) → clash ≡ anyClash e (r .votes) → n ≡ voteRefusal r holder e) ⌝ }
+    // The answer to a vote within its limits, where `holder` holds the store in `by` in this turn:
+    // on every row with this tally, with whose commit votes it clashes or not.
+    pub fn refusal(self, clash: bool, holder: u8, turn: u8, e: Entry) -> u8
+        ensures { λ n. ⌜ ((r : Row) → self ≡ tallyOf (r .votes) → clash ≡ anyClash e (r .votes) → n ≡ voteRefusal r holder turn e) ⌝ }
     {
         if e.ill_formed() {
             return refusal::ILL_FORMED_VOTE;
@@ -55,6 +55,9 @@ impl Tally {
         }
         if sets::has8(self.kept, e.store) {
             return refusal::KEPT_ALREADY;
+        }
+        if turn != e.turn {
+            return refusal::WRONG_TURN;
         }
         refusal::ACCEPTED
     }

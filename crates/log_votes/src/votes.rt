@@ -18,6 +18,7 @@ impl Vote {
             commit: e.commit,
             participants: e.participants,
             process: e.process,
+            turn: e.turn,
             by: e.by,
             update: e.update,
         }

@@ -1,46 +1,46 @@
 -- All invariants together hold after every list of steps.
-use Prim.Native.Nat.{ℕ, zero, suc, _+_, _*_, _≤_, _<_}
-use mathlib.Core.Path.{_≡_, refl, sym, ap, subst, subst₂, _∙_}
+use Prim.Native.Nat.{ℕ, _+_, _*_, _≤_, _<_}
+use mathlib.Core.Path.{_≡_, refl, sym, subst, subst₂, _∙_}
 use mathlib.Core.Logic.{_⊎_, inl, inr}
 use mathlib.Core.List.{List, [], _∷_, _++_, List·Memᴰ·not-nil}
 use native.Mathlib.Omega.{arith}
 use lib.ListN.{getD, length, length-replicate, replicate}
 use lib.Pow.{pow-pos}
 use Rattle.log_entry.specs.declared.Entry.{Entry}
-use Rattle.log_votes.specs.declared.Outcome.the-variants as outcome
 use Rattle.log_core.specs.Enter.{feed}
 use Rattle.log_core.specs.Log.{emptyLog}
 use Rattle.model_steps.specs.declared.Step.{Step}
 use Rattle.model_steps.specs.Limits.{coordinators, instances, messages, mostAcceptors}
-use Rattle.log_entry.specs.Limits.{transactions}
+use Rattle.log_entry.specs.Limits.{firstTurn, processPlaces, transactions}
 use Rattle.model_paxos.specs.Messages.{Paxos}
 use Rattle.model_paxos.specs.Rules.{Core}
 use Rattle.model_paxos.proofs.Grow.{AccOk, CoOk}
 use Rattle.model_paxos.proofs.Sets.{few-zero, has-zero, has←, meet}
 use Rattle.model_protocol.specs.declared.Batch.{Batch}
-use Rattle.model_protocol.specs.declared.Heard.{Heard}
 use Rattle.model_protocol.specs.declared.World.{World}
 use Rattle.model_protocol.specs.Batch.{noEntry}
-use Rattle.model_protocol.specs.Limits.{slotPlaces, processPlaces, queuePlaces}
+use Rattle.model_protocol.specs.Limits.{slotPlaces, queuePlaces}
 use Rattle.log_core.specs.Replay.{noReplay}
 use Rattle.model_protocol.specs.Message.{noMessage}
 use Rattle.model_protocol.specs.Queue.{queueOf}
 use Rattle.model_protocol.specs.Step.{run, stepOf}
-use Rattle.model_protocol.specs.World.{emptySlot, freshCoordinator, freshProcess, freshWorld, noFollowed, noFollows}
+use Rattle.model_protocol.specs.World.{emptySlot, freshCoordinator, freshProcess, freshWorld, noFollows}
 use Rattle.model_agreement.specs.Bounds.{CellRange, CoRange}
 use Rattle.model_agreement.specs.Plain.{plainLog}
 use Rattle.model_agreement.specs.Content.{Content}
-use Rattle.model_agreement.specs.History.{Accepts, Event, Got, LastOpened, Learns, Since, acceptors, asked, before, delivered, here, history, heardOf, historyFrom, kept, later, learns, noted, opened, restoredOf, restoring, setup, withoutMessages, there}
+use Rattle.model_agreement.specs.History.{Accepts, Before, Event, Got, LastOpened, Learns, Since, acceptors, asked, back, before, delivered, earlier, here, history, heardOf, historyFrom, kept, later, learns, noted, opened, restoredOf, restoring, setup, withoutMessages, there}
+use Rattle.model_agreement.proofs.Arrays.{same-each}
 use Rattle.model_agreement.proofs.HistoryKept.{Hist, hist-move}
 use Rattle.model_agreement.proofs.BallotInvariant.{Inv, Said, attempt, holding, inv-move, sent-up}
-use Rattle.model_agreement.proofs.FollowsKept.{KeepsAll, keeps-none}
-use Rattle.model_agreement.proofs.ProcessesKeep.{Keeps, Kept, kept-move}
+use Rattle.model_agreement.proofs.FollowsKept.{KeepsAll}
+use Rattle.model_agreement.proofs.ProcessesKeep.{Keeps, Kept, kept-move, started-follows, started-keeps}
 use Rattle.model_agreement.proofs.Range.{Range, range-move}
 use Rattle.model_agreement.proofs.Recorded.{AccHist, CoHist}
 use Rattle.model_agreement.proofs.LogsAndProcesses.{CoFact, Later, Rest, more, rest-move, same}
-use Rattle.model_agreement.proofs.Shape.{QueueOk, Shape, shape-move}
-use Rattle.model_agreement.proofs.StepEffects.{Move, Trans, asks, counts, crashes, follows, hears, is-told, joins, moves, opens, passes-accept, passes-accepted, passes-follow, passes-prepare, passes-promise, passes-request, passes-restore, promises, proposes, refused, restores, sets-up, takes, takes-follow, tells, trans, votes}
+use Rattle.model_agreement.proofs.Shape.{QueueOk, Shape, none-followed, none-heard, shape-move}
+use Rattle.model_agreement.proofs.StepEffects.{Move, Trans, asks, comes-back, counts, crashes, follows, hears, is-told, joins, moves, opens, passes-accept, passes-accepted, passes-follow, passes-prepare, passes-promise, passes-request, passes-restore, promises, proposes, refused, restores, sets-up, takes, takes-follow, tells, trans, votes}
 use Rattle.model_agreement.proofs.StepEffects as t
+use Rattle.model_agreement.proofs.Turns.{AskedInTurn, in-turn-move}
 use Rattle.model_agreement.proofs.SentMessages.{At, Outbox, Posts, Sent, outboxOf}
 use Rattle.model_agreement.proofs.ChangedWorld.{withAcceptors}
 
@@ -61,6 +61,7 @@ pub record Good (w : World) (h : List Event) : Type 0 where
   pub rest : Rest w h
   pub kept : Kept w h
   pub got : Delivered w h
+  pub asked-in-turn : AskedInTurn h
   pub number : acceptors h ≡ w .acceptors
   -- before setup nothing happens
   pub unset : w .acceptors ≡ 0 → (w ≡ freshWorld) × (h ≡ [])
@@ -89,6 +90,12 @@ module _ {ms : Outbox} {k : ℕ} {h : List Event} (G : GotIn ms k h) where
       go : {x : Content} → Got x (opened c i b ∷ h) → Sent ms k x
       go (there g) = G .was g
 
+  got-back : {p t : ℕ} → GotIn ms k (back p t ∷ h)
+  got-back {p} {t} = record { was = λ g. go g }
+    where
+      go : {x : Content} → Got x (back p t ∷ h) → Sent ms k x
+      go (there g) = G .was g
+
   got-restoring : {c m : ℕ} → GotIn ms k (restoring c m ∷ h)
   got-restoring {c} {m} = record { was = λ g. go g }
     where
@@ -96,13 +103,14 @@ module _ {ms : Outbox} {k : ℕ} {h : List Event} (G : GotIn ms k h) where
       go (there g) = G .was g
 
 got-move : {w w′ : World} {h h′ : List Event} → Delivered w h → Move w h w′ h′ → Delivered w′ h′
-got-move G (asks e k ms c _ p) = got-asked (got-more G p)
+got-move G (asks e k ms c _ _ p) = got-asked (got-more G p)
 got-move G (opens k i b ms c _ _ _ _ _ _ p) = got-opened (got-more G p)
 got-move G (proposes k i b v ms c _ _ _ _ _ _ _ _ p) = got-more G p
 got-move G (tells k q tx ms c _ _ _ p) = got-more G p
 got-move G (restores k q ms c _ _ _ p) = got-restoring (got-more G p)
 got-move G (follows k q tx ms c _ _ _ _ _ p) = got-more G p
 got-move G (crashes d) = G
+got-move G (comes-back p t d _ _) = got-back G
 got-move G (promises j i b a ms c s _ p) = got-more (got-one G s) p
 got-move G (passes-prepare j i b a s _) = got-one G s
 got-move G (votes j i b a v ms c s _ p _) = got-more (got-one G s) p
@@ -115,8 +123,8 @@ got-move G (passes-accepted j i b a s _) = got-one G s
 got-move G (joins j k e s _) = got-one G s
 got-move G (passes-request j k e s) = got-one G s
 got-move G (is-told j p tx o s) = got-one G s
-got-move G (takes j p z i r n s _) = got-one G s
-got-move G (passes-restore j p z i r n s _) = got-one G s
+got-move G (takes j p t z i r n s _) = got-one G s
+got-move G (passes-restore j p t z i r n s _) = got-one G s
 got-move G (takes-follow j p z tx o u s _) = got-one G s
 got-move G (passes-follow j p z tx o u s _) = got-one G s
 
@@ -128,13 +136,14 @@ pub record Goes (w : World) (h : List Event) (w′ : World) (h′ : List Event) 
   pub later : Later h h′
 
 goes : {w w′ : World} {h h′ : List Event} → Move w h w′ h′ → Goes w h w′ h′
-goes (asks e k ms c _ p) = record { number = refl; kept = refl; later = more _ }
+goes (asks e k ms c _ _ p) = record { number = refl; kept = refl; later = more _ }
 goes (opens k i b ms c _ _ _ _ _ _ p) = record { number = refl; kept = refl; later = more _ }
 goes (proposes k i b v ms c _ _ _ _ _ _ _ _ p) = record { number = refl; kept = refl; later = same }
 goes (tells k q tx ms c _ _ _ p) = record { number = refl; kept = refl; later = same }
 goes (restores k q ms c _ _ _ p) = record { number = refl; kept = refl; later = more _ }
 goes (follows k q tx ms c _ _ _ _ _ p) = record { number = refl; kept = refl; later = same }
 goes (crashes d) = record { number = refl; kept = refl; later = same }
+goes (comes-back p t d _ _) = record { number = refl; kept = refl; later = more _ }
 goes (promises j i b a ms c s _ p) = record { number = refl; kept = refl; later = more _ }
 goes (passes-prepare j i b a s _) = record { number = refl; kept = refl; later = more _ }
 goes (votes j i b a v ms c s _ p _) = record { number = refl; kept = refl; later = more _ }
@@ -147,8 +156,8 @@ goes (passes-accepted j i b a s _) = record { number = refl; kept = refl; later 
 goes (joins j k e s _) = record { number = refl; kept = refl; later = more _ }
 goes (passes-request j k e s) = record { number = refl; kept = refl; later = more _ }
 goes (is-told j p tx o s) = record { number = refl; kept = refl; later = more _ }
-goes (takes j p z i r n s _) = record { number = refl; kept = refl; later = more _ }
-goes (passes-restore j p z i r n s _) = record { number = refl; kept = refl; later = more _ }
+goes (takes j p t z i r n s _) = record { number = refl; kept = refl; later = more _ }
+goes (passes-restore j p t z i r n s _) = record { number = refl; kept = refl; later = more _ }
 goes (takes-follow j p z tx o u s _) = record { number = refl; kept = refl; later = more _ }
 goes (passes-follow j p z tx o u s _) = record { number = refl; kept = refl; later = more _ }
 
@@ -162,6 +171,10 @@ data Blank : ℕ → List Event → Type 0 where
 no-got : {n : ℕ} {h : List Event} {x : Content} → Blank n h → Got x h → ⊥
 no-got nothing g = elim g [ ]
 no-got (only-setup n) (there g) = elim g [ ]
+
+no-asked : {n : ℕ} {h then : List Event} {e : Entry} → Blank n h → Before (asked e) then h → ⊥
+no-asked nothing y = elim y [ ]
+no-asked (only-setup n) (earlier y) = elim y [ ]
 
 no-accepts : {n : ℕ} {h : List Event} {i b a : ℕ} {v : Batch} → Blank n h → Accepts i b a v h → ⊥
 no-accepts nothing y = elim y [ ]
@@ -189,28 +202,13 @@ at-none a = omega (arith, a .below)
 abbrev emptyBox : Outbox
 emptyBox = record { messages = replicate messages noMessage; replays = replicate messages noReplay }
 
--- an element of a row of equals
-same-each : {A : Type 0} (n i : ℕ) (a : A) → a ≡ getD (replicate n a) i a
-same-each zero i a = refl
-same-each (suc n) zero a = refl
-same-each (suc n) (suc i) a = same-each n i a
-
--- a process that heard nothing
-abbrev unheard : Heard
-unheard = record { outcome = outcome.Open }
-
-silent : (tx : ℕ) → getD (replicate transactions unheard) tx unheard .outcome ≡ outcome.Open
-silent tx = sym (ap (λ x. x .outcome) (same-each transactions tx unheard))
-
 fresh-keeps : {n : ℕ} {h : List Event} → Blank n h → (p : ℕ) → Keeps (restoredOf p h) (λ tx. heardOf p tx h) freshProcess
-unfolding freshProcess
-fresh-keeps nothing p = record { store = refl; position = refl; running = refl; heard = silent }
-fresh-keeps (only-setup m) p = record { store = refl; position = refl; running = refl; heard = silent }
+fresh-keeps nothing p = started-keeps firstTurn
+fresh-keeps (only-setup m) p = started-keeps firstTurn
 
 fresh-follows : {n : ℕ} {h : List Event} → Blank n h → (p : ℕ) → KeepsAll freshProcess noFollows (restoredOf p h .follows)
-unfolding freshProcess
-fresh-follows nothing p = keeps-none freshProcess 0 0 0 noFollows
-fresh-follows (only-setup m) p = keeps-none freshProcess 0 0 0 noFollows
+fresh-follows nothing p = started-follows firstTurn noFollows
+fresh-follows (only-setup m) p = started-follows firstTurn noFollows
 
 fresh-replay : {n : ℕ} {h : List Event} → Blank n h → (p : ℕ) → noReplay ≡ restoredOf p h .replay
 fresh-replay nothing p = refl
@@ -236,17 +234,11 @@ module _ (n : ℕ) where
     follows-row = length-replicate processPlaces noFollows;
     room = record { message-row = length-replicate messages noMessage; replay-row = length-replicate messages noReplay };
     sent-most = omega arith;
-    heard = λ p. subst (λ x. length (x .heard) ≡ transactions) (same-each processPlaces p freshProcess) heard;
-    followed = λ p. subst (λ x. length (x .of) ≡ transactions) (same-each processPlaces p noFollows) followed;
+    heard = λ p. subst (λ x. length (x .heard) ≡ transactions) (same-each processPlaces p freshProcess) (none-heard firstTurn);
+    followed = λ p. subst (λ x. length (x .of) ≡ transactions) (same-each processPlaces p noFollows) none-followed;
     queues = λ k. subst (λ c. QueueOk (c .queue)) (same-each coordinators k freshCoordinator) queue;
   }
     where
-      heard : length (freshProcess .heard) ≡ transactions
-      heard = unfold freshProcess in length-replicate transactions unheard
-
-      followed : length (noFollows .of) ≡ transactions
-      followed = unfold noFollows in length-replicate transactions noFollowed
-
       queue : QueueOk (freshCoordinator .queue)
       queue = unfold freshCoordinator queueOf in record { places = length-replicate queuePlaces noEntry; count = omega arith }
 
@@ -372,6 +364,7 @@ module _ (n : ℕ) where
     rest = fresh-rest z;
     kept = fresh-kept z;
     got = record { was = λ y. absurd (no-got z y) };
+    asked-in-turn = λ e then y. absurd (no-asked z y);
     number = fresh-number z;
     unset = f;
   }
@@ -390,6 +383,7 @@ good-move {w} {w′} {h} l G m =
       rest = rest-move (G .shape) (G .range) (G .inv) (G .hist) (G .rest) m;
       kept = kept-move h (G .shape) (G .range) (G .kept) m;
       got = got-move (G .got) m;
+      asked-in-turn = in-turn-move w h (G .kept) (G .asked-in-turn) m;
       number = e .number ∙ G .number ∙ sym (e .kept);
       unset = λ d. absurd (omega (arith, e .kept));
     }

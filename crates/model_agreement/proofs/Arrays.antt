@@ -1,11 +1,11 @@
 -- What holds of every element of a row, when one of them is stored.
-use Prim.Native.Nat.{ℕ, _+_, _*_, _<_}
-use mathlib.Core.Path.{_≡_, sym, subst}
+use Prim.Native.Nat.{ℕ, _+_, _*_, _<_, zero, suc}
+use mathlib.Core.Path.{_≡_, sym, subst, refl}
 use mathlib.Core.Logic.{_⊎_, inl, inr, _≢_}
 use mathlib.Core.List.{List}
 use native.Mathlib.Decide.{ℕ-discrete, decLt}
 use native.Mathlib.Omega.{arith}
-use lib.ListN.{getD, length, set}
+use lib.ListN.{getD, length, replicate, set}
 use lib.Seq.{getD-set-other, getD-set-same, set-out}
 use Rattle.model_steps.specs.Limits.{instances}
 
@@ -67,3 +67,9 @@ each-case P k p f j = go (ℕ-discrete k j)
     go : Dec (k ≡ j) → P j
     go (yes e) = rw (← e) p
     go (no e) = f j e
+
+-- an element of a row of equals
+pub same-each : {A : Type 0} (n i : ℕ) (a : A) → a ≡ getD (replicate n a) i a
+same-each zero i a = refl
+same-each (suc n) zero a = refl
+same-each (suc n) (suc i) a = same-each n i a

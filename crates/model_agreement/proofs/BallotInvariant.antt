@@ -30,7 +30,7 @@ use Rattle.model_agreement.specs.History.{Event}
 use Rattle.model_agreement.proofs.Arrays.{slot-ind, set-ind}
 use Rattle.model_agreement.proofs.Range.{Range}
 use Rattle.model_agreement.proofs.Shape.{Shape, co-in, owner-in}
-use Rattle.model_agreement.proofs.StepEffects.{Higher, Move, asks, counts, crashes, follows, hears, is-told, joins, learns, opens, ours, passes-accept, passes-accepted, passes-follow, passes-prepare, passes-promise, passes-request, passes-restore, promises, proposes, restores, takes, takes-follow, tells, theirs, votes}
+use Rattle.model_agreement.proofs.StepEffects.{Higher, Move, asks, comes-back, counts, crashes, follows, hears, is-told, joins, learns, opens, ours, passes-accept, passes-accepted, passes-follow, passes-prepare, passes-promise, passes-request, passes-restore, promises, proposes, restores, takes, takes-follow, tells, theirs, votes}
 use Rattle.model_agreement.proofs.SentMessages.{AllNew, At, OneNew, Outbox, Posts, Sent, outboxOf}
 
 -- ---- the sent messages of the ballots
@@ -92,13 +92,13 @@ module _ {ms : Outbox} {k : ℕ} {ms′ : Outbox} {k′ : ℕ} where
 pub data Mail : Content → Type 0 where
   is-request : (k : ℕ) (e : _) → Mail (request k e)
   is-tell : (p t : ℕ) (o : _) → Mail (tell p t o)
-  is-restore : (p s i : ℕ) (r : _) (n : ℕ) → Mail (restore p s i r n)
+  is-restore : (p t s i : ℕ) (r : _) (n : ℕ) → Mail (restore p t s i r n)
   is-follow : (p s t : ℕ) (o : _) (u : ℕ) → Mail (follow p s t o u)
 
 no-direct-message : {y : Content} {m : Paxos Batch} → Mail y → New y (paxos m) → ⊥
 no-direct-message (is-request k e) t = elim t [ ]
 no-direct-message (is-tell p t o) t′ = elim t′ [ ]
-no-direct-message (is-restore p s i r n) t = elim t [ ]
+no-direct-message (is-restore p t s i r n) x = elim x [ ]
 no-direct-message (is-follow p s t o u) t′ = elim t′ [ ]
 
 pub said-direct-message : {ms : Outbox} {k : ℕ} {ms′ : Outbox} {k′ : ℕ} {y : Content} → Mail y → Posts ms k ms′ k′ (OneNew k y)
@@ -298,7 +298,7 @@ module _ {w : World} (s : Shape w) (few : w .acceptors ≤ mostAcceptors) (R : R
       e = omega (arith, I .co (owner b) .room (I .core .positive (I .core .asked r .1)))
 
   pub inv-move : {w′ : World} {h h′ : List Event} → Move w h w′ h′ → Inv w′
-  inv-move (asks e k ms c g p) = inv-same (said-up p) (said-direct-message (is-request k e) p) I
+  inv-move (asks e k ms c g _ p) = inv-same (said-up p) (said-direct-message (is-request k e) p) I
   inv-move (opens k i b ms c h g l e f u p) =
       record {
         core = core-open (said-up p) (I .core) old;
@@ -343,9 +343,10 @@ module _ {w : World} (s : Shape w) (few : w .acceptors ≤ mostAcceptors) (R : R
       old : (m : Paxos Batch) → kind m ≢ 2 → Said ms c m → Said (outboxOf w) (w .sent) m
       old = said-others 2 (λ a. refl) p
   inv-move (tells k q tx ms c _ _ _ p) = inv-same (said-up p) (said-direct-message (is-tell q tx _) p) I
-  inv-move (restores k q ms c _ _ _ p) = inv-same (said-up p) (said-direct-message (is-restore q _ _ _ _) p) I
+  inv-move (restores k q ms c _ _ _ p) = inv-same (said-up p) (said-direct-message (is-restore q _ _ _ _ _) p) I
   inv-move (follows k q tx ms c _ _ _ _ _ p) = inv-same (said-up p) (said-direct-message (is-follow q _ tx _ _) p) I
   inv-move (crashes d) = I
+  inv-move (comes-back p t d _ _) = I
   inv-move (promises j i b a ms c t g p) = inv-promise i b a ms c (R .sent t .inst) (R .sent t .acceptor) g p
   inv-move (passes-prepare j i b a _ _) = I
   inv-move (votes j i b a v ms c t g p _) = inv-vote i b a v ms c (R .sent t .inst) (R .sent t .acceptor) (said-at t) g p
@@ -361,7 +362,7 @@ module _ {w : World} (s : Shape w) (few : w .acceptors ≤ mostAcceptors) (R : R
   inv-move (joins j k e t _) = inv-co k _ (co-in s (R .sent t)) I (I .co k)
   inv-move (passes-request j k e _) = I
   inv-move (is-told j p tx o _) = I
-  inv-move (takes j p z i r n _ _) = I
-  inv-move (passes-restore j p z i r n _ _) = I
+  inv-move (takes j p t z i r n _ _) = I
+  inv-move (passes-restore j p t z i r n _ _) = I
   inv-move (takes-follow j p z tx o u _ _) = I
   inv-move (passes-follow j p z tx o u _ _) = I

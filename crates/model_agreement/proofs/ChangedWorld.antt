@@ -4,7 +4,7 @@ use mathlib.Core.Path.{_≡_, ap, refl, _∙_}
 use lib.ListN.{set}
 use Rattle.log_core.specs.declared.Replay.{Replay}
 use Rattle.log_core.specs.Enter.{feed}
-use Rattle.log_core.specs.Replay.{replayOf}
+use Rattle.log_core.specs.Replay.{noReplay, replayOf}
 use Rattle.model_steps.specs.Limits.{instances}
 use Rattle.model_protocol.specs.declared.Batch.{Batch}
 use Rattle.model_protocol.specs.declared.AcceptorSlot.{AcceptorSlot}
@@ -16,12 +16,12 @@ use Rattle.model_protocol.specs.declared.Places.{Places}
 use Rattle.model_protocol.specs.declared.Process.{Process}
 use Rattle.model_protocol.specs.declared.World.{World}
 use Rattle.model_protocol.specs.Batch.{entriesOf}
-use Rattle.model_protocol.specs.Change.{acceptorsNow, slotNow, coordinatorNow, done, downNow, givesReplay, keepsFollow, learns, processNow, sending, takesReplay}
+use Rattle.model_protocol.specs.Change.{acceptorsNow, slotNow, coordinatorNow, done, downNow, givesReplay, keepsFollow, learns, processNow, sending, startsAnew, takesReplay}
 use Rattle.model_protocol.specs.Message.{acceptTo, prepareTo}
 use Rattle.model_protocol.specs.Process.{withFollow}
 use Rattle.model_protocol.specs.Send.{copyOf, sendToAll}
 use Rattle.model_protocol.specs.Step.{changed, partsAt, putBack}
-use Rattle.model_protocol.specs.World.{followsOf, logOf, withMessage}
+use Rattle.model_protocol.specs.World.{followsOf, logOf, noFollows, withMessage}
 use Rattle.model_agreement.proofs.SentMessages.{addingBoth, outboxOf, posted}
 use Rattle.model_protocol.proofs.PutBack.{all-back, none-sent, nothing-changed, same-slots, same-coordinators, same-logs, same-processes}
 
@@ -96,6 +96,22 @@ withTaken w p x r = record {
   restored = set (w .restored) p r;
   follows = w .follows;
   down = w .down;
+  messages = w .messages;
+  replays = w .replays;
+  sent = w .sent;
+}
+
+-- and starts anew
+abbrev pub withStarted : World → ℕ → Process → Down → World
+withStarted w p x d = record {
+  acceptors = w .acceptors;
+  slots = w .slots;
+  coordinators = w .coordinators;
+  logs = w .logs;
+  processes = set (w .processes) p x;
+  restored = set (w .restored) p noReplay;
+  follows = set (w .follows) p noFollows;
+  down = d;
   messages = w .messages;
   replays = w .replays;
   sent = w .sent;
@@ -258,6 +274,22 @@ module _ (w : World) (at : Places) (r : Replay) (d : Message) where
     restored = w .restored;
     follows = set (w .follows) (at .process) (withFollow (followsOf w (at .process)) d);
     down = w .down;
+    messages = w .messages;
+    replays = w .replays;
+    sent = w .sent;
+  })
+
+  pub process-starts : (h : Process) (x : Down)
+      → changed w at r (startsAnew (downNow (processNow (partsAt w at d) h) x)) ≡ withStarted w (at .process) h x
+  process-starts h x = none-sent _ _ ∙ (λ i. record {
+    acceptors = w .acceptors;
+    slots = same-slots w at i;
+    coordinators = same-coordinators w at i;
+    logs = same-logs w at i;
+    processes = set (w .processes) (at .process) h;
+    restored = set (w .restored) (at .process) noReplay;
+    follows = set (w .follows) (at .process) noFollows;
+    down = x;
     messages = w .messages;
     replays = w .replays;
     sent = w .sent;

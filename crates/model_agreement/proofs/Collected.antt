@@ -15,7 +15,7 @@ abbrev add : Content → List (Paxos Batch) → List (Paxos Batch)
 add (paxos m) l = m ∷ l
 add (request k e) l = l
 add (tell p t o) l = l
-add (restore p s i r n) l = l
+add (restore p t s i r n) l = l
 add (follow p s t o u) l = l
 
 -- those among the first k
@@ -31,7 +31,7 @@ is-collected ms (suc k) m s = go (is-collected ms k m) (ℕ-discrete (s .sent .n
     skip (paxos x) t = List·Memᴰ·tail t
     skip (request j e) t = t
     skip (tell p t o) t′ = t′
-    skip (restore p z i r n) t = t
+    skip (restore p q z i r n) t = t
     skip (follow p z t o u) t′ = t′
 
     go : (Said ms k m → List·Memᴰ m (collected ms k)) → Dec (s .sent .number ≡ k) → List·Memᴰ m (collected ms (suc k))
@@ -57,5 +57,5 @@ was-said ms (suc k) m t = go (contentIn ms k) refl (was-said ms k m) t
         two (inr u) = older (r u)
     go (request j y) e r t = older (r t)
     go (tell p z o) e r t = older (r t)
-    go (restore p z i y n) e r t = older (r t)
+    go (restore p q z i y n) e r t = older (r t)
     go (follow p z x o u) e r t = older (r t)

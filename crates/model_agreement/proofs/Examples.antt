@@ -28,12 +28,12 @@ abbrev pub whole : List Step
 whole =
     Setup 3
     -- processes 1 and 2 take stores 0 and 1; coordinator 0 decides that in instance 0
-    ∷ Request (takeEntry 1 0) 0 ∷ Deliver 0 ∷ Request (takeEntry 2 1) 0 ∷ Deliver 1 ∷ Open 0 0 3 ∷ Deliver 2 ∷ Deliver 3 ∷ Deliver 5
+    ∷ Request (takeEntry 1 1 0) 0 ∷ Deliver 0 ∷ Request (takeEntry 2 1 1) 0 ∷ Deliver 1 ∷ Open 0 0 3 ∷ Deliver 2 ∷ Deliver 3 ∷ Deliver 5
     ∷ Deliver 6 ∷ Propose 0 0 3 ∷ Deliver 7 ∷ Deliver 8 ∷ Deliver 10 ∷ Deliver 11
     -- they are restored and vote commit; coordinator 1 learns instance 0 and decides the votes in
     -- instance 1
-    ∷ Restore 0 1 ∷ Deliver 12 ∷ Restore 0 2 ∷ Deliver 13 ∷ Request (voteEntry 1 0 0 4 0x03 true 10) 1 ∷ Deliver 14
-    ∷ Request (voteEntry 2 1 1 4 0x03 true 11) 1 ∷ Deliver 15 ∷ Open 1 0 4 ∷ Deliver 17 ∷ Deliver 18 ∷ Deliver 19 ∷ Deliver 20
+    ∷ Restore 0 1 ∷ Deliver 12 ∷ Restore 0 2 ∷ Deliver 13 ∷ Request (voteEntry 1 1 0 0 4 0x03 true 10) 1 ∷ Deliver 14
+    ∷ Request (voteEntry 2 1 1 1 4 0x03 true 11) 1 ∷ Deliver 15 ∷ Open 1 0 4 ∷ Deliver 17 ∷ Deliver 18 ∷ Deliver 19 ∷ Deliver 20
     ∷ Propose 1 0 4 ∷ Deliver 22 ∷ Deliver 23 ∷ Deliver 24 ∷ Deliver 25 ∷ Open 1 1 4 ∷ Deliver 27 ∷ Deliver 28 ∷ Deliver 29 ∷ Deliver 30
     ∷ Propose 1 1 4 ∷ Deliver 32 ∷ Deliver 33 ∷ Deliver 34 ∷ Deliver 35
     -- coordinators 0 and 2 learn what they lack
@@ -81,10 +81,10 @@ abbrev pub takeover : List Step
 takeover =
     Setup 3
     -- process 1 takes store 0, is restored and sends a vote
-    ∷ Request (takeEntry 1 0) 0 ∷ Deliver 0 ∷ Open 0 0 3 ∷ Deliver 1 ∷ Deliver 2 ∷ Deliver 4 ∷ Deliver 5 ∷ Propose 0 0 3 ∷ Deliver 6
-    ∷ Deliver 7 ∷ Deliver 9 ∷ Deliver 10 ∷ Restore 0 1 ∷ Deliver 11 ∷ Request (voteEntry 1 0 0 4 0x01 true 10) 0
+    ∷ Request (takeEntry 1 1 0) 0 ∷ Deliver 0 ∷ Open 0 0 3 ∷ Deliver 1 ∷ Deliver 2 ∷ Deliver 4 ∷ Deliver 5 ∷ Propose 0 0 3 ∷ Deliver 6
+    ∷ Deliver 7 ∷ Deliver 9 ∷ Deliver 10 ∷ Restore 0 1 ∷ Deliver 11 ∷ Request (voteEntry 1 1 0 0 4 0x01 true 10) 0
     -- process 2 takes the store over
-    ∷ Request (takeEntry 2 0) 0 ∷ Deliver 13 ∷ Open 0 1 3 ∷ Deliver 14 ∷ Deliver 15 ∷ Deliver 17 ∷ Deliver 18 ∷ Propose 0 1 3 ∷ Deliver 19
+    ∷ Request (takeEntry 2 1 0) 0 ∷ Deliver 13 ∷ Open 0 1 3 ∷ Deliver 14 ∷ Deliver 15 ∷ Deliver 17 ∷ Deliver 18 ∷ Propose 0 1 3 ∷ Deliver 19
     ∷ Deliver 20 ∷ Deliver 22 ∷ Deliver 23
     -- the vote arrives and is decided in instance 2
     ∷ Deliver 12 ∷ Open 0 2 3 ∷ Deliver 24 ∷ Deliver 25 ∷ Deliver 27 ∷ Deliver 28 ∷ Propose 0 2 3 ∷ Deliver 29 ∷ Deliver 30 ∷ Deliver 32

@@ -14,12 +14,13 @@ use Rattle.log_entry.proofs.Tests.{opposed}
 use Rattle.log_core.specs.declared.Log.{Log}
 use Rattle.log_core.specs.declared.Replay.{Replay}
 use Rattle.log_votes.specs.declared.Outcome.the-variants as outcome
-use Rattle.log_core.specs.Log.{heldBefore, holderOf, outcomeOf, voteAt}
+use Rattle.log_core.specs.Log.{heldBefore, holderOf, latestOf, outcomeOf, voteAt}
 use Rattle.log_core.specs.Replay.{rowAt}
 use Rattle.log_laws.specs.Conditions.{Took}
 use Rattle.log_laws.specs.Reached.{reached}
 use Rattle.log_laws.specs.TakenOver.{RowIn}
 use Rattle.log_laws.specs.Votes.{KeptCommit}
+use Rattle.log_laws.proofs.TakenBefore.{took-turn}
 use Rattle.log_laws.proofs.Theorems.{held-before-exactly, kept-vote-stays, outcome-never-changes}
 use Rattle.model_steps.specs.declared.Step.{Step}
 use Rattle.model_protocol.specs.Tables.{followsTaken, leftRunning, restoredOnce, stepsOf, updateA}
@@ -91,9 +92,9 @@ abbrev sending : List Step
 sending = take count after
 
 -- coordinator 0 has applied three batches by then, and process 1 has taken store 0
-three-applied : (coordinatorOf (computed sending) 0 .applied ≡ 3) × (heldBefore (logOf (computed sending) 0) 1 0 ≡ true)
+three-applied : (coordinatorOf (computed sending) 0 .applied ≡ 3) × (heldBefore (logOf (computed sending) 0) 1 0 ≡ true) × (latestOf (logOf (computed sending) 0) 1 ≡ 1)
 unfolding computed restoredOnce leftRunning followsTaken
-three-applied = (refl, refl)
+three-applied = (refl, refl, refl)
 
 -- the log that sent the restore
 sender : logOf (computed sending) 0 ≡ plainLog (take 3 sequence)
@@ -125,9 +126,9 @@ at-end : (processOf world 2 .store ≡ 0) × (processOf world 2 .position ≡ 3)
 unfolding computed restoredOnce leftRunning followsTaken
 at-end = (refl, refl, refl, refl, refl)
 
-old-vote : KeptCommit (logOf world 0) 4 0 × (voteAt (logOf world 0) 4 0 .process ≡ 1) × (outcomeOf (logOf world 0) 4 ≡ outcome.Commit)
+old-vote : KeptCommit (logOf world 0) 4 0 × (voteAt (logOf world 0) 4 0 .process ≡ 1) × (voteAt (logOf world 0) 4 0 .turn ≡ 1) × (outcomeOf (logOf world 0) 4 ≡ outcome.Commit)
 unfolding computed restoredOnce leftRunning followsTaken
-old-vote = ((refl, refl), refl, refl)
+old-vote = ((refl, refl), refl, refl, refl)
 
 its-store : restored .store ≡ 0
 unfolding computed
@@ -164,23 +165,36 @@ outcome-stays =
     ∙ committed
   where
     committed : outcomeOf (reached (allEntries (take 4 sequence))) 4 ≡ outcome.Commit
-    committed = ap (λ (l : Log). outcomeOf l 4) (sym last) ∙ old-vote .2
+    committed = ap (λ (l : Log). outcomeOf l 4) (sym last) ∙ old-vote .3
 
-took : Took (allEntries (take 3 sequence)) 1 0
+-- it took it in turn 1: no later turn of it is in that log
+took : Took (allEntries (take 3 sequence)) 1 1 0
 unfolding plainLog
-took = held-before-exactly (allEntries (take 3 sequence)) 1 0 .0 (subst (λ (l : Log). heldBefore l 1 0 ≡ true) sender (three-applied .1))
+took = subst (λ (t : ℕ). Took (allEntries (take 3 sequence)) 1 t 0) (omega (arith, turns .0, turns .1, last)) (some .1)
+  where
+    some : (turn : ℕ) × Took (allEntries (take 3 sequence)) 1 turn 0
+    some = held-before-exactly (allEntries (take 3 sequence)) 1 0 .0 (subst (λ (l : Log). heldBefore l 1 0 ≡ true) sender (three-applied .1))
+
+    turns : (1 ≤ some .0) × (some .0 ≤ latestOf (reached (allEntries (take 3 sequence))) 1)
+    turns = took-turn (allEntries (take 3 sequence)) 1 (some .0) 0 (some .1)
+
+    last : latestOf (reached (allEntries (take 3 sequence))) 1 ≡ 1
+    last = ap (λ (l : Log). latestOf l 1) (sym sender) ∙ three-applied .2
 
 -- the premises of `none-lost` hold here
 pub earlier : EarlierCommit 2 restored sequence 4
 earlier = record {
   kept-commit = rw (its-store, vote-stays) (old-vote .0);
   committed = outcome-stays;
-  took = rw (voter, its-store, its-position) took;
-  another = λ e. omega (arith, e, voter);
+  took = rw (voter, in-turn, its-store, its-position) took;
+  another = λ e. absurd (omega (arith, e, voter));
 }
   where
     voter : voteAt (plainLog sequence) 4 (restored .store) .process ≡ 1
     voter = rw (its-store, vote-stays) (old-vote .1)
+
+    in-turn : voteAt (plainLog sequence) 4 (restored .store) .turn ≡ 1
+    in-turn = rw (its-store, vote-stays) (old-vote .2)
 
 -- so it gives what was found above: the update is held
 pub held-by-the-claim : Holds restored 4 (voteAt (plainLog sequence) 4 (restored .store) .update)

@@ -22,13 +22,13 @@ use Rattle.model_protocol.specs.declared.World.{World}
 use Rattle.model_protocol.specs.Coordinator.{counting, learning}
 use Rattle.model_protocol.specs.World.{slotOf, coordinatorOf, emptySlot, freshCoordinator}
 use Rattle.model_agreement.specs.Content.{Content, paxos, request}
-use Rattle.model_agreement.specs.History.{Accepts, Event, Got, LastOpened, Since, asked, delivered, first, heard, here, kept, later, opened, opening, restoring, setup, withoutMessages, there}
+use Rattle.model_agreement.specs.History.{Accepts, Event, Got, LastOpened, Since, asked, delivered, first, heard, here, kept, later, opened, opening, restoring, setup, withoutMessages, there, back}
 use Rattle.model_agreement.proofs.Arrays.{slot-cases, slot-ind, each-case, set-ind}
 use Rattle.model_agreement.proofs.BallotInvariant.{Inv, Mail, Said, accepted-positive, is-follow, is-request, is-restore, is-tell, said-at, said-direct-message, said-one, said-other, said-others, said-up}
 use Rattle.model_agreement.proofs.Range.{Range}
 use Rattle.model_agreement.proofs.Recorded.{AccHist, CoHist, acc-frame, acc-passes, acc-prepares, acc-sent, acc-votes, co-counts, co-frame, co-learns, co-opens}
 use Rattle.model_agreement.proofs.Shape.{Shape, co-in, owner-in}
-use Rattle.model_agreement.proofs.StepEffects.{Move, asks, counts, crashes, follows, hears, is-told, joins, learns, opens, passes-accept, passes-accepted, passes-follow, passes-prepare, passes-promise, passes-request, passes-restore, promises, proposes, restores, takes, takes-follow, tells, votes}
+use Rattle.model_agreement.proofs.StepEffects.{Move, asks, comes-back, counts, crashes, follows, hears, is-told, joins, learns, opens, passes-accept, passes-accepted, passes-follow, passes-prepare, passes-promise, passes-request, passes-restore, promises, proposes, restores, takes, takes-follow, tells, votes}
 use Rattle.model_agreement.proofs.SentMessages.{At, OneNew, Outbox, Posts, outboxOf}
 
 -- ---- what an event leaves as it was
@@ -40,6 +40,7 @@ pub data Aside : Event → Type 0 where
   opened-by : (k i b : ℕ) → Aside (opened k i b)
   restored-by : (k m : ℕ) → Aside (restoring k m)
   mailed : (m : ℕ) {x : Content} → Mail x → Aside (delivered m x)
+  came-back : (p t : ℕ) → Aside (back p t)
 
 module _ {h : List Event} where
   got-aside : {e : Event} {m : Paxos Batch} → Aside e → Got (paxos m) (e ∷ h) → Got (paxos m) h
@@ -49,8 +50,9 @@ module _ {h : List Event} where
   got-aside (restored-by k m) (there y) = y
   got-aside (mailed m (is-request k e)) (there y) = y
   got-aside (mailed m (is-tell p t o)) (there y) = y
-  got-aside (mailed m (is-restore p s i r n)) (there y) = y
+  got-aside (mailed m (is-restore p t s i r n)) (there y) = y
   got-aside (mailed m (is-follow p s t o u)) (there y) = y
+  got-aside (came-back p t) (there y) = y
 
   accepts-aside : {e : Event} {i b a : ℕ} {v : Batch} → Aside e → Accepts i b a v (e ∷ h) → Accepts i b a v h
   accepts-aside (set-up n) (later y) = y
@@ -59,8 +61,9 @@ module _ {h : List Event} where
   accepts-aside (restored-by k m) (later y) = y
   accepts-aside (mailed m (is-request k e)) (later y) = y
   accepts-aside (mailed m (is-tell p t o)) (later y) = y
-  accepts-aside (mailed m (is-restore p s i r n)) (later y) = y
+  accepts-aside (mailed m (is-restore p t s i r n)) (later y) = y
   accepts-aside (mailed m (is-follow p s t o u)) (later y) = y
+  accepts-aside (came-back p t) (later y) = y
 
   since-aside : {e : Event} {k i b a : ℕ} → Aside e → Since k i b a (e ∷ h) → Since k i b a h
   since-aside (set-up n) (kept o y) = y
@@ -69,8 +72,9 @@ module _ {h : List Event} where
   since-aside (restored-by k m) (kept o y) = y
   since-aside (mailed m (is-request k e)) (kept o y) = y
   since-aside (mailed m (is-tell p t x)) (kept o y) = y
-  since-aside (mailed m (is-restore p s i r n)) (kept o y) = y
+  since-aside (mailed m (is-restore p t s i r n)) (kept o y) = y
   since-aside (mailed m (is-follow p s t x u)) (kept o y) = y
+  since-aside (came-back p t) (kept o y) = y
 
   -- a message of the ballots of another kind
   got-kind : {j : ℕ} {m x : Paxos Batch} → kind m ≢ kind x → Got (paxos m) (delivered j (paxos x) ∷ h) → Got (paxos m) h
@@ -300,7 +304,7 @@ module _ {w : World} {h : List Event} (s : Shape w) (few : w .acceptors ≤ most
 
   pub hist-move : {w′ : World} {h′ : List Event} → Move w h w′ h′ → Hist w′ h′
   unfolding learning
-  hist-move (asks e k ms c g p) =
+  hist-move (asks e k ms c g _ p) =
       aside (asked-for e) (said-up p) (said-direct-message (is-request k e) p) (λ j. co-frame (H .co j) tt (λ a y. since-aside (asked-for e) y) (λ i c y. last-asked y))
     where
       last-asked : {k i b : ℕ} → LastOpened k i b (asked e ∷ h) → LastOpened k i b h
@@ -320,13 +324,18 @@ module _ {w : World} {h : List Event} (s : Shape w) (few : w .acceptors ≤ most
       }
   hist-move (tells k q tx ms c _ _ _ p) = record { acc = accs-sent H (said-up p) (λ m _. said-direct-message (is-tell q tx _) p m); co = H .co }
   hist-move (restores k q ms c _ _ _ p) =
-      aside (restored-by k _) (said-up p) (said-direct-message (is-restore q _ _ _ _) p)
+      aside (restored-by k _) (said-up p) (said-direct-message (is-restore q _ _ _ _ _) p)
       (λ j. co-frame (H .co j) tt (λ a y. since-aside (restored-by k _) y) (λ i c y. last-restoring y))
     where
       last-restoring : {j i b m : ℕ} → LastOpened j i b (restoring k m ∷ h) → LastOpened j i b h
       last-restoring (withoutMessages o y) = y
   hist-move (follows k q tx ms c _ _ _ _ _ p) = record { acc = accs-sent H (said-up p) (λ m _. said-direct-message (is-follow q _ tx _ _) p m); co = H .co }
   hist-move (crashes d) = H
+  hist-move (comes-back p t d _ _) =
+      aside (came-back p t) (λ m s. s) (λ m s. s) (λ j. co-frame (H .co j) tt (λ a y. since-aside (came-back p t) y) (λ i c y. last-back y))
+    where
+      last-back : {j i b : ℕ} → LastOpened j i b (back p t ∷ h) → LastOpened j i b h
+      last-back (withoutMessages o y) = y
   hist-move (promises j i b a ms c t g p) = hist-promises j i b a (R .sent t .inst) ms c (R .sent t .acceptor) g p
   hist-move (passes-prepare j i b a t g) = hist-passes j i b a (R .sent t .inst) g
   hist-move (votes j i b a v ms c t g p u) = hist-votes j i b a v (R .sent t .inst) ms c (R .sent t .acceptor) (said-at t) g p (said-at u)
@@ -362,7 +371,7 @@ module _ {w : World} {h : List Event} (s : Shape w) (few : w .acceptors ≤ most
       }
   hist-move (passes-request j k e _) = directMessage j (is-request k e)
   hist-move (is-told j p tx o _) = directMessage j (is-tell p tx o)
-  hist-move (takes j p z i r n _ _) = directMessage j (is-restore p z i r n)
-  hist-move (passes-restore j p z i r n _ _) = directMessage j (is-restore p z i r n)
+  hist-move (takes j p t z i r n _ _) = directMessage j (is-restore p t z i r n)
+  hist-move (passes-restore j p t z i r n _ _) = directMessage j (is-restore p t z i r n)
   hist-move (takes-follow j p z tx o u _ _) = directMessage j (is-follow p z tx o u)
   hist-move (passes-follow j p z tx o u _ _) = directMessage j (is-follow p z tx o u)

@@ -22,3 +22,5 @@ pub mod Limits
 pub mod Cases
 pub mod Examples
 pub mod Followed
+pub mod Turns
+pub mod ComesBack

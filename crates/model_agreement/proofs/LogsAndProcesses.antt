@@ -17,7 +17,7 @@ use Rattle.log_votes.specs.declared.Outcome.{Outcome}
 use Rattle.log_core.specs.declared.Replay.{Replay}
 use Rattle.log_core.specs.Enter.{feed}
 use Rattle.log_core.specs.Follow.{awaitedOf}
-use Rattle.log_core.specs.Log.{emptyLog, holderOf, outcomeOf, voteAt}
+use Rattle.log_core.specs.Log.{emptyLog, holderOf, outcomeOf, turnOf, voteAt}
 use Rattle.log_votes.specs.Outcome.{isCommit, isOpen}
 use Rattle.log_core.specs.Replay.{replayOf}
 use Rattle.model_steps.specs.Limits.{coordinators, instances}
@@ -51,7 +51,7 @@ use Rattle.model_agreement.proofs.Queue.{front-of, in-joined, in-take, 
 use Rattle.model_agreement.proofs.Range.{Range}
 use Rattle.model_agreement.proofs.Shape.{QueueOk, Shape, co-in, owner-in}
 use Rattle.model_agreement.proofs.Tests.{neqb→ne}
-use Rattle.model_agreement.proofs.StepEffects.{Move, asks, counts, crashes, follows, hears, is-told, joins, learns, opens, passes-accept, passes-accepted, passes-follow, passes-prepare, passes-promise, passes-request, passes-restore, promises, proposes, restores, takes, takes-follow, tells, votes}
+use Rattle.model_agreement.proofs.StepEffects.{Move, asks, comes-back, counts, crashes, follows, hears, is-told, joins, learns, opens, passes-accept, passes-accepted, passes-follow, passes-prepare, passes-promise, passes-request, passes-restore, promises, proposes, restores, takes, takes-follow, tells, votes}
 use Rattle.model_agreement.proofs.SentMessages.{AllNew, At, OneNew, Outbox, Posts, outboxOf}
 
 -- ---- what is said of a message, a queue and a log, by the number n of acceptors, the history h
@@ -90,12 +90,13 @@ pub record Brought (n : ℕ) (S : Paxos Batch → Type 0) (s tx : ℕ) (o : Outc
   pub update : u ≡ updateOf (plainLog batches) tx s
 
 -- the restore of number j, which lists the transactions x
-pub record Given (n : ℕ) (h : List Event) (S : Paxos Batch → Type 0) (j p s i : ℕ) (r : Replay) (x : ℕ) : Type 0 where
+pub record Given (n : ℕ) (h : List Event) (S : Paxos Batch → Type 0) (j p t s i : ℕ) (r : Replay) (x : ℕ) : Type 0 where
   pub batches : List Batch
   pub front : Front n S batches
   pub size : length batches ≡ i
   pub rows : r ≡ replayOf (plainLog batches) s
   pub holder : holderOf (plainLog batches) s ≡ p
+  pub turn : turnOf (plainLog batches) s ≡ t
   pub running : x ≡ awaitedOf (plainLog batches) s
   pub place : s < stores
   pub sender : ℕ
@@ -109,7 +110,7 @@ pub data SentFact (n : ℕ) (h : List Event) (S : Paxos Batch → Type 0) (j : �
   proposal : {i b a : ℕ} {v : Batch} → Fine h v → SentFact n h S j (paxos (accept i b a v))
   requested : {k : ℕ} {e : Entry} → Happened (asked e) h → SentFact n h S j (request k e)
   told : {p tx : ℕ} {o : Outcome} → Told n S tx o → SentFact n h S j (tell p tx o)
-  given : {p s i x : ℕ} {r : Replay} → Given n h S j p s i r x → SentFact n h S j (restore p s i r x)
+  given : {p t s i x : ℕ} {r : Replay} → Given n h S j p t s i r x → SentFact n h S j (restore p t s i r x)
   brought : {p s tx u : ℕ} {o : Outcome} → Brought n S s tx o u → SentFact n h S j (follow p s tx o u)
 
 module _ {n : ℕ} {h : List Event} {S : Paxos Batch → Type 0} {j : ℕ} where
@@ -123,7 +124,7 @@ module _ {n : ℕ} {h : List Event} {S : Paxos Batch → Type 0} {j : ℕ} where
   pub told-of : {p tx : ℕ} {o : Outcome} → SentFact n h S j (tell p tx o) → Told n S tx o
   told-of (told f) = f
 
-  pub given-of : {p s i x : ℕ} {r : Replay} → SentFact n h S j (restore p s i r x) → Given n h S j p s i r x
+  pub given-of : {p t s i x : ℕ} {r : Replay} → SentFact n h S j (restore p t s i r x) → Given n h S j p t s i r x
   given-of (given f) = f
 
   pub brought-of : {p s tx u : ℕ} {o : Outcome} → SentFact n h S j (follow p s tx o u) → Brought n S s tx o u
@@ -169,13 +170,14 @@ module _ {n : ℕ} {S S′ : Paxos Batch → Type 0} (up : (m : Paxos Batch) →
       record { batches = t .batches; front = front-up (t .front); shut = t .shut; is = t .is; kept = t .kept; update = t .update }
 
   module _ {h h′ : List Event} (l : Later h h′) where
-    given-up : {j p s i x : ℕ} {r : Replay} → Given n h S j p s i r x → Given n h′ S′ j p s i r x
+    given-up : {j p t s i x : ℕ} {r : Replay} → Given n h S j p t s i r x → Given n h′ S′ j p t s i r x
     given-up g = record {
       batches = g .batches;
       front = front-up (g .front);
       size = g .size;
       rows = g .rows;
       holder = g .holder;
+      turn = g .turn;
       running = g .running;
       place = g .place;
       sender = g .sender;
@@ -372,7 +374,7 @@ module _ {w : World} {h : List Event} (s : Shape w) (R : Range w) (I : Inv w) (H
   applied-now k = record { learned = H .co k .learnt; only = H .co k .counted }
 
   pub rest-move : {w′ : World} {h′ : List Event} → Move w h w′ h′ → Rest w′ h′
-  rest-move (asks e k ms c g p) = rest-more O (more _) p (fact-one (requested (h, now)))
+  rest-move (asks e k ms c g _ p) = rest-more O (more _) p (fact-one (requested (h, now)))
   rest-move (opens k i b ms c g _ _ _ _ _ p) =
       record {
         sent = sent-more O (more _) p (fact-all (λ j a. no-proposal (omega arith)));
@@ -394,7 +396,7 @@ module _ {w : World} {h : List Event} (s : Shape w) (R : Range w) (I : Inv w) (H
       l : Log
       l = logOf w k
 
-      gave : Given (w .acceptors) (restoring k (w .sent) ∷ h) (Said ms c) (w .sent) q (heldStore l q) (coordinatorOf w k .applied) (replayOf l (heldStore l q)) (awaitedOf l (heldStore l q))
+      gave : Given (w .acceptors) (restoring k (w .sent) ∷ h) (Said ms c) (w .sent) q (turnOf l (heldStore l q)) (heldStore l q) (coordinatorOf w k .applied) (replayOf l (heldStore l q)) (awaitedOf l (heldStore l q))
       gave =
           let f = O .cos k .fed in
           record {
@@ -403,6 +405,7 @@ module _ {w : World} {h : List Event} (s : Shape w) (R : Range w) (I : Inv w) (H
             size = f .size;
             rows = ap (λ x. replayOf x (heldStore l q)) (f .is);
             holder = ap (λ x. holderOf x (heldStore l q)) (sym (f .is)) ∙ held-holder l q (subst (λ n. heldStore l q < n) (sym (row-length (f .batches) l (f .is))) z);
+            turn = ap (λ x. turnOf x (heldStore l q)) (sym (f .is));
             running = ap (λ x. awaitedOf x (heldStore l q)) (f .is);
             place = z;
             sender = k;
@@ -427,6 +430,7 @@ module _ {w : World} {h : List Event} (s : Shape w) (R : Range w) (I : Inv w) (H
             update = ap (λ x. updateOf x tx (votingStore l q tx)) (f .is);
           }
   rest-move (crashes d) = O
+  rest-move (comes-back p t d _ _) = rest-same O (more _)
   rest-move (promises j i b a ms c t g p) = rest-more O (more _) p (fact-one (no-proposal (omega arith)))
   rest-move (passes-prepare j i b a _ _) = rest-same O (more _)
   rest-move (votes j i b a v ms c t g p _) = rest-more O (more _) p (fact-one (no-proposal (omega arith)))
@@ -470,7 +474,7 @@ module _ {w : World} {h : List Event} (s : Shape w) (R : Range w) (I : Inv w) (H
       joins-too x (inr d) = asked-up (more _) (rw d (asked-of (O .sent t)))
   rest-move (passes-request j k e _) = rest-same O (more _)
   rest-move (is-told j p tx o _) = rest-same O (more _)
-  rest-move (takes j p z i r x _ _) = rest-same O (more _)
-  rest-move (passes-restore j p z i r x _ _) = rest-same O (more _)
+  rest-move (takes j p t z i r x _ _) = rest-same O (more _)
+  rest-move (passes-restore j p t z i r x _ _) = rest-same O (more _)
   rest-move (takes-follow j p z tx o u _ _) = rest-same O (more _)
   rest-move (passes-follow j p z tx o u _ _) = rest-same O (more _)

@@ -6,11 +6,11 @@ use mathlib.Core.Bool.{Bool, true, false, _&&_, not, cond}
 use mathlib.Core.List.{List, []}
 use native.Mathlib.Omega.{arith}
 use borrow.Author.Tests.{eq-eqb, ne-eqb}
-use lib.Dec.{T, eqb, ltb}
-use lib.ListN.{getD, length, set}
+use lib.Dec.{T, eqb, eqb→eq, ltb}
+use lib.ListN.{getD, length, replicate, set}
 use lib.Seq.{getD-set-other, getD-set-same}
 use Rattle.log_entry.specs.Bits.{has}
-use Rattle.log_entry.specs.Limits.{processes}
+use Rattle.log_entry.specs.Limits.{processes, transactions}
 use Rattle.log_votes.specs.declared.Outcome.{Outcome}
 use Rattle.log_votes.specs.declared.Outcome.the-variants.{Open}
 use Rattle.log_core.specs.declared.Replay.{Replay}
@@ -19,16 +19,17 @@ use Rattle.model_protocol.specs.declared.Heard.{Heard}
 use Rattle.model_protocol.specs.declared.Process.{Process}
 use Rattle.model_protocol.specs.declared.World.{World}
 use Rattle.log_core.specs.Replay.{noReplay}
-use Rattle.model_protocol.specs.Process.{believes, following, hearingOutcome, taking, takesFollow}
-use Rattle.model_protocol.specs.World.{followsOf, freshProcess, noFollows, processOf}
+use Rattle.model_protocol.specs.Process.{believes, following, hearingOutcome, taking, takesFollow, takesRestore}
+use Rattle.model_protocol.specs.World.{followsOf, freshProcess, noFollows, processOf, startedIn}
 use Rattle.model_agreement.specs.Content.{Content, follow, restore, tell}
-use Rattle.model_agreement.specs.History.{Event, Follow, Restored, heardOf, isTaken, restoredOf, withFollow}
-use Rattle.model_agreement.proofs.Arrays.{each-case, set-ind}
+use Rattle.model_agreement.specs.History.{Event, Follow, Restored, heardOf, isTaken, noneTaken, restoredOf, withFollow}
+use Rattle.log_entry.proofs.Tests.{opposed}
+use Rattle.model_agreement.proofs.Arrays.{each-case, same-each, set-ind}
 use Rattle.model_agreement.proofs.FollowsKept.{KeepsAll, followed-is, keeps-none, keeps-one}
 use Rattle.model_agreement.proofs.Range.{Range}
 use Rattle.model_agreement.proofs.Shape.{Shape}
 use Rattle.model_agreement.proofs.Tests.{both, is-false, is-true}
-use Rattle.model_agreement.proofs.StepEffects.{Move, asks, counts, crashes, follows, hears, is-told, joins, learns, opens, passes-accept, passes-accepted, passes-follow, passes-prepare, passes-promise, passes-request, passes-restore, promises, proposes, restores, takes, takes-follow, tells, votes}
+use Rattle.model_agreement.proofs.StepEffects.{Move, asks, comes-back, counts, crashes, follows, hears, is-told, joins, learns, opens, passes-accept, passes-accepted, passes-follow, passes-prepare, passes-promise, passes-request, passes-restore, promises, proposes, restores, takes, takes-follow, tells, votes}
 use Rattle.model_agreement.proofs.SentMessages.{At, Outbox, Posts, outboxOf}
 
 abbrev outcomeIn : List Heard → ℕ → Outcome
@@ -36,13 +37,14 @@ outcomeIn hs tx = getD hs tx (record { outcome = Open }) .outcome
 
 -- the process x keeps the restore r, all but its replay and the follows, and the outcomes f
 pub record Keeps (r : Restored) (f : ℕ → Outcome) (x : Process) : Type 0 where
+  pub turn : x .turn ≡ r .turn
   pub store : x .store ≡ r .store
   pub position : x .position ≡ r .position
   pub running : x .running ≡ r .running
   pub heard : (tx : ℕ) → outcomeIn (x .heard) tx ≡ f tx
 
 abbrev IsMessage : Outbox → ℕ → ℕ → Restored → Type 0
-IsMessage ms k p r = 0 < r .position → At ms k (r .number) (restore p (r .store) (r .position) (r .replay) (r .running))
+IsMessage ms k p r = 0 < r .position → At ms k (r .number) (restore p (r .turn) (r .store) (r .position) (r .replay) (r .running))
 
 pub record KeptOf (rs : ℕ → Restored) (fs : ℕ → ℕ → Outcome) (ms : Outbox) (k : ℕ) (ps : List Process) (ys : List Replay) (zs : List Follows) : Type 0 where
   pub each : (p : ℕ) → Keeps (rs p) (fs p) (getD ps p freshProcess)
@@ -52,6 +54,25 @@ pub record KeptOf (rs : ℕ → Restored) (fs : ℕ → ℕ → Outcome) (ms : O
 
 abbrev pub Kept : World → List Event → Type 0
 Kept w h = KeptOf (λ p. restoredOf p h) (λ p tx. heardOf p tx h) (outboxOf w) (w .sent) (w .processes) (w .restored) (w .follows)
+
+-- ---- a process that starts
+
+silent : (tx : ℕ) → outcomeIn (replicate transactions (record { outcome = Open })) tx ≡ Open
+silent tx = sym (ap (λ (x : Heard). x .outcome) (same-each transactions tx (record { outcome = Open })))
+
+pub started-keeps : (turn : ℕ) → Keeps (noneTaken turn) (λ _. Open) (startedIn turn)
+unfolding startedIn
+started-keeps turn = record { turn = refl; store = refl; position = refl; running = refl; heard = silent }
+
+pub started-follows : (turn : ℕ) (fs : Follows) → KeepsAll (startedIn turn) fs []
+unfolding startedIn
+started-follows turn fs = keeps-none (startedIn turn) 0 0 0 fs
+
+-- what holds of a process that starts, and of one that does not
+chosen : (P : Restored → (ℕ → Outcome) → Type 0) (t : Bool) (turn : ℕ) (r : Restored) (f : ℕ → Outcome)
+    → (t ≡ true → P (noneTaken turn) (λ _. Open)) → (t ≡ false → P r f) → P (cond t (noneTaken turn) r) (λ tx. cond t Open (f tx))
+chosen P true turn r f new old = new refl
+chosen P false turn r f new old = old refl
 
 module _ {w : World} (h : List Event) (s : Shape w) (R : Range w) (K : Kept w h) where
   more : {ms : Outbox} {c : ℕ} {P : ℕ → Content → Type 0} → Posts (outboxOf w) (w .sent) ms c P
@@ -89,8 +110,8 @@ module _ {w : World} (h : List Event) (s : Shape w) (R : Range w) (K : Kept w h)
     kept-told = record {
       each =
           set-ind (λ p x. Keeps (restoredOf p h) (said p) x) (w .processes) freshProcess q _ (process-in (R .sent a .0))
-          (let k = K .each q in record { store = k .store; position = k .position; running = k .running; heard = mine })
-          (λ p d. let k = K .each p in record { store = k .store; position = k .position; running = k .running; heard = other p d });
+          (let k = K .each q in record { turn = k .turn; store = k .store; position = k .position; running = k .running; heard = mine })
+          (λ p d. let k = K .each p in record { turn = k .turn; store = k .store; position = k .position; running = k .running; heard = other p d });
       replays = K .replays;
       follows =
           set-ind (λ p x. KeepsAll x (followsOf w p) (restoredOf p h .follows)) (w .processes) freshProcess q _ (process-in (R .sent a .0))
@@ -100,36 +121,36 @@ module _ {w : World} (h : List Event) (s : Shape w) (R : Range w) (K : Kept w h)
 
   -- ---- a restore
 
-  module _ (j q z i : ℕ) (r : Replay) (n : ℕ) (a : At (outboxOf w) (w .sent) j (restore q z i r n)) where
+  module _ (j q v z i : ℕ) (r : Replay) (n : ℕ) (a : At (outboxOf w) (w .sent) j (restore q v z i r n)) where
     abbrev test : ℕ → Bool
-    test p = eqb p q && ltb (restoredOf p h .position) i
+    test p = eqb p q && (eqb (restoredOf p h .turn) v && ltb (restoredOf p h .position) i)
 
-    abbrev latest : Restored
-    latest = record { number = j; store = z; position = i; replay = r; running = n; follows = [] }
+    abbrev latest : ℕ → Restored
+    latest p = record { turn = restoredOf p h .turn; number = j; store = z; position = i; replay = r; running = n; follows = [] }
 
     abbrev then : ℕ → Restored
-    then p = cond (test p) latest (restoredOf p h)
+    then p = cond (test p) (latest p) (restoredOf p h)
 
-    test-mine : ltb (processOf w q .position) i ≡ test q
-    test-mine = rw (eq-eqb q q refl, K .each q .position)
+    test-mine : takesRestore (processOf w q) v i ≡ test q
+    test-mine = rw (eq-eqb q q refl, K .each q .turn, K .each q .position)
 
     test-other : (p : ℕ) → q ≢ p → test p ≡ false
     test-other p d = rw (ne-eqb p q (λ e. d (sym e)))
 
-    changed : (p : ℕ) → test p ≡ true → latest ≡ then p
+    changed : (p : ℕ) → test p ≡ true → latest p ≡ then p
     changed p e = rw e
 
     unchanged : (p : ℕ) → test p ≡ false → restoredOf p h ≡ then p
     unchanged p e = rw e
 
-    kept-takes : T (ltb (processOf w q .position) i)
+    kept-takes : T (takesRestore (processOf w q) v i)
         → KeptOf then (λ p tx. heardOf p tx h) (outboxOf w) (w .sent) (set (w .processes) q (taking (processOf w q) z i n)) (set (w .restored) q r) (w .follows)
     kept-takes g =
         record {
           each =
               set-ind (λ p x. Keeps (then p) (λ tx. heardOf p tx h) x) (w .processes) freshProcess q _ (process-in (R .sent a .1))
               (subst (λ y. Keeps y (λ tx. heardOf q tx h) (taking (processOf w q) z i n)) (changed q yes′)
-              (record { store = refl; position = refl; running = refl; heard = K .each q .heard }))
+              (record { turn = K .each q .turn; store = refl; position = refl; running = refl; heard = K .each q .heard }))
               (λ p d. subst (λ y. Keeps y (λ tx. heardOf p tx h) (processOf w p)) (unchanged p (test-other p d)) (K .each p));
           replays =
               set-ind (λ p y. y ≡ then p .replay) (w .restored) noReplay q r (restored-in (R .sent a .1))
@@ -141,14 +162,20 @@ module _ {w : World} (h : List Event) (s : Shape w) (R : Range w) (K : Kept w h)
               (λ p d. subst (λ y. KeepsAll (processOf w p) (followsOf w p) (y .follows)) (unchanged p (test-other p d)) (K .follows p));
           taken =
               each-case (λ p. IsMessage (outboxOf w) (w .sent) p (then p)) q
-              (subst (λ y. IsMessage (outboxOf w) (w .sent) q y) (changed q yes′) (λ _. a))
+              (subst (λ y. IsMessage (outboxOf w) (w .sent) q y) (changed q yes′) (λ _. rw (K .each q .turn) at named))
               (λ p d. subst (λ y. IsMessage (outboxOf w) (w .sent) p y) (unchanged p (test-other p d)) (K .taken p));
         }
       where
         yes′ : test q ≡ true
-        yes′ = sym test-mine ∙ is-true (ltb (processOf w q .position) i) g
+        yes′ = sym test-mine ∙ is-true (takesRestore (processOf w q) v i) g
 
-    kept-passes : T (not (ltb (processOf w q .position) i)) → KeptOf then (λ p tx. heardOf p tx h) (outboxOf w) (w .sent) (w .processes) (w .restored) (w .follows)
+        -- the message is of its turn
+        named : At (outboxOf w) (w .sent) j (restore q (processOf w q .turn) z i r n)
+        named =
+            let x = processOf w q in
+            subst (λ t. At (outboxOf w) (w .sent) j (restore q t z i r n)) (sym (eqb→eq (x .turn) v (both (eqb (x .turn) v) (ltb (x .position) i) g .0))) a
+
+    kept-passes : T (not (takesRestore (processOf w q) v i)) → KeptOf then (λ p tx. heardOf p tx h) (outboxOf w) (w .sent) (w .processes) (w .restored) (w .follows)
     kept-passes g =
         record {
           each = λ p. subst (λ y. Keeps y (λ tx. heardOf p tx h) (processOf w p)) (unchanged p (none p)) (K .each p);
@@ -158,7 +185,7 @@ module _ {w : World} (h : List Event) (s : Shape w) (R : Range w) (K : Kept w h)
         }
       where
         none : (p : ℕ) → test p ≡ false
-        none = each-case (λ p. test p ≡ false) q (sym test-mine ∙ is-false (ltb (processOf w q .position) i) g) test-other
+        none = each-case (λ p. test p ≡ false) q (sym test-mine ∙ is-false (takesRestore (processOf w q) v i) g) test-other
 
   -- ---- a follow
 
@@ -192,7 +219,7 @@ module _ {w : World} (h : List Event) (s : Shape w) (R : Range w) (K : Kept w h)
           each =
               set-ind (λ p x. Keeps (after p) (λ tx. heardOf p tx h) x) (w .processes) freshProcess q _ (process-in (R .sent a .1))
               (subst (λ y. Keeps y (λ tx. heardOf q tx h) (following (processOf w q) t)) (changed′ q yes′)
-              (let k = K .each q in record { store = k .store; position = k .position; running = k .running; heard = k .heard }))
+              (let k = K .each q in record { turn = k .turn; store = k .store; position = k .position; running = k .running; heard = k .heard }))
               (λ p d. subst (λ y. Keeps y (λ tx. heardOf p tx h) (processOf w p)) (unchanged′ p (test-other′ p d)) (K .each p));
           replays =
               each-case (λ p. getD (w .restored) p noReplay ≡ after p .replay) q
@@ -238,14 +265,51 @@ module _ {w : World} (h : List Event) (s : Shape w) (R : Range w) (K : Kept w h)
         none : (p : ℕ) → test′ p ≡ false
         none = each-case (λ p. test′ p ≡ false) q (sym test-mine′ ∙ is-false (takesFollow (processOf w q) z t) g) test-other′
 
+  -- ---- a process that comes back
+
+  module _ (q v : ℕ) (g : q ≤ processes) where
+    abbrev anew : ℕ → Restored
+    anew p = cond (eqb p q) (noneTaken v) (restoredOf p h)
+
+    abbrev unheard : ℕ → ℕ → Outcome
+    unheard p tx = cond (eqb p q) Open (heardOf p tx h)
+
+    started : eqb q q ≡ true
+    started = eq-eqb q q refl
+
+    others : (p : ℕ) → q ≢ p → eqb p q ≡ false
+    others p d = ne-eqb p q (λ e. d (sym e))
+
+    kept-back : KeptOf anew unheard (outboxOf w) (w .sent) (set (w .processes) q (startedIn v)) (set (w .restored) q noReplay) (set (w .follows) q noFollows)
+    kept-back = record {
+      each =
+          set-ind (λ p x. Keeps (anew p) (unheard p) x) (w .processes) freshProcess q _ (process-in g)
+          (chosen (λ r f. Keeps r f (startedIn v)) (eqb q q) v (restoredOf q h) (λ tx. heardOf q tx h) (λ _. started-keeps v) (λ e. absurd (opposed started e)))
+          (λ p d. chosen (λ r f. Keeps r f (processOf w p)) (eqb p q) v (restoredOf p h) (λ tx. heardOf p tx h) (λ e. absurd (opposed e (others p d))) (λ _. K .each p));
+      replays =
+          set-ind (λ p y. y ≡ anew p .replay) (w .restored) noReplay q noReplay (restored-in g)
+          (rw started)
+          (λ p d. rw (others p d) (K .replays p));
+      follows =
+          set-ind (λ p x. KeepsAll x (getD (set (w .follows) q noFollows) p noFollows) (anew p .follows)) (w .processes) freshProcess q _ (process-in g)
+          (rw started (started-follows v (getD (set (w .follows) q noFollows) q noFollows)))
+          (λ p d. rw (others p d)
+          (subst (λ y. KeepsAll (processOf w p) y (restoredOf p h .follows)) (sym (getD-set-other (w .follows) q p noFollows noFollows (λ e. d (sym e)))) (K .follows p)));
+      taken =
+          each-case (λ p. IsMessage (outboxOf w) (w .sent) p (anew p)) q
+          (rw started (λ l. absurd (omega arith)))
+          (λ p d. rw (others p d) (K .taken p));
+    }
+
   pub kept-move : {w′ : World} {h′ : List Event} → Move w h w′ h′ → Kept w′ h′
-  kept-move (asks e k ms c _ p) = more p
+  kept-move (asks e k ms c _ _ p) = more p
   kept-move (opens k i b ms c _ _ _ _ _ _ p) = more p
   kept-move (proposes k i b v ms c _ _ _ _ _ _ _ _ p) = more p
   kept-move (tells k q tx ms c _ _ _ p) = more p
   kept-move (restores k q ms c _ _ _ p) = more p
   kept-move (follows k q tx ms c _ _ _ _ _ p) = more p
   kept-move (crashes d) = K
+  kept-move (comes-back p t d g _) = kept-back p t g
   kept-move (promises j i b a ms c _ _ p) = more p
   kept-move (passes-prepare j i b a _ _) = K
   kept-move (votes j i b a v ms c _ _ p _) = more p
@@ -258,7 +322,7 @@ module _ {w : World} (h : List Event) (s : Shape w) (R : Range w) (K : Kept w h)
   kept-move (joins j k e _ _) = K
   kept-move (passes-request j k e _) = K
   kept-move (is-told j p tx o a) = kept-told j p tx o a
-  kept-move (takes j p z i r n a g) = kept-takes j p z i r n a g
-  kept-move (passes-restore j p z i r n a g) = kept-passes j p z i r n a g
+  kept-move (takes j p t z i r n a g) = kept-takes j p t z i r n a g
+  kept-move (passes-restore j p t z i r n a g) = kept-passes j p t z i r n a g
   kept-move (takes-follow j p z t o u a g) = kept-follows j p z t o u a g
   kept-move (passes-follow j p z t o u a g) = kept-follow-passes j p z t o u a g

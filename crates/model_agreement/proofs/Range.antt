@@ -20,7 +20,7 @@ use Rattle.model_agreement.specs.Bounds.{CellRange, CoRange, InRange}
 use Rattle.model_agreement.specs.Content.{Content}
 use Rattle.model_agreement.specs.History.{Event}
 use Rattle.model_agreement.proofs.Arrays.{set-all}
-use Rattle.model_agreement.proofs.StepEffects.{Higher, Move, asks, counts, crashes, follows, hears, is-told, joins, learns, opens, ours, passes-accept, passes-accepted, passes-follow, passes-prepare, passes-promise, passes-request, passes-restore, promises, proposes, restores, takes, takes-follow, tells, theirs, votes}
+use Rattle.model_agreement.proofs.StepEffects.{Higher, Move, asks, comes-back, counts, crashes, follows, hears, is-told, joins, learns, opens, ours, passes-accept, passes-accepted, passes-follow, passes-prepare, passes-promise, passes-request, passes-restore, promises, proposes, restores, takes, takes-follow, tells, theirs, votes}
 use Rattle.model_agreement.proofs.SentMessages.{AllNew, At, OneNew, Outbox, Posts, outboxOf}
 
 pub record Range (w : World) : Type 0 where
@@ -81,7 +81,7 @@ module _ {w : World} (R : Range w) where
 
   pub range-move : {w′ : World} {h h′ : List Event} → Move w h w′ h′ → Range w′
   unfolding learning
-  range-move (asks e k ms c g p) = record { sent = more-one p g; slots = R .slots; cos = R .cos }
+  range-move (asks e k ms c g _ p) = record { sent = more-one p g; slots = R .slots; cos = R .cos }
   range-move (opens k i b ms c _ g l e _ u p) =
       record {
         sent = more-all p (λ a z. record { inst = g; positive = omega arith; ballot = l; acceptor = z });
@@ -124,6 +124,7 @@ module _ {w : World} (R : Range w) where
   range-move (restores k q ms c z g _ p) = record { sent = more-one p (z, g, R .cos k .applied); slots = R .slots; cos = R .cos }
   range-move (follows k q tx ms c z g l _ y p) = record { sent = more-one p (z, g, l, y); slots = R .slots; cos = R .cos }
   range-move (crashes d) = record { sent = R .sent; slots = R .slots; cos = R .cos }
+  range-move (comes-back p t d _ _) = record { sent = R .sent; slots = R .slots; cos = R .cos }
   range-move (promises j i b a ms c s _ p) =
       record {
         sent = more-one p (R .sent s, R .slots _ .ballot);
@@ -195,7 +196,7 @@ module _ {w : World} (R : Range w) where
       }
   range-move (passes-request j k e _) = R
   range-move (is-told j p tx o _) = record { sent = R .sent; slots = R .slots; cos = R .cos }
-  range-move (takes j p z i r n _ _) = record { sent = R .sent; slots = R .slots; cos = R .cos }
-  range-move (passes-restore j p z i r n _ _) = R
+  range-move (takes j p t z i r n _ _) = record { sent = R .sent; slots = R .slots; cos = R .cos }
+  range-move (passes-restore j p t z i r n _ _) = R
   range-move (takes-follow j p z tx o u _ _) = record { sent = R .sent; slots = R .slots; cos = R .cos }
   range-move (passes-follow j p z tx o u _ _) = R

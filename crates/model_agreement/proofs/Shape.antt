@@ -8,8 +8,10 @@ use lib.Dec.{T, nleb→lt}
 use lib.ListN.{getD, length, length-replicate, length-set, length-take, replicate, set}
 use lib.Seq.{length-sets}
 use Rattle.log_entry.specs.declared.Entry.{Entry}
-use Rattle.log_entry.specs.Limits.{transactions}
+use Rattle.log_entry.specs.Limits.{processPlaces, transactions}
 use Rattle.log_core.specs.declared.Replay.{Replay}
+use Rattle.log_votes.specs.declared.Outcome.the-variants.{Open}
+use Rattle.log_core.specs.Replay.{noReplay}
 use Rattle.model_steps.specs.Limits.{coordinators, instances, messages}
 use Rattle.model_owners.specs.Owners.{owner}
 use Rattle.model_owners.proofs.Owners.{owner-is-coordinator}
@@ -18,21 +20,22 @@ use Rattle.model_protocol.specs.declared.AcceptorSlot.{AcceptorSlot}
 use Rattle.model_protocol.specs.declared.Coordinator.{Coordinator}
 use Rattle.model_protocol.specs.declared.Down.{Down}
 use Rattle.model_protocol.specs.declared.Follows.{Follows}
+use Rattle.model_protocol.specs.declared.Heard.{Heard}
 use Rattle.model_protocol.specs.declared.Process.{Process}
 use Rattle.model_protocol.specs.declared.Queue.{Queue}
 use Rattle.model_protocol.specs.declared.World.{World}
 use Rattle.model_protocol.specs.Batch.{entriesOf, noEntry}
 use Rattle.model_protocol.specs.Coordinator.{learning}
-use Rattle.model_protocol.specs.Limits.{slotPlaces, processPlaces, queuePlaces}
+use Rattle.model_protocol.specs.Limits.{slotPlaces, queuePlaces}
 use Rattle.model_protocol.specs.Queue.{isFull, joined, leftBy, queueOf, queued, without}
-use Rattle.model_protocol.specs.World.{coordinatorOf, followsOf, freshCoordinator, freshProcess, noFollows, processOf}
+use Rattle.model_protocol.specs.World.{coordinatorOf, followsOf, freshCoordinator, freshProcess, noFollowed, noFollows, processOf, startedIn}
 use Rattle.model_agreement.specs.Content.{Content}
 use Rattle.model_agreement.specs.History.{Event}
 use Rattle.model_agreement.proofs.Arrays.{set-all}
 use Rattle.model_agreement.proofs.Queue.{without-shorter}
-use Rattle.model_agreement.proofs.StepEffects.{Move, asks, counts, crashes, follows, hears, is-told, joins, learns, opens, passes-accept, passes-accepted, passes-follow, passes-prepare, passes-promise, passes-request, passes-restore, promises, proposes, restores, takes, takes-follow, tells, votes}
+use Rattle.model_agreement.proofs.StepEffects.{Move, asks, comes-back, counts, crashes, follows, hears, is-told, joins, learns, opens, passes-accept, passes-accepted, passes-follow, passes-prepare, passes-promise, passes-request, passes-restore, promises, proposes, restores, takes, takes-follow, tells, votes}
 use Rattle.model_agreement.proofs.SentMessages.{Outbox, Posts, Roomy, outboxOf, posted}
-use Rattle.model_agreement.proofs.ChangedWorld.{withSlot, withCoordinator, withDown, withFollowed, withLearned, withProcess, withTaken}
+use Rattle.model_agreement.proofs.ChangedWorld.{withSlot, withCoordinator, withDown, withFollowed, withLearned, withProcess, withStarted, withTaken}
 
 pub record QueueOk (q : Queue) : Type 0 where
   pub places : length (q .entries) ≡ queuePlaces
@@ -71,6 +74,15 @@ left-ok q b o =
       places = length-sets (replicate queuePlaces noEntry) 0 (without (queued q) (entriesOf b)) ∙ length-replicate queuePlaces noEntry;
       count = omega (arith, without-shorter (queued q) (entriesOf b), queued-length q o);
     }
+
+-- a process that starts, and the follows beside it
+pub none-heard : (t : ℕ) → length (startedIn t .heard) ≡ transactions
+unfolding startedIn
+none-heard t = let nothing : Heard = record { outcome = Open } in length-replicate transactions nothing
+
+pub none-followed : length (noFollows .of) ≡ transactions
+unfolding noFollows
+none-followed = length-replicate transactions noFollowed
 
 module _ {w : World} (s : Shape w) where
   -- messages are sent
@@ -182,6 +194,21 @@ module _ {w : World} (s : Shape w) where
     queues = s .queues;
   }
 
+  process-starts : (p : ℕ) (x : Process) (d : Down) → length (x .heard) ≡ transactions → Shape (withStarted w p x d)
+  process-starts p x d o = record {
+    slot-row = s .slot-row;
+    co-row = s .co-row;
+    log-row = s .log-row;
+    process-row = length-set (w .processes) p x ∙ s .process-row;
+    restored-row = length-set (w .restored) p noReplay ∙ s .restored-row;
+    follows-row = length-set (w .follows) p noFollows ∙ s .follows-row;
+    room = s .room;
+    sent-most = s .sent-most;
+    heard = heard-set p x o;
+    followed = set-all (λ y. length (y .of) ≡ transactions) (w .follows) noFollows p noFollows none-followed (s .followed);
+    queues = s .queues;
+  }
+
   -- messages are sent, or parties crash
   only-sent : (d : Down) (ms : Outbox) (n : ℕ) → Roomy ms × (n ≤ messages) → Shape (posted (withDown w d) ms n)
   only-sent d ms n m = record {
@@ -206,13 +233,14 @@ module _ {w : World} (s : Shape w) where
 
   pub shape-move : {w′ : World} {h h′ : List Event} → Move w h w′ h′ → Shape w′
   unfolding learning
-  shape-move (asks e k ms c _ p) = only-sent (w .down) ms c (more p)
+  shape-move (asks e k ms c _ _ p) = only-sent (w .down) ms c (more p)
   shape-move (opens k i b ms c _ _ _ _ _ _ p) = co-changes k _ ms c (more p) (s .queues k)
   shape-move (proposes k i b v ms c _ _ _ _ _ _ _ _ p) = co-changes k _ ms c (more p) (s .queues k)
   shape-move (tells k q tx ms c _ _ _ p) = only-sent (w .down) ms c (more p)
   shape-move (restores k q ms c _ _ _ p) = only-sent (w .down) ms c (more p)
   shape-move (follows k q tx ms c _ _ _ _ _ p) = only-sent (w .down) ms c (more p)
   shape-move (crashes d) = only-sent d (outboxOf w) (w .sent) none-sent
+  shape-move (comes-back p t d _ _) = process-starts p _ d (none-heard t)
   shape-move (promises j i b a ms c _ _ p) = slot-changes a i _ ms c (more p)
   shape-move (passes-prepare j i b a _ _) = s
   shape-move (votes j i b a v ms c _ _ p _) = slot-changes a i _ ms c (more p)
@@ -225,7 +253,7 @@ module _ {w : World} (s : Shape w) where
   shape-move (joins j k e _ f) = co-changes k _ _ _ none-sent (joins-ok k e f)
   shape-move (passes-request j k e _) = s
   shape-move (is-told j p tx o _) = process-changes p _ (length-set (processOf w p .heard) tx _ ∙ s .heard p)
-  shape-move (takes j p z i r n _ _) = process-takes p _ r (s .heard p)
-  shape-move (passes-restore j p z i r n _ _) = s
+  shape-move (takes j p t z i r n _ _) = process-takes p _ r (s .heard p)
+  shape-move (passes-restore j p t z i r n _ _) = s
   shape-move (takes-follow j p z tx o u _ _) = process-follows p _ _ (s .heard p) (length-set (followsOf w p .of) tx _ ∙ s .followed p)
   shape-move (passes-follow j p z tx o u _ _) = s

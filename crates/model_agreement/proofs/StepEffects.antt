@@ -10,18 +10,19 @@ use native.Mathlib.Omega.{arith}
 use lib.ListN.{set}
 use lib.Dec.{T, T-not, eqb, eqb→eq, eqb-refl, leb, leb→le, ltb, ltb→lt, nleb→lt, nltb→le, lt→ltb}
 use Rattle.log_entry.specs.declared.Entry.{Entry}
-use Rattle.log_entry.specs.Entry.{noProcess, outside}
-use Rattle.log_entry.specs.Limits.{processes, stores, transactions}
+use Rattle.log_entry.specs.Entry.{noProcess, noTurn, outside}
+use Rattle.log_entry.proofs.InsideLaws.{inside-process}
+use Rattle.log_entry.specs.Limits.{processPlaces, processes, stores, transactions}
 use Rattle.log_entry.specs.Refusal.{check, outsideLimits}
 use Rattle.log_votes.specs.declared.Outcome.{Outcome}
 use Rattle.log_core.specs.declared.Replay.{Replay}
 use Rattle.log_votes.specs.Outcome.{isOpen}
 use Rattle.log_core.specs.Follow.{awaitedOf}
-use Rattle.log_core.specs.Log.{outcomeOf}
+use Rattle.log_core.specs.Log.{outcomeOf, turnOf}
 use Rattle.log_core.specs.Replay.{replayOf}
 use Rattle.model_steps.specs.declared.Role.{Role}
 use Rattle.model_steps.specs.declared.Step.{Step}
-use Rattle.model_steps.specs.declared.Step.the-variants.{Setup, Request, Open, Propose, Deliver, Tell, Restore, Follow, Crash}
+use Rattle.model_steps.specs.declared.Step.the-variants.{Setup, Request, Open, Propose, Deliver, Tell, Restore, Follow, Crash, Back}
 use Rattle.model_steps.specs.Limits.{ballots, coordinators, instances, messages, noBallot, noCoordinator, outsideStep, mostAcceptors}
 use Rattle.model_owners.specs.Owners.{owner}
 use Rattle.model_paxos.specs.Majority.{majority}
@@ -44,19 +45,19 @@ use Rattle.model_protocol.specs.Acceptor.{accepting, promising}
 use Rattle.model_protocol.specs.Coordinator.{batchToPropose, counting, hearing, isCurrent, isHeard, learning, promiseHeard, proposing, withQueue, withRound}
 use Rattle.model_protocol.specs.Change.{coordinatorNow, done}
 use Rattle.model_protocol.specs.Deliver.{deliveryChange, noPlaceFor}
-use Rattle.model_protocol.specs.Limits.{slotPlaces, processPlaces}
+use Rattle.model_protocol.specs.Limits.{slotPlaces}
 use Rattle.model_protocol.specs.Message.{acceptTo, acceptedFrom, followTo, prepareTo, promiseFrom, requestTo, restoreTo, tellTo}
 use Rattle.model_protocol.specs.Places.{deliveryPlaces, placesOf}
-use Rattle.model_protocol.specs.Process.{following, hearingOutcome, taking, takesFollow}
+use Rattle.model_protocol.specs.Process.{following, hearingOutcome, taking, takesFollow, takesRestore}
 use Rattle.model_protocol.specs.Queue.{isFull, isIn, joined, joining, queued}
 use Rattle.model_protocol.specs.Send.{lacksNumbers}
-use Rattle.model_protocol.specs.Step.{acceptorsCounted, cannotOpen, cannotPropose, changed, changeOf, heldStore, messageFor, messageIn, partsAt, partsOf, placesIn, replayIn, stepChecks, stepOf, stepRefusal, updateOf, voterNotHolder, votingStore}
-use Rattle.model_protocol.specs.World.{slotOf, coordinatorOf, crashed, followsOf, logOf, messageOf, newRound, processOf, replayWith, withMessage}
+use Rattle.model_protocol.specs.Step.{acceptorsCounted, cannotOpen, cannotPropose, changed, changeOf, heldStore, messageFor, messageIn, partsAt, partsOf, placesIn, replayIn, stepChecks, stepOf, stepRefusal, otherTurn, updateOf, voterNotHolder, votingStore}
+use Rattle.model_protocol.specs.World.{slotOf, coordinatorOf, crashed, followsOf, logOf, messageOf, newRound, processOf, replayWith, startedIn, upAgain}
 use Rattle.model_agreement.specs.Bounds.{InRange}
 use Rattle.model_agreement.specs.Content.{Content, contentAs, follow, paxos, request, restore, tell}
-use Rattle.model_agreement.specs.History.{Event, asked, delivered, note, noted, opened, restoring, setup}
-use Rattle.model_agreement.proofs.Tests.{Passed, Positive, both, is-false, is-true, neither, neqb→ne, none-of-five, none-of-three, not-first, not-not, not-second, passed}
-use Rattle.model_agreement.proofs.ChangedWorld.{accepts-sent, acceptors-changed, slot-answers, slotAt, coordinator-changed, coordinator-learns, down-changed, nothing, only-sends, prepares-sent, process-changed, process-follows, process-takes, restore-sent, withAcceptors, withSlot, withCoordinator, withDown, withFollowed, withLearned, withProcess, withTaken}
+use Rattle.model_agreement.specs.History.{Event, asked, back, delivered, note, noted, opened, restoring, setup}
+use Rattle.model_agreement.proofs.Tests.{Passed, Positive, both, is-false, is-true, neither, neqb→ne, none-of-five, none-of-three, not-not, not-second, passed}
+use Rattle.model_agreement.proofs.ChangedWorld.{accepts-sent, acceptors-changed, slot-answers, slotAt, coordinator-changed, coordinator-learns, down-changed, nothing, only-sends, prepares-sent, process-changed, process-follows, process-starts, process-takes, restore-sent, withAcceptors, withSlot, withCoordinator, withDown, withFollowed, withLearned, withProcess, withStarted, withTaken}
 use Rattle.model_agreement.proofs.SentMessages.{AllNew, At, OneNew, Outbox, Posts, Roomy, at-new, outboxOf, posted, posts-all, posts-both, posts-one, send-posts}
 
 -- the accepted pair that a round keeps after a promise with the pair (d, v)
@@ -67,6 +68,7 @@ pub data Higher (r : Round) (d : ℕ) (v : Batch) : ℕ → Batch → Type 0 whe
 -- a step after setup that was answered 0
 pub data Move (w : World) (h : List Event) : World → List Event → Type 0 where
   asks : (e : Entry) (k : ℕ) (ms : Outbox) (c : ℕ) → k < coordinators
+      → processOf w (e .process) .turn ≡ e .turn
       → Posts (outboxOf w) (w .sent) ms c (OneNew (w .sent) (request k e))
       → Move w h (posted w ms c) (asked e ∷ h)
   opens : (k i b : ℕ) (ms : Outbox) (c : ℕ) → k < coordinators → i < instances → b ≤ ballots
@@ -93,7 +95,7 @@ pub data Move (w : World) (h : List Event) : World → List Event → Type 0 whe
       → heldStore (logOf w k) p < stores
       → Posts (outboxOf w) (w .sent) ms c
       (OneNew (w .sent)
-      (restore p (heldStore (logOf w k) p) (coordinatorOf w k .applied)
+      (restore p (turnOf (logOf w k) (heldStore (logOf w k) p)) (heldStore (logOf w k) p) (coordinatorOf w k .applied)
       (replayOf (logOf w k) (heldStore (logOf w k) p))
       (awaitedOf (logOf w k) (heldStore (logOf w k) p))))
       → Move w h (posted w ms c) (restoring k (w .sent) ∷ h)
@@ -105,6 +107,9 @@ pub data Move (w : World) (h : List Event) : World → List Event → Type 0 whe
       (follow p (votingStore (logOf w k) p tx) tx (outcomeOf (logOf w k) tx) (updateOf (logOf w k) tx (votingStore (logOf w k) p tx))))
       → Move w h (posted w ms c) h
   crashes : (d : Down) → Move w h (withDown w d) h
+  comes-back : (p t : ℕ) (d : Down) → p ≤ processes
+      → processOf w p .turn < t
+      → Move w h (withStarted w p (startedIn t) d) (back p t ∷ h)
   -- a message is delivered to an acceptor
   promises : (j i b a : ℕ) (ms : Outbox) (c : ℕ) → At (outboxOf w) (w .sent) j (paxos (prepare i b a))
       → slotOf w a i .promised < b
@@ -157,12 +162,12 @@ pub data Move (w : World) (h : List Event) : World → List Event → Type 0 whe
   -- to a process
   is-told : (j p tx : ℕ) (o : Outcome) → At (outboxOf w) (w .sent) j (tell p tx o)
       → Move w h (withProcess w p (hearingOutcome (processOf w p) tx o)) (delivered j (tell p tx o) ∷ h)
-  takes : (j p s i : ℕ) (r : Replay) (n : ℕ) → At (outboxOf w) (w .sent) j (restore p s i r n)
-      → T (ltb (processOf w p .position) i)
-      → Move w h (withTaken w p (taking (processOf w p) s i n) r) (delivered j (restore p s i r n) ∷ h)
-  passes-restore : (j p s i : ℕ) (r : Replay) (n : ℕ) → At (outboxOf w) (w .sent) j (restore p s i r n)
-      → T (not (ltb (processOf w p .position) i))
-      → Move w h w (delivered j (restore p s i r n) ∷ h)
+  takes : (j p t s i : ℕ) (r : Replay) (n : ℕ) → At (outboxOf w) (w .sent) j (restore p t s i r n)
+      → T (takesRestore (processOf w p) t i)
+      → Move w h (withTaken w p (taking (processOf w p) s i n) r) (delivered j (restore p t s i r n) ∷ h)
+  passes-restore : (j p t s i : ℕ) (r : Replay) (n : ℕ) → At (outboxOf w) (w .sent) j (restore p t s i r n)
+      → T (not (takesRestore (processOf w p) t i))
+      → Move w h w (delivered j (restore p t s i r n) ∷ h)
   takes-follow : (j p s tx : ℕ) (o : Outcome) (u : ℕ) → At (outboxOf w) (w .sent) j (follow p s tx o u)
       → T (takesFollow (processOf w p) s tx)
       → Move w h
@@ -313,15 +318,15 @@ module _ (w : World) (h : List Event) (room : Roomy (outboxOf w)) (few : w .acce
         to-world (process-changed w (processAt (m .to)) y m (hearingOutcome (processOf w (m .to)) (m .tx) (m .outcome)))
         (is-told j (m .to) (m .tx) (m .outcome) s)
 
-    t-taken : At (outboxOf w) (w .sent) j (restore (m .to) (m .store) (m .position) y (m .running)) → Handled j m y kind.Restore (processAt (m .to))
+    t-taken : At (outboxOf w) (w .sent) j (restore (m .to) (m .turn) (m .store) (m .position) y (m .running)) → Handled j m y kind.Restore (processAt (m .to))
     unfolding deliveryChange
     t-taken s _ =
         let at = processAt (m .to) in
         let q = processOf w (m .to) in
-        move-by (λ (ch : Change). changed w at y ch) (ltb (q .position) (m .position))
+        move-by (λ (ch : Change). changed w at y ch) (takesRestore q (m .turn) (m .position))
         (λ f. to-world (process-takes w at y m (taking q (m .store) (m .position) (m .running)))
-        (takes j (m .to) (m .store) (m .position) y (m .running) s f))
-        (λ f. to-world (nothing w at y m) (passes-restore j (m .to) (m .store) (m .position) y (m .running) s f))
+        (takes j (m .to) (m .turn) (m .store) (m .position) y (m .running) s f))
+        (λ f. to-world (nothing w at y m) (passes-restore j (m .to) (m .turn) (m .store) (m .position) y (m .running) s f))
 
     t-followed : At (outboxOf w) (w .sent) j (follow (m .to) (m .store) (m .tx) (m .outcome) (m .update)) → Handled j m y kind.Follow (processAt (m .to))
     unfolding deliveryChange
@@ -375,12 +380,15 @@ module _ (w : World) (h : List Event) (room : Roomy (outboxOf w)) (few : w .acce
         one true b f g t = inl (f tt)
         one false b f g t = inr (g t)
 
-    t-ask : (e : Entry) (k : ℕ) (at : Places) → Taken (Request e k) at r d
+    t-ask : (e : Entry) (k : ℕ) → Taken (Request e k) (processAt (e .process)) r d
     unfolding changeOf stepChecks outsideStep
-    t-ask e k at p =
-        to-trans (only-sends w at r d (requestTo k e))
-        (moves (live (neither (eqb (w .acceptors) 0) (voterNotHolder e (processOf w (at .process))) (p .1 .1 .0) .0))
+    t-ask e k p =
+        let x = processOf w (e .process) in
+        let m = none-of-three (eqb (w .acceptors) 0) (otherTurn e x) (voterNotHolder e x) (p .1 .1 .0) in
+        to-trans (only-sends w (processAt (e .process)) r d (requestTo k e))
+        (moves (live (m .0))
         (asks e k _ _ (nleb→lt coordinators k (neither (outside e) (noCoordinator k) (p .0) .1))
+        (sym (eqb→eq (e .turn) (x .turn) (not-not (eqb (e .turn) (x .turn)) (m .1))))
         (posts-one (outboxOf w) (w .sent) (requestTo k e) room (one-left (p .1 .1 .1 .0)))))
 
     t-open : (k i b : ℕ) → Taken (Open k i b) (coordinatorAt k) r d
@@ -439,6 +447,14 @@ module _ (w : World) (h : List Event) (room : Roomy (outboxOf w)) (few : w .acce
     unfolding changeOf stepChecks
     t-crash role id at p = to-trans (down-changed w at r d (crashed (w .down) role id)) (moves (live (p .1 .1 .0)) (crashes _))
 
+    t-back : (q t : ℕ) → Taken (Back q t) (processAt q) r d
+    unfolding changeOf stepChecks outsideStep
+    t-back q t p =
+        let m = neither (eqb (w .acceptors) 0) (leb t (processOf w q .turn)) (p .1 .0) in
+        let l = neither (eqb q 0) (ltb processes q) (neither (noProcess q) (noTurn t) (p .0) .0) in
+        to-trans (process-starts w (processAt q) r d (startedIn t) (upAgain (w .down) q))
+        (moves (live (m .0)) (comes-back q t _ (nltb→le processes q (l .1)) (nleb→lt t (processOf w q .turn) (m .1))))
+
   process-in : (p : ℕ) → T (not (noProcess p)) → (0 < p) × (p ≤ processes)
   process-in p t = let q = neither (eqb p 0) (ltb processes p) t in let z = neqb→ne p 0 (q .0) in (omega arith, nltb→le processes p (q .1))
 
@@ -447,7 +463,7 @@ module _ (w : World) (h : List Event) (room : Roomy (outboxOf w)) (few : w .acce
   tellBy p tx k = tellTo p tx (outcomeOf (logOf w k) tx)
 
   abbrev restoreBy : ℕ → ℕ → Message
-  restoreBy p k = restoreTo p (heldStore (logOf w k) p) (coordinatorOf w k .applied) (awaitedOf (logOf w k) (heldStore (logOf w k) p))
+  restoreBy p k = restoreTo p (turnOf (logOf w k) (heldStore (logOf w k) p)) (heldStore (logOf w k) p) (coordinatorOf w k .applied) (awaitedOf (logOf w k) (heldStore (logOf w k) p))
 
   abbrev followBy : ℕ → ℕ → ℕ → Message
   followBy p tx k =
@@ -489,6 +505,10 @@ module _ (w : World) (h : List Event) (room : Roomy (outboxOf w)) (few : w .acce
       → Taken s (coordinatorAt (k % coordinators)) r (d (k % coordinators))
   at-its-place k s r d l f = rw (mod-eq-of-lt (nleb→lt coordinators k l)) f
 
+  -- and its process
+  at-its-process : (q : ℕ) (s : Step) (r : Replay) (d : Message) → q ≤ processes → Taken s (processAt q) r d → Taken s (processAt (q % processPlaces)) r d
+  at-its-process q s r d l f = let e : q % processPlaces ≡ q = mod-eq-of-lt (omega arith) in rw e f
+
   t-deliver-step : (j : ℕ) → Taken (Deliver j) (deliveryPlaces (messageOf w j) (messageOf w j .kind)) (replayWith w j) (messageOf w j)
   unfolding changeOf stepChecks
   t-deliver-step j p =
@@ -498,7 +518,8 @@ module _ (w : World) (h : List Event) (room : Roomy (outboxOf w)) (few : w .acce
   t-step : (s : Step) → Taken s (placesIn w s) (replayIn w s) (messageIn w s)
   unfolding placesOf messageFor outsideStep
   t-step (Setup n) p = t-setup _ _ n _ p
-  t-step (Request e k) p = t-ask _ _ e k _ p
+  t-step (Request e k) p =
+      at-its-process (e .process) (Request e k) _ _ (inside-process e (is-false (outside e) (neither (outside e) (noCoordinator k) (p .0) .0)) .1) (t-ask _ _ e k) p
   t-step (Open k i b) p =
       at-its-place k (Open k i b) _ (λ _. messageOf w 0) (none-of-three (noCoordinator k) (leb instances i) (noBallot b) (p .0) .0) (t-open _ _ k i b) p
   t-step (Propose k i b) p =
@@ -512,6 +533,7 @@ module _ (w : World) (h : List Event) (room : Roomy (outboxOf w)) (few : w .acce
   t-step (Follow k p tx) q =
       at-its-place k (Follow k p tx) _ (followBy p tx) (none-of-three (noCoordinator k) (noProcess p) (leb transactions tx) (q .0) .0) (t-follow _ k p tx) q
   t-step (Crash role id) p = t-crash _ _ role id _ p
+  t-step (Back q t) p = at-its-process q (Back q t) _ _ (process-in q (neither (noProcess q) (noTurn t) (p .0) .0) .1) (t-back _ _ q t) p
 
   positive : (p : Parts) (s : Step) → Positive (check outsideLimits (outsideStep (acceptorsCounted (p .acceptors)) s) ∷ stepChecks p s)
   unfolding stepChecks
@@ -524,6 +546,7 @@ module _ (w : World) (h : List Event) (room : Roomy (outboxOf w)) (few : w .acce
   positive p (Restore k q) = (tt, (tt, (tt, (tt, tt))))
   positive p (Follow k q tx) = (tt, (tt, (tt, (tt, tt))))
   positive p (Crash role id) = (tt, (tt, (tt, tt)))
+  positive p (Back q t) = (tt, (tt, tt))
 
   pub trans : (s : Step) → Trans w h (stepOf w s .world) (noted w s h)
   unfolding stepOf noted stepRefusal

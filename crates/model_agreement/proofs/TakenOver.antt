@@ -1,12 +1,11 @@
 -- A store that was taken over: what its holder holds of the updates that earlier holders voted for.
-use Prim.Native.Nat.{ℕ, _≤_, _<_}
+use Prim.Native.Nat.{ℕ}
 use mathlib.Core.Path.{_≡_, refl, sym, ap, subst, _∙_}
 use mathlib.Core.Bool.{Bool, true, false, _&&_, not, cond}
 use mathlib.Core.List.{List, [], _∷_, _++_, List·Memᴰ, List·Memᴰ·cases-cons, List·Memᴰ·not-nil}
 use mathlib.Core.Logic.{_⊎_, inl, inr, _≢_, ⊎-elim}
 use borrow.Author.Tests.{eqb-true}
 use lib.Dec.{T, eqb, eqb→eq, ltb}
-use lib.ListN.{drop, take}
 use Rattle.log_entry.specs.declared.Entry.{Entry}
 use Rattle.log_entry.specs.Bits.{has}
 use Rattle.log_entry.proofs.Tests.{and-left, and-right}
@@ -15,23 +14,19 @@ use Rattle.log_votes.specs.declared.Outcome.{Outcome}
 use Rattle.log_votes.specs.declared.Outcome.the-variants.{Commit, Open}
 use Rattle.log_votes.specs.declared.Vote.{Vote}
 use Rattle.log_votes.specs.Outcome.{isCommitted}
-use Rattle.log_core.specs.Enter.{feed}
 use Rattle.log_core.specs.Follow.{awaitedOf}
-use Rattle.log_core.specs.Log.{emptyLog, holderOf, outcomeOf, voteAt}
+use Rattle.log_core.specs.Log.{holderOf, outcomeOf, turnOf, voteAt}
 use Rattle.log_core.specs.Replay.{replayOf}
 use Rattle.log_laws.specs.Conditions.{Took}
 use Rattle.log_laws.specs.Reached.{reached}
 use Rattle.log_laws.specs.TakenOver.{CommittedUpdate, RowIn}
 use Rattle.log_laws.specs.Votes.{Kept, KeptCommit}
 use Rattle.log_laws.proofs.Theorems.{kept-vote-stays, lost-store-votes-no-more, outcome-never-changes, replayed-or-awaited, row-stays-committed}
-use Rattle.model_protocol.specs.declared.Batch.{Batch}
 use Rattle.model_protocol.specs.Step.{updateOf}
 use Rattle.model_agreement.specs.Content.{follow, paxos, request, restore, tell}
-use Rattle.model_agreement.specs.History.{Event, Follow, Got, Restored, asked, delivered, here, isFollowed, isOf, isTaken, opened, restoredOf, restoring, setup, takes, there, withFollow}
-use Rattle.model_agreement.specs.Plain.{allEntries, plainLog}
-use Rattle.model_agreement.specs.TakenOver.{AllFollowed, CommitFollowed, EarlierCommit, FollowedWell, Holds}
+use Rattle.model_agreement.specs.History.{Event, Follow, Got, Restored, asked, back, delivered, here, isFollowed, isOf, isTaken, noneTaken, opened, restoredOf, restoring, setup, there, withFollow}
+use Rattle.model_agreement.specs.TakenOver.{AllFollowed, CommitFollowed, FollowedWell, Holds}
 use Rattle.model_agreement.proofs.FollowsKept.{followed-in}
-use Rattle.model_agreement.proofs.Plain.{plain-reached}
 
 -- ---- a follow that was taken was delivered, to the process and for its store
 
@@ -42,17 +37,25 @@ taken-got p (setup n ∷ h) f t = there (taken-got p h f t)
 taken-got p (asked e ∷ h) f t = there (taken-got p h f t)
 taken-got p (opened c i b ∷ h) f t = there (taken-got p h f t)
 taken-got p (restoring c m ∷ h) f t = there (taken-got p h f t)
+taken-got p (back q v ∷ h) f t = go (eqb p q) (taken-got p h f) t
+  where
+    go : (b : Bool) → (List·Memᴰ f (restoredOf p h .follows) → Got (follow p (restoredOf p h .store) (f .tx) (f .outcome) (f .update)) h)
+        → List·Memᴰ f (cond b (noneTaken v) (restoredOf p h) .follows)
+        → Got (follow p (cond b (noneTaken v) (restoredOf p h) .store) (f .tx) (f .outcome) (f .update)) (back q v ∷ h)
+    go true r t = absurd (List·Memᴰ·not-nil t)
+    go false r t = there (r t)
 taken-got p (delivered m (paxos x) ∷ h) f t = there (taken-got p h f t)
 taken-got p (delivered m (request k e) ∷ h) f t = there (taken-got p h f t)
 taken-got p (delivered m (tell q x o) ∷ h) f t = there (taken-got p h f t)
-taken-got p (delivered m (restore q s i rows n) ∷ h) f t = go (eqb p q && ltb (restoredOf p h .position) i) (taken-got p h f) t
+taken-got p (delivered m (restore q v s i rows n) ∷ h) f t =
+    go (eqb p q && (eqb (restoredOf p h .turn) v && ltb (restoredOf p h .position) i)) (taken-got p h f) t
   where
     new : Restored
-    new = record { number = m; store = s; position = i; replay = rows; running = n; follows = [] }
+    new = record { turn = restoredOf p h .turn; number = m; store = s; position = i; replay = rows; running = n; follows = [] }
 
     go : (b : Bool) → (List·Memᴰ f (restoredOf p h .follows) → Got (follow p (restoredOf p h .store) (f .tx) (f .outcome) (f .update)) h)
         → List·Memᴰ f (cond b new (restoredOf p h) .follows)
-        → Got (follow p (cond b new (restoredOf p h) .store) (f .tx) (f .outcome) (f .update)) (delivered m (restore q s i rows n) ∷ h)
+        → Got (follow p (cond b new (restoredOf p h) .store) (f .tx) (f .outcome) (f .update)) (delivered m (restore q v s i rows n) ∷ h)
     go true r t = absurd (List·Memᴰ·not-nil t)
     go false r t = there (r t)
 taken-got p (delivered m (follow q s x o u) ∷ h) f t =
@@ -109,7 +112,7 @@ module _ (es more : List Entry) (store tx : ℕ) where
 
 module _ (es more : List Entry) (p : ℕ) (r : Restored)
     (rows : r .replay ≡ replayOf (reached es) (r .store)) (running : r .running ≡ awaitedOf (reached es) (r .store))
-    (holder : holderOf (reached es) (r .store) ≡ p)
+    (holder : holderOf (reached es) (r .store) ≡ p) (turn : turnOf (reached es) (r .store) ≡ r .turn)
     (follows : (f : Follow) → List·Memᴰ f (r .follows) → FollowedWell (reached (es ++ more)) (r .store) (f .tx) (f .outcome) (f .update)) where
   abbrev then : Log
   then = reached es
@@ -144,12 +147,15 @@ module _ (es more : List Entry) (p : ℕ) (r : Restored)
         go (inl x) = inl (rw (rows, same) x)
         go (inr x) = let t = followed-in tx (r .follows) (all tx (rw running x)) in inr (brought (t .0) (t .1) (t .2))
 
-    pub lost-none : AllFollowed r → Took es (voteNow tx .process) (r .store) → voteNow tx .process ≢ p → Holds r tx (voteNow tx .update)
+    pub lost-none : AllFollowed r → Took es (voteNow tx .process) (voteNow tx .turn) (r .store)
+        → (voteNow tx .process ≡ p → voteNow tx .turn ≢ r .turn) → Holds r tx (voteNow tx .update)
     lost-none all took another =
         held all (before, ap (λ (v : Vote). v .commit) (sym (kept-vote-stays es more tx (r .store) before)) ∙ kept .1)
       where
         before : Kept then tx (r .store)
-        before = lost-store-votes-no-more es more tx (r .store) (voteNow tx .process) took (λ z. another (sym z ∙ holder)) kept refl
+        before =
+            lost-store-votes-no-more es more tx (r .store) (voteNow tx .process) (voteNow tx .turn) took
+            (λ z. another (sym (z .0) ∙ holder) (sym (z .1) ∙ turn)) kept refl refl
 
   pub invented-none : (tx update : ℕ) → Holds r tx update → CommittedUpdate now tx (r .store) update
   invented-none tx update (inl x) = row-stays-committed es more tx (r .store) update (rw rows at x)

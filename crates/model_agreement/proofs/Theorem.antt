@@ -16,7 +16,7 @@ use Rattle.log_votes.specs.declared.Outcome.{Outcome}
 use Rattle.log_votes.specs.declared.Outcome.the-variants.{Open, Commit, Abort}
 use Rattle.log_core.specs.Enter.{feed}
 use Rattle.log_core.specs.Follow.{awaitedOf}
-use Rattle.log_core.specs.Log.{holderOf, outcomeOf, voteAt}
+use Rattle.log_core.specs.Log.{holderOf, outcomeOf, turnOf, voteAt}
 use Rattle.log_votes.specs.Outcome.{isOpen}
 use Rattle.log_core.specs.Replay.{replayOf}
 use Rattle.model_steps.specs.declared.Step.{Step}
@@ -39,7 +39,7 @@ use Rattle.model_agreement.specs.Claim.{Demand3, IsSequence, RestoredWel
 use Rattle.model_agreement.specs.Content.{follow, paxos, request, restore, tell}
 use Rattle.model_agreement.specs.Plain.{allEntries, plainLog}
 use Rattle.model_agreement.specs.TakenOver.{AllFollowed, EarlierCommit, FollowedWell, Holds, TakenOver}
-use Rattle.model_agreement.specs.History.{Accepts, Applied, Decided, Event, Follow, Got, Restored, Happened, acceptors, asked, delivered, first, heardOf, here, history, later, opened, restoredOf, restoring, setup, there}
+use Rattle.model_agreement.specs.History.{Accepts, Applied, Decided, Event, Follow, Got, Restored, Happened, acceptors, asked, back, delivered, first, heardOf, here, history, later, opened, restoredOf, restoring, setup, there}
 use Rattle.model_agreement.proofs.Collected.{collected, is-collected, was-said}
 use Rattle.model_agreement.proofs.AllInvariants.{Extends, Good, good, history-extends}
 use Rattle.model_agreement.proofs.BallotInvariant.{Said}
@@ -47,6 +47,7 @@ use Rattle.model_agreement.proofs.Plain.{plain-reached, plain-split}
 use Rattle.model_agreement.proofs.LogsAndProcesses.{Front, Given, Told, brought-of, fine-of, given-of, told-of}
 use Rattle.model_agreement.proofs.SentMessages.{outboxOf}
 use Rattle.model_agreement.proofs.TakenOver.{followed-stays, invented-none, lost-none, taken-got}
+use Rattle.model_agreement.proofs.Turns.{restored-turn, taken-in-turn}
 
 -- ---- sequences of one history, and of a longer one
 
@@ -90,9 +91,15 @@ heard-told p tx (setup n ∷ h) d = there (heard-told p tx h d)
 heard-told p tx (asked e ∷ h) d = there (heard-told p tx h d)
 heard-told p tx (opened c i b ∷ h) d = there (heard-told p tx h d)
 heard-told p tx (restoring c m ∷ h) d = there (heard-told p tx h d)
+heard-told p tx (back q v ∷ h) d = go (eqb p q) (heard-told p tx h) d
+  where
+    go : (b : Bool) → (heardOf p tx h ≢ Open → Got (tell p tx (heardOf p tx h)) h)
+        → cond b Open (heardOf p tx h) ≢ Open → Got (tell p tx (cond b Open (heardOf p tx h))) (back q v ∷ h)
+    go true r d = absurd (d refl)
+    go false r d = there (r d)
 heard-told p tx (delivered m (paxos x) ∷ h) d = there (heard-told p tx h d)
 heard-told p tx (delivered m (request k e) ∷ h) d = there (heard-told p tx h d)
-heard-told p tx (delivered m (restore q s i r n) ∷ h) d = there (heard-told p tx h d)
+heard-told p tx (delivered m (restore q v s i r n) ∷ h) d = there (heard-told p tx h d)
 heard-told p tx (delivered m (follow q s t o u) ∷ h) d = there (heard-told p tx h d)
 heard-told p tx (delivered m (tell q t o) ∷ h) d = go (eqb p q) (eqb tx t) (eqb→eq p q) (eqb→eq tx t) (heard-told p tx h) d
   where
@@ -230,6 +237,8 @@ module _ {w : World} {h : List Event} (G : Good w h) where
         within = omega (arith, f .0, g .size);
         rows = g .rows ∙ ap (λ l. replayOf (plainLog l) (restoredOf p h .store)) e;
         holder = ap (λ l. holderOf (plainLog l) (restoredOf p h .store)) (sym e) ∙ g .holder;
+        turn = ap (λ l. turnOf (plainLog l) (restoredOf p h .store)) (sym e) ∙ g .turn;
+        taken = taken-in-turn p h l;
         running = g .running ∙ ap (λ l. awaitedOf (plainLog l) (restoredOf p h .store)) e;
       }
 
@@ -258,7 +267,7 @@ module _ {w : World} {h : List Event} (G : Good w h) where
       abbrev r : Restored
       r = restoredOf p h
 
-      sent : Given n h S (r .number) p (r .store) (r .position) (r .replay) (r .running)
+      sent : Given n h S (r .number) p (r .turn) (r .store) (r .position) (r .replay) (r .running)
       sent = given-of (G .rest .sent (G .kept .taken p l))
 
       abbrev es : List Entry
@@ -277,7 +286,7 @@ module _ {w : World} {h : List Event} (G : Good w h) where
       unfolding plainLog
       no-loss tx all e =
           rw is
-          (lost-none es rest p r (sent .rows) (sent .running) (sent .holder) its-follows tx (rw is at (e .kept-commit)) (rw is at (e .committed)) all
+          (lost-none es rest p r (sent .rows) (sent .running) (sent .holder) (sent .turn) its-follows tx (rw is at (e .kept-commit)) (rw is at (e .committed)) all
           (rw (is, at-position) at (e .took))
           (rw is at (e .another)))
         where
@@ -286,11 +295,11 @@ module _ {w : World} {h : List Event} (G : Good w h) where
 
       no-invention : (tx update : ℕ) → Holds r tx update → CommittedUpdate (plainLog s) tx (r .store) update
       unfolding plainLog
-      no-invention tx update t = rw is (invented-none es rest p r (sent .rows) (sent .running) (sent .holder) its-follows tx update t)
+      no-invention tx update t = rw is (invented-none es rest p r (sent .rows) (sent .running) (sent .holder) (sent .turn) its-follows tx update t)
 
-    list-is : {p store position running : ℕ} {y : Replay} → Got (restore p store position y running) h
+    list-is : {p turn store position running : ℕ} {y : Replay} → Got (restore p turn store position y running) h
         → (position ≤ length s) × (running ≡ awaitedOf (plainLog (take position s)) store)
-    list-is {p} {store} g =
+    list-is {p} {turn} {store} g =
         let f = given-of (G .rest .sent (G .got .was g .at)) in
         let longer : length sequence ≡ min (length sequence) (length s) = ap length b ∙ length-take (length sequence) s in (
           omega (arith, longer, front (f .batches) (f .front) .0, f .size),
@@ -323,11 +332,13 @@ demand-3 steps = record {
   applied-within = within G;
   logs = log-is G;
   entries = entry-asked G;
+  entries-in-turn = λ y. G .asked-in-turn _ _ y;
   heard = heard-is G;
   heard-stays = λ g more s P. heard-stays steps more s P g;
   heard-kept = λ p tx. G .kept .each p .heard tx;
   kept-outcome = kept-is G;
   restored = restored-well G;
+  present-turn = λ p. G .kept .each p .turn ∙ restored-turn p (history steps);
   restored-store = λ p. G .kept .each p .store;
   restored-position = λ p. G .kept .each p .position;
   restored-replay = G .kept .replays;

@@ -32,7 +32,7 @@ InRange n (paxos (accept i b a v)) = BallotRange n i b a
 InRange n (paxos (accepted i b a)) = BallotRange n i b a
 InRange n (request k e) = k < coordinators
 InRange n (tell p tx o) = (p ≤ processes) × (tx < transactions)
-InRange n (restore p s i r running) = (0 < p) × (p ≤ processes) × (i ≤ instances)
+InRange n (restore p t s i r running) = (0 < p) × (p ≤ processes) × (i ≤ instances)
 InRange n (follow p s tx o u) = (0 < p) × (p ≤ processes) × (tx < transactions) × (s < stores)
 
 pub record CellRange (x : AcceptorSlot) : Type 0 where
@@ -61,7 +61,7 @@ pub record Bounds (w : World) : Type 0 where
   pub slots : (k : ℕ) → CellRange (getD (w .slots) k emptySlot)
   pub cos : (k : ℕ) → CoRange (w .acceptors) (coordinatorOf w k)
   pub queues : (k : ℕ) → coordinatorOf w k .queue .count ≤ queuePlaces
-  pub stores : {j p s i n : ℕ} {r : _} → Says w j (restore p s i r n) → s < stores
+  pub stores : {j p t s i n : ℕ} {r : _} → Says w j (restore p t s i r n) → s < stores
   pub one-to-four : {j i b a : ℕ} {v : Batch} → Says w j (paxos (accept i b a v)) → (0 < v .count) × (v .count ≤ batchEntries)
   pub one-batch : {j k i b a c : ℕ} {v u : Batch} → Says w j (paxos (accept i b a v)) → Says w k (paxos (accept i b c u)) → v ≡ u
 

@@ -11,7 +11,7 @@ use Rattle.log_entry.specs.Bits.{has}
 use Rattle.log_votes.specs.declared.Outcome.{Outcome}
 use Rattle.log_votes.specs.declared.Outcome.the-variants.{Open}
 use Rattle.log_core.specs.Follow.{awaitedOf}
-use Rattle.log_core.specs.Log.{holderOf, outcomeOf}
+use Rattle.log_core.specs.Log.{holderOf, outcomeOf, turnOf}
 use Rattle.log_core.specs.Replay.{replayOf}
 use Rattle.model_steps.specs.declared.Step.{Step}
 use Rattle.model_protocol.specs.declared.Batch.{Batch}
@@ -21,8 +21,8 @@ use Rattle.model_protocol.specs.declared.World.{World}
 use Rattle.model_protocol.specs.Batch.{entriesOf, noBatch}
 use Rattle.model_protocol.specs.Step.{run}
 use Rattle.model_protocol.specs.World.{coordinatorOf, followsOf, freshWorld, logOf, noFollowed, processOf, restoredTo}
-use Rattle.model_agreement.specs.Content.{tell}
-use Rattle.model_agreement.specs.History.{Applied, Before, Decided, Event, Follow, Got, Happened, Restored, acceptors, asked, heardOf, history, restoredOf, restoring}
+use Rattle.model_agreement.specs.Content.{restore, tell}
+use Rattle.model_agreement.specs.History.{Applied, Before, Decided, Event, Follow, Got, Happened, Restored, acceptors, asked, delivered, heardOf, history, restoredOf, restoring, turnNow}
 use Rattle.model_agreement.specs.Plain.{plainLog}
 use Rattle.model_agreement.specs.TakenOver.{TakenOver}
 
@@ -47,6 +47,14 @@ KeepsFollow p fs f =
     (has (p .followed) (f .tx) ≡ true)
     × (getD (fs .of) (f .tx) noFollowed ≡ record { outcome = f .outcome; update = f .update })
 
+-- p took the restore r when it was delivered, at the turn that it names, and did not come back
+-- since
+pub record TakenInTurn (p : ℕ) (r : Restored) (h : List Event) : Type 0 where
+  pub before : List Event
+  pub delivery : Before (delivered (r .number) (restore p (r .turn) (r .store) (r .position) (r .replay) (r .running))) before h
+  pub turn-then : turnNow p before ≡ r .turn
+  pub turn-still : turnNow p h ≡ r .turn
+
 -- the restore r that p took last, after the history h with the sequence s
 pub record RestoredWell (p : ℕ) (r : Restored) (h : List Event) (s : List Batch) : Type 0 where
   -- its sender, and the history when it was sent
@@ -60,6 +68,9 @@ pub record RestoredWell (p : ℕ) (r : Restored) (h : List Event) (s : List Batc
   -- holder"
   pub rows : r .replay ≡ replayOf (plainLog (take (r .position) s)) (r .store)
   pub holder : holderOf (plainLog (take (r .position) s)) (r .store) ≡ p
+  -- "a restore names the holder's turn and is taken only at that turn"
+  pub turn : turnOf (plainLog (take (r .position) s)) (r .store) ≡ r .turn
+  pub taken : TakenInTurn p r h
   -- it lists exactly "the running transactions in which the store has a kept commit vote"
   pub running : r .running ≡ awaitedOf (plainLog (take (r .position) s)) (r .store)
 
@@ -79,6 +90,9 @@ pub record Claim (steps : List Step) (h : List Event) (w : World) : Type 0 where
   pub logs : (k : ℕ) → logOf w k ≡ plainLog (take (coordinatorOf w k .applied) sequence)
   -- "Each entry in the sequence was sent by the process it names", with all its values
   pub entries : (i : ℕ) → i < length sequence → (e : Entry) → List·Memᴰ e (entriesOf (batchAt sequence i)) → Happened (asked e) h
+  -- and in the turn that it names: one "with another turn than the process's present one is
+  -- refused"
+  pub entries-in-turn : {e : Entry} {then : List Event} → Before (asked e) then h → turnNow (e .process) then ≡ e .turn
   -- "Each outcome a process heard is that of the plain log fed the whole sequence"
   pub heard : {p tx : ℕ} {o : Outcome} → Got (tell p tx o) h → o ≡ outcomeOf (plainLog sequence) tx
   -- and it stays so
@@ -90,7 +104,9 @@ pub record Claim (steps : List Step) (h : List Event) (w : World) : Type 0 where
   -- "Each restored store holds exactly the updates of the plain log fed the first p batches, p
   -- being the position named"
   pub restored : (p : ℕ) → 0 < restoredOf p h .position → RestoredWell p (restoredOf p h) h sequence
-  -- the world keeps the last restore that a process took
+  -- the world keeps the turn that a process came back with last
+  pub present-turn : (p : ℕ) → processOf w p .turn ≡ turnNow p h
+  -- and the last restore that it took since
   pub restored-store : (p : ℕ) → processOf w p .store ≡ restoredOf p h .store
   pub restored-position : (p : ℕ) → processOf w p .position ≡ restoredOf p h .position
   pub restored-replay : (p : ℕ) → restoredTo w p ≡ restoredOf p h .replay

@@ -15,8 +15,8 @@ pub data Content : Type 0 where
   request : ℕ → Entry → Content
   -- process, transaction, outcome
   tell : ℕ → ℕ → Outcome → Content
-  -- process, store, position, replay, the transactions listed as running
-  restore : ℕ → ℕ → ℕ → Replay → ℕ → Content
+  -- process and its turn, store, position, replay, the transactions listed as running
+  restore : ℕ → ℕ → ℕ → ℕ → Replay → ℕ → Content
   -- process, store, transaction, outcome, update
   follow : ℕ → ℕ → ℕ → Outcome → ℕ → Content
 
@@ -28,7 +28,7 @@ contentAs Accept m r = paxos (accept (m .inst) (m .ballot) (m .acceptor) (m .bat
 contentAs Promise m r = paxos (promise (m .inst) (m .ballot) (m .acceptor) (m .accepted) (m .batch))
 contentAs Accepted m r = paxos (accepted (m .inst) (m .ballot) (m .acceptor))
 contentAs Tell m r = tell (m .to) (m .tx) (m .outcome)
-contentAs Restore m r = restore (m .to) (m .store) (m .position) r (m .running)
+contentAs Restore m r = restore (m .to) (m .turn) (m .store) (m .position) r (m .running)
 contentAs Follow m r = follow (m .to) (m .store) (m .tx) (m .outcome) (m .update)
 
 abbrev pub contentOf : Message → Replay → Content

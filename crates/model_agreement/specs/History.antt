@@ -7,13 +7,14 @@ use mathlib.Core.Logic.{_≢_}
 use lib.Dec.{T, eqb, ltb}
 use Rattle.log_entry.specs.declared.Entry.{Entry}
 use Rattle.log_entry.specs.Bits.{has}
+use Rattle.log_entry.specs.Limits.{firstTurn}
 use Rattle.log_entry.specs.Refusal as refusal
 use Rattle.log_votes.specs.declared.Outcome.{Outcome}
 use Rattle.log_votes.specs.declared.Outcome.the-variants as outcome
 use Rattle.log_core.specs.declared.Replay.{Replay}
 use Rattle.model_steps.specs.declared.Step.{Step}
 use Rattle.model_steps.specs.declared.Step.the-variants as step
-use Rattle.model_steps.specs.declared.Step.the-variants.{Setup, Request, Open, Propose, Deliver, Tell, Restore, Crash}
+use Rattle.model_steps.specs.declared.Step.the-variants.{Setup, Request, Open, Propose, Deliver, Tell, Restore, Crash, Back}
 use Rattle.model_paxos.specs.Majority.{Majority}
 use Rattle.model_paxos.specs.Messages.{accept, accepted, prepare}
 use Rattle.model_protocol.specs.declared.Batch.{Batch}
@@ -36,6 +37,8 @@ pub data Event : Type 0 where
   restoring : ℕ → ℕ → Event
   -- number, content: a message was delivered
   delivered : ℕ → Content → Event
+  -- process, turn: a process came back
+  back : ℕ → ℕ → Event
 
 abbrev pub note : World → Step → List Event → List Event
 note w (Setup n) h = setup n ∷ h
@@ -47,6 +50,7 @@ note w (Tell c p tx) h = h
 note w (Restore c p) h = restoring c (w .sent) ∷ h
 note w (step.Follow c p tx) h = h
 note w (Crash role id) h = h
+note w (Back p t) h = back p t ∷ h
 
 unfoldable pub noted : World → Step → List Event → List Event
 noted w s h = cond (eqb (stepOf w s .answer) refusal.accepted) (note w s h) h
@@ -67,6 +71,17 @@ acceptors (asked e ∷ h) = acceptors h
 acceptors (opened c i b ∷ h) = acceptors h
 acceptors (restoring c m ∷ h) = acceptors h
 acceptors (delivered m x ∷ h) = acceptors h
+acceptors (back p t ∷ h) = acceptors h
+
+-- the turn that p came back with last, "1 at setup"
+abbrev pub turnNow : ℕ → List Event → ℕ
+turnNow p [] = firstTurn
+turnNow p (setup n ∷ h) = turnNow p h
+turnNow p (asked e ∷ h) = turnNow p h
+turnNow p (opened c i b ∷ h) = turnNow p h
+turnNow p (restoring c m ∷ h) = turnNow p h
+turnNow p (delivered m x ∷ h) = turnNow p h
+turnNow p (back q t ∷ h) = cond (eqb p q) t (turnNow p h)
 
 -- the event e happened, and h₀ is the history before it
 pub data Before (e : Event) (h₀ : List Event) : List Event → Type 0 where
@@ -109,6 +124,7 @@ Other k (asked e) = Unit {0}
 Other k (opened j i b) = k ≢ j
 Other k (restoring j m) = Unit {0}
 Other k (delivered m x) = Unit {0}
+Other k (back p t) = Unit {0}
 
 -- the last ballot that k opened is b, in i
 pub data LastOpened (k i b : ℕ) : List Event → Type 0 where
@@ -129,27 +145,29 @@ pub record Applied (n k p : ℕ) (h : List Event) : Type 0 where
   pub learned : (i : ℕ) → i < p → Learns n k i h
   pub only : (i : ℕ) → Learns n k i h → i < p
 
--- ---- what deliveries make of a value, the newest last
+-- ---- what the deliveries since process p last came back make of a value, the newest last. It has
+-- the value `start` of its turn then, and at first
 
-abbrev pub overDeliveries : {A : Type 0} → (ℕ → Content → A → A) → A → List Event → A
-overDeliveries f a [] = a
-overDeliveries f a (setup n ∷ h) = overDeliveries f a h
-overDeliveries f a (asked e ∷ h) = overDeliveries f a h
-overDeliveries f a (opened c i b ∷ h) = overDeliveries f a h
-overDeliveries f a (restoring c m ∷ h) = overDeliveries f a h
-overDeliveries f a (delivered m x ∷ h) = f m x (overDeliveries f a h)
+abbrev pub overDeliveries : {A : Type 0} → ℕ → (ℕ → Content → A → A) → (ℕ → A) → List Event → A
+overDeliveries p f start [] = start firstTurn
+overDeliveries p f start (setup n ∷ h) = overDeliveries p f start h
+overDeliveries p f start (asked e ∷ h) = overDeliveries p f start h
+overDeliveries p f start (opened c i b ∷ h) = overDeliveries p f start h
+overDeliveries p f start (restoring c m ∷ h) = overDeliveries p f start h
+overDeliveries p f start (delivered m x ∷ h) = f m x (overDeliveries p f start h)
+overDeliveries p f start (back q t ∷ h) = cond (eqb p q) (start t) (overDeliveries p f start h)
 
 -- "A process heard what the tells delivered to it say."
 abbrev pub hears : ℕ → ℕ → ℕ → Content → Outcome → Outcome
 hears p tx m (paxos x) o = o
 hears p tx m (request k e) o = o
 hears p tx m (tell q t o′) o = cond (eqb p q && eqb tx t) o′ o
-hears p tx m (restore q s i r running) o = o
+hears p tx m (restore q t s i r running) o = o
 hears p tx m (follow q s t o′ u) o = o
 
--- what p heard of tx last, open if nothing
+-- what p heard of tx last since it last came back, open if nothing
 abbrev pub heardOf : ℕ → ℕ → List Event → Outcome
-heardOf p tx h = overDeliveries (hears p tx) outcome.Open h
+heardOf p tx h = overDeliveries p (hears p tx) (λ _. outcome.Open) h
 
 -- a follow, as it was taken
 pub record Follow : Type 0 where
@@ -159,6 +177,8 @@ pub record Follow : Type 0 where
 
 -- the restore that was taken last, and the follows taken since
 pub record Restored : Type 0 where
+  -- the turn in which the process is
+  pub turn : ℕ
   -- of the message
   pub number : ℕ
   pub store : ℕ
@@ -185,6 +205,7 @@ isTaken r store tx = isOf r store && has (r .running) tx && not (isFollowed tx (
 
 abbrev pub withFollow : Restored → Follow → Restored
 withFollow r f = record {
+  turn = r .turn;
   number = r .number;
   store = r .store;
   position = r .position;
@@ -193,15 +214,23 @@ withFollow r f = record {
   follows = f ∷ r .follows;
 }
 
--- a restore "exactly if its position is above the last it took, 0 at first"; and a follow
+-- a restore "exactly if its position is above the last it took, 0 at first", and "only at that
+-- turn" which it names; and a follow
 abbrev pub takes : ℕ → ℕ → Content → Restored → Restored
 takes p m (paxos x) r = r
 takes p m (request k e) r = r
 takes p m (tell q t o) r = r
-takes p m (restore q s i rows running) r =
-    cond (eqb p q && ltb (r .position) i) (record { number = m; store = s; position = i; replay = rows; running = running; follows = [] }) r
+takes p m (restore q t s i rows running) r =
+    cond (eqb p q && (eqb (r .turn) t && ltb (r .position) i))
+    (record { turn = r .turn; number = m; store = s; position = i; replay = rows; running = running; follows = [] })
+    r
 takes p m (follow q s tx o u) r = cond (eqb p q && isTaken r s tx) (withFollow r (record { tx = tx; outcome = o; update = u })) r
 
--- "Its restored store is that of the last restore it took"; position 0 if it took none
+-- in this turn none was taken yet
+abbrev pub noneTaken : ℕ → Restored
+noneTaken turn = record { turn = turn; number = 0; store = 0; position = 0; replay = noReplay; running = 0; follows = [] }
+
+-- "Its restored store is that of the last restore it took", since it last came back; position 0 if
+-- it took none
 abbrev pub restoredOf : ℕ → List Event → Restored
-restoredOf p h = overDeliveries (takes p) (record { number = 0; store = 0; position = 0; replay = noReplay; running = 0; follows = [] }) h
+restoredOf p h = overDeliveries p (takes p) noneTaken h

@@ -1,6 +1,7 @@
 pub mod Bounds
 pub mod Cases
 pub mod Claim
+pub mod ComesBack
 pub mod Content
 pub mod FollowRefused
 pub mod History

@@ -43,18 +43,19 @@ pub record FollowedWell (l : Log) (store tx : ℕ) (o : Outcome) (update : ℕ) 
   pub is : update ≡ updateOf l tx store
 
 -- a commit vote of the store that a holder before p cast, on a transaction that is committed: its
--- process took the store among the batches of the restore, after which p is the holder
+-- process took the store, in the turn of the vote, among the batches of the restore, after which p
+-- is the holder. It is another process, or p itself in an earlier turn
 pub record EarlierCommit (p : ℕ) (r : Restored) (s : List Batch) (tx : ℕ) : Type 0 where
   pub kept-commit : KeptCommit (plainLog s) tx (r .store)
   pub committed : outcomeOf (plainLog s) tx ≡ Commit
-  pub took : Took (allEntries (take (r .position) s)) (voteAt (plainLog s) tx (r .store) .process) (r .store)
-  pub another : voteAt (plainLog s) tx (r .store) .process ≢ p
+  pub took : Took (allEntries (take (r .position) s)) (voteAt (plainLog s) tx (r .store) .process) (voteAt (plainLog s) tx (r .store) .turn) (r .store)
+  pub another : voteAt (plainLog s) tx (r .store) .process ≡ p → voteAt (plainLog s) tx (r .store) .turn ≢ r .turn
 
 -- after the history h, by the plain log fed s
 pub record TakenOver (h : List Event) (s : List Batch) : Type 0 where
   -- a delivered restore lists exactly "the running transactions in which the store has a kept commit
   -- vote", by the plain log fed as many batches as its position says; there are as many
-  pub listed : {p store position running : ℕ} {r : Replay} → Got (restore p store position r running) h
+  pub listed : {p turn store position running : ℕ} {r : Replay} → Got (restore p turn store position r running) h
       → (position ≤ length s) × (running ≡ awaitedOf (plainLog (take position s)) store)
   -- what a delivered follow says
   pub followed : {p store tx update : ℕ} {o : Outcome} → Got (follow p store tx o update) h → FollowedWell (plainLog s) store tx o update

@@ -28,7 +28,7 @@ abbrev pub adopts : List Step
 adopts =
     Setup 3
     -- coordinators 0 and 1 are sent different takes
-    ∷ Request (takeEntry 1 0) 0 ∷ Deliver 0 ∷ Request (takeEntry 2 0) 1 ∷ Deliver 1
+    ∷ Request (takeEntry 1 1 0) 0 ∷ Deliver 0 ∷ Request (takeEntry 2 1 0) 1 ∷ Deliver 1
     -- 0 decides its own under ballot 3, by acceptors 0 and 1
     ∷ Open 0 0 3 ∷ Deliver 2 ∷ Deliver 3 ∷ Deliver 5 ∷ Deliver 6 ∷ Propose 0 0 3 ∷ Deliver 7 ∷ Deliver 8 ∷ Deliver 10 ∷ Deliver 11
     -- 1 opens ballot 4 with acceptors 1 and 2, hears of that batch and proposes it
@@ -45,7 +45,7 @@ abbrev pub highest : List Step
 highest =
     Setup 5
     -- coordinators 0 and 1 are sent different takes
-    ∷ Request (takeEntry 1 0) 0 ∷ Deliver 0 ∷ Request (takeEntry 2 0) 1 ∷ Deliver 1
+    ∷ Request (takeEntry 1 1 0) 0 ∷ Deliver 0 ∷ Request (takeEntry 2 1 0) 1 ∷ Deliver 1
     -- acceptors 0 and 1 accept that of 0 under ballot 3: no majority of five
     ∷ Open 0 0 3 ∷ Deliver 2 ∷ Deliver 3 ∷ Deliver 4 ∷ Deliver 7 ∷ Deliver 8 ∷ Deliver 9 ∷ Propose 0 0 3 ∷ Deliver 10 ∷ Deliver 11
     ∷ Deliver 15 ∷ Deliver 16
@@ -68,7 +68,7 @@ abbrev pub below : List Step
 below =
     Setup 3
     -- coordinators 0 and 1 are sent different takes
-    ∷ Request (takeEntry 1 0) 0 ∷ Deliver 0 ∷ Request (takeEntry 2 0) 1 ∷ Deliver 1
+    ∷ Request (takeEntry 1 1 0) 0 ∷ Deliver 0 ∷ Request (takeEntry 2 1 0) 1 ∷ Deliver 1
     -- acceptors 0 and 1 promise ballot 3 to 0, and then ballot 4 to 1
     ∷ Open 0 0 3 ∷ Deliver 2 ∷ Deliver 3 ∷ Deliver 5 ∷ Deliver 6 ∷ Open 1 0 4 ∷ Deliver 7 ∷ Deliver 8 ∷ Deliver 10 ∷ Deliver 11
     -- 0 proposes under ballot 3, which nobody accepts any more
@@ -89,7 +89,7 @@ abbrev pub repeated : List Step
 repeated =
     Setup 3
     -- coordinators 0 and 1 are sent different takes
-    ∷ Request (takeEntry 1 0) 0 ∷ Deliver 0 ∷ Request (takeEntry 2 0) 1 ∷ Deliver 1
+    ∷ Request (takeEntry 1 1 0) 0 ∷ Deliver 0 ∷ Request (takeEntry 2 1 0) 1 ∷ Deliver 1
     -- acceptor 0 accepts the batch of 0 twice, and both acceptances are delivered
     ∷ Open 0 0 3 ∷ Deliver 2 ∷ Deliver 3 ∷ Deliver 5 ∷ Deliver 6 ∷ Propose 0 0 3 ∷ Deliver 7 ∷ Deliver 7 ∷ Deliver 10 ∷ Deliver 11
     -- 1 decides its own under ballot 4, by acceptors 1 and 2
@@ -108,7 +108,7 @@ abbrev pub late : List Step
 late =
     Setup 3
     -- coordinators 0 and 1 are sent different takes
-    ∷ Request (takeEntry 1 0) 0 ∷ Deliver 0 ∷ Request (takeEntry 2 0) 1 ∷ Deliver 1
+    ∷ Request (takeEntry 1 1 0) 0 ∷ Deliver 0 ∷ Request (takeEntry 2 1 0) 1 ∷ Deliver 1
     -- 0 decides its own under ballot 3, by acceptors 0 and 1
     ∷ Open 0 0 3 ∷ Deliver 2 ∷ Deliver 3 ∷ Deliver 5 ∷ Deliver 6 ∷ Propose 0 0 3 ∷ Deliver 7 ∷ Deliver 8
     -- it hears the acceptances of ballot 3 after it opened ballot 6
@@ -128,10 +128,10 @@ abbrev pub reopened : List Step
 reopened =
     Setup 3
     -- 0 proposes a take under ballot 6, which acceptors 0 and 1 accept
-    ∷ Request (takeEntry 1 0) 0 ∷ Deliver 0 ∷ Open 0 0 6 ∷ Deliver 1 ∷ Deliver 2 ∷ Deliver 4 ∷ Deliver 5 ∷ Propose 0 0 6 ∷ Deliver 6
+    ∷ Request (takeEntry 1 1 0) 0 ∷ Deliver 0 ∷ Open 0 0 6 ∷ Deliver 1 ∷ Deliver 2 ∷ Deliver 4 ∷ Deliver 5 ∷ Propose 0 0 6 ∷ Deliver 6
     ∷ Deliver 7
     -- it is sent another take, and may not open ballot 6 again to propose both
-    ∷ Request (takeEntry 2 1) 0 ∷ Deliver 11 ∷ Open 0 0 6 ∷ Deliver 4 ∷ Deliver 5 ∷ Propose 0 0 6 ∷ Deliver 16 ∷ Deliver 17 ∷ Deliver 18
+    ∷ Request (takeEntry 2 1 1) 0 ∷ Deliver 11 ∷ Open 0 0 6 ∷ Deliver 4 ∷ Deliver 5 ∷ Propose 0 0 6 ∷ Deliver 16 ∷ Deliver 17 ∷ Deliver 18
     ∷ Deliver 19
     -- it hears that the first is accepted, and 1 learns it under ballot 7
     ∷ Deliver 9 ∷ Deliver 10 ∷ Open 1 0 7 ∷ Deliver 12 ∷ Deliver 13 ∷ Deliver 15 ∷ Deliver 16 ∷ Propose 1 0 7 ∷ Deliver 17 ∷ Deliver 18

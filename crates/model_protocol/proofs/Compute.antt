@@ -9,6 +9,7 @@ use Rattle.log_core.specs.Follow.{awaitedOf}
 use Rattle.log_core.specs.Group.{remembered}
 use Rattle.log_core.specs.Log.{emptyLog}
 use Rattle.log_votes.specs.Outcome.{outcomeOfVotes, running}
+use Rattle.log_core.specs.Refusal.{wrongTurn}
 use Rattle.log_core.specs.Replay.{groupReplay, noReplay, replayFrom, replayOf}
 use Rattle.log_votes.specs.Scan.{allFrom, anyFrom, setOf}
 use Rattle.model_steps.specs.declared.Step.{Step}
@@ -22,9 +23,9 @@ use Rattle.model_protocol.specs.Places.{placesOf}
 use Rattle.model_protocol.specs.Queue.{firstBatch, isIn, joining, leftBy, queueOf, without}
 use Rattle.model_protocol.specs.Send.{copyOf, sendToAll}
 use Rattle.model_protocol.specs.Step.{changeOf, heldFrom, messageFor, run, stepChecks, stepOf, stepRefusal}
-use Rattle.model_protocol.specs.World.{allUp, freshCoordinator, freshProcess, freshWorld, noFollows}
+use Rattle.model_protocol.specs.World.{allUp, freshCoordinator, freshWorld, noFollows, startedIn}
 
 -- the world after a list of steps from the fresh world
 unfoldable pub computed : List Step → World
-unfolding run stepOf placesOf stepRefusal stepChecks changeOf messageFor heldFrom deliveryChange firstRefusal outsideStep outside illFormed sendToAll copyOf promiseHeard learning joining batchToPropose firstBatch batchOf isIn sameEntry leftBy queueOf without freshWorld freshCoordinator freshProcess allUp noBatch noReplay noFollows awaitedOf emptyLog feed enter entered stored effectOf refusal remembered setOf outcomeOfVotes running replayOf replayFrom groupReplay anyFrom allFrom ones onesIn owner owners
+unfolding run stepOf placesOf stepRefusal stepChecks changeOf messageFor heldFrom deliveryChange firstRefusal outsideStep outside illFormed sendToAll copyOf promiseHeard learning joining batchToPropose firstBatch batchOf isIn sameEntry leftBy queueOf without freshWorld freshCoordinator startedIn allUp noBatch noReplay noFollows awaitedOf emptyLog feed enter entered stored effectOf refusal wrongTurn remembered setOf outcomeOfVotes running replayOf replayFrom groupReplay anyFrom allFrom ones onesIn owner owners
 computed steps = run freshWorld steps

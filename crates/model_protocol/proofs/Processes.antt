@@ -23,16 +23,16 @@ abbrev pub stores : List Step
 stores =
     Setup 3
     -- processes 1 and 2 take stores 0 and 1, and are restored
-    ∷ Request (takeEntry 1 0) 0 ∷ Deliver 0 ∷ Request (takeEntry 2 1) 0 ∷ Deliver 1 ∷ Open 0 0 3 ∷ Deliver 2 ∷ Deliver 3 ∷ Deliver 5
+    ∷ Request (takeEntry 1 1 0) 0 ∷ Deliver 0 ∷ Request (takeEntry 2 1 1) 0 ∷ Deliver 1 ∷ Open 0 0 3 ∷ Deliver 2 ∷ Deliver 3 ∷ Deliver 5
     ∷ Deliver 6 ∷ Propose 0 0 3 ∷ Deliver 7 ∷ Deliver 8 ∷ Deliver 10 ∷ Deliver 11 ∷ Restore 0 1 ∷ Deliver 12 ∷ Restore 0 2 ∷ Deliver 13
     -- store 0 commits transaction 4, while process 2 sent an abort on its behalf, which comes too
     -- late
-    ∷ Request (voteEntry 2 1 0 4 0x03 false 0) 0 ∷ Request (voteEntry 1 0 0 4 0x01 true 10) 0 ∷ Deliver 15 ∷ Open 0 1 3 ∷ Deliver 16
+    ∷ Request (voteEntry 2 1 1 0 4 0x03 false 0) 0 ∷ Request (voteEntry 1 1 0 0 4 0x01 true 10) 0 ∷ Deliver 15 ∷ Open 0 1 3 ∷ Deliver 16
     ∷ Deliver 17 ∷ Deliver 19 ∷ Deliver 20 ∷ Propose 0 1 3 ∷ Deliver 21 ∷ Deliver 22 ∷ Deliver 24 ∷ Deliver 25
     -- a restore is sent
     ∷ Restore 0 1
     -- store 0 commits transaction 5, and then the restore is delivered
-    ∷ Deliver 14 ∷ Request (voteEntry 1 0 0 5 0x01 true 11) 0 ∷ Deliver 27 ∷ Open 0 2 3 ∷ Deliver 28 ∷ Deliver 29 ∷ Deliver 31 ∷ Deliver 32
+    ∷ Deliver 14 ∷ Request (voteEntry 1 1 0 0 5 0x01 true 11) 0 ∷ Deliver 27 ∷ Open 0 2 3 ∷ Deliver 28 ∷ Deliver 29 ∷ Deliver 31 ∷ Deliver 32
     ∷ Propose 0 2 3 ∷ Deliver 33 ∷ Deliver 34 ∷ Deliver 36 ∷ Deliver 37 ∷ Deliver 26
     ∷ []
 

@@ -8,15 +8,16 @@ use Rattle.log_entry.specs.declared.Entry.{Entry}
 use Rattle.log_votes.specs.declared.Outcome.{Outcome}
 use Rattle.log_votes.specs.declared.Outcome.the-variants as outcome
 use Rattle.log_core.specs.declared.Replayed.{Replayed}
-use Rattle.log_core.specs.Replay.{rowsFrom, rowsIn}
+use Rattle.log_core.specs.Log.{turnOf, voteAt}
+use Rattle.log_core.specs.Replay.{noReplay, rowsFrom, rowsIn}
 use Rattle.model_protocol.specs.declared.Followed.{Followed}
 use Rattle.model_protocol.specs.declared.Message.{Message}
 use Rattle.model_protocol.specs.declared.Process.{Process}
 use Rattle.model_protocol.specs.declared.World.{World}
 use Rattle.model_protocol.specs.Process.{takesFollow}
 use Rattle.model_protocol.specs.Queue.{queued}
-use Rattle.model_protocol.specs.Tables.{Holds, Tried, acceptPromises, answersTheDown, asDefined, ballotsOfOne, beforeSetup, downAndBelief, followsTaken, fullQueue, learnsAnothers, leftRunning, noneToFollow, numbersUsed, ofFive, opensWithThree, otherInstance, proposesWithThree, receiversDown, restoredAnew, restoredOnce, stepsOf, takenOver, threeLeft, told, updateA, updateB}
-use Rattle.model_protocol.specs.World.{coordinatorOf, followsOf, logOf, noFollowed, messageOf, processOf, restoredTo, slotOf}
+use Rattle.model_protocol.specs.Tables.{Holds, Tried, acceptPromises, answersTheDown, asDefined, ballotsOfOne, beforeSetup, comesBack, comesBackAgain, downAndBelief, followsTaken, fullQueue, hearsAgain, learnsAnothers, leftRunning, noneToFollow, numbersUsed, ofFive, opensWithThree, otherInstance, ownLeftRunning, proposesWithThree, receiversDown, restoredAnew, restoredOnce, stepsOf, takenOver, threeLeft, told, updateA, updateB}
+use Rattle.model_protocol.specs.World.{coordinatorOf, followsOf, logOf, noFollowed, messageOf, processOf, restoredTo, slotOf, startedIn}
 use Rattle.model_protocol.proofs.Compute.{computed}
 
 pub before-setup : Holds beforeSetup
@@ -86,6 +87,14 @@ left-running = refl
 pub none-to-follow : Holds (restoredOnce ++ leftRunning ++ noneToFollow)
 unfolding computed asDefined restoredOnce leftRunning noneToFollow
 none-to-follow = refl
+
+pub comes-back : Holds (restoredOnce ++ comesBack ++ comesBackAgain ++ hearsAgain)
+unfolding computed asDefined restoredOnce comesBack comesBackAgain hearsAgain
+comes-back = refl
+
+pub own-left-running : Holds (restoredOnce ++ ownLeftRunning)
+unfolding computed asDefined restoredOnce ownLeftRunning
+own-left-running = refl
 
 -- ---- what stands in the world at the end
 
@@ -185,14 +194,52 @@ pub begins-anew : (processOf (after (restoredOnce ++ leftRunning ++ followsTaken
 unfolding computed restoredOnce leftRunning followsTaken restoredAnew rowsFrom
 begins-anew = (refl, refl, refl)
 
+-- the vote of turn 2 is kept, and the late one of turn 1 is not; the holder's turn is 2
+pub late-vote-refused : (voteAt (logOf (after (restoredOnce ++ comesBack)) 0) 5 0 .turn ≡ 2)
+    × (voteAt (logOf (after (restoredOnce ++ comesBack)) 0) 5 0 .update ≡ updateB)
+    × (voteAt (logOf (after (restoredOnce ++ comesBack)) 0) 4 0 .kept ≡ false)
+    × (turnOf (logOf (after (restoredOnce ++ comesBack)) 0) 0 ≡ 2)
+    × (queuedBy (after (restoredOnce ++ comesBack)) 0 ≡ [])
+unfolding computed restoredOnce comesBack
+late-vote-refused = (refl, refl, refl, refl, refl)
+
+-- what it knows before it comes back once more
+pub known-in-turn-2 : (processOf (after (restoredOnce ++ comesBack)) 1 .turn ≡ 2)
+    × (processOf (after (restoredOnce ++ comesBack)) 1 .position ≡ 2)
+    × (heardOf (after (restoredOnce ++ comesBack)) 1 5 ≡ outcome.Commit)
+unfolding computed restoredOnce comesBack
+known-in-turn-2 = (refl, refl, refl)
+
+-- "with nothing heard and nothing held": as a process of a fresh world, and the restore of turn 2
+-- is not taken in turn 3
+pub knows-nothing : (processOf (after (restoredOnce ++ comesBack ++ comesBackAgain)) 1 ≡ startedIn 3)
+    × (restoredTo (after (restoredOnce ++ comesBack ++ comesBackAgain)) 1 ≡ noReplay)
+unfolding computed restoredOnce comesBack comesBackAgain
+knows-nothing = (refl, refl)
+
+-- a tell from before is heard in the new turn; and a later `back` forgets it again
+pub heard-again : (heardOf (after (restoredOnce ++ comesBack ++ comesBackAgain ++ take 1 hearsAgain)) 1 5 ≡ outcome.Commit)
+    × (processOf (after (restoredOnce ++ comesBack ++ comesBackAgain ++ hearsAgain)) 1 ≡ startedIn 255)
+    × (getD (after (restoredOnce ++ comesBack ++ comesBackAgain ++ hearsAgain) .down .processes) 1 true ≡ false)
+unfolding computed restoredOnce comesBack comesBackAgain hearsAgain
+heard-again = (refl, refl, refl)
+
+-- a process that came back is told what it left running in an earlier turn
+pub own-listed : (processOf (after (restoredOnce ++ ownLeftRunning)) 1 .turn ≡ 2)
+    × (processOf (after (restoredOnce ++ ownLeftRunning)) 1 .position ≡ 3)
+    × (processOf (after (restoredOnce ++ ownLeftRunning)) 1 .running ≡ 0x10)
+    × (voteAt (logOf (after (restoredOnce ++ ownLeftRunning)) 0) 4 0 .turn ≡ 1)
+unfolding computed restoredOnce ownLeftRunning
+own-listed = (refl, refl, refl, refl)
+
 -- a process whose last restore is of store 0 and lists 4, 5 and 6, and that took a follow of 6
 abbrev followed6 : Process
-followed6 = record { heard = []; store = 0; position = 3; running = 0x70; followed = 0x40 }
+followed6 = record { turn = 1; heard = []; store = 0; position = 3; running = 0x70; followed = 0x40 }
 
 -- "exactly if it is for its last restore's store and a transaction listed there as running, and none
 -- for that transaction was taken since that restore"
 pub takes-exactly : map (λ (tx : ℕ). takesFollow followed6 0 tx) (3 ∷ 4 ∷ 5 ∷ 6 ∷ 7 ∷ []) ≡ false ∷ true ∷ true ∷ false ∷ false ∷ []
 takes-exactly = refl
 
-pub takes-none : (takesFollow followed6 1 4 ≡ false) × (takesFollow (record { heard = []; store = 0; position = 0; running = 0x10; followed = 0 }) 0 4 ≡ false)
+pub takes-none : (takesFollow followed6 1 4 ≡ false) × (takesFollow (record { turn = 1; heard = []; store = 0; position = 0; running = 0x10; followed = 0 }) 0 4 ≡ false)
 takes-none = (refl, refl)

@@ -1,17 +1,26 @@
 -- What a step leaves as it was.
-use Prim.Native.Nat.{ℕ, zero, suc}
-use mathlib.Core.Path.{_≡_, refl, subst, sym}
-use mathlib.Core.Bool.{Bool, true, false, cond}
+use Prim.Native.Nat.{ℕ, zero, suc, _%_, _<_}
+use native.Mathlib.Nat.{mod-eq-of-lt}
+use native.Mathlib.Omega.{arith}
+use mathlib.Core.Path.{_≡_, ap, refl, subst, sym, _∙_}
+use mathlib.Core.Bool.{Bool, true, false, cond, _||_}
 use mathlib.Core.List.{List, [], _∷_}
 use mathlib.Core.Logic.{_≢_}
 use borrow.Author.Tests.{eqb-true}
-use lib.Dec.{eqb, ltb}
-use lib.ListN.{getD, set}
-use Rattle.log_entry.specs.Refusal.{accepted}
+use lib.Dec.{eqb}
+use lib.ListN.{getD, length, set}
+use lib.Seq.{getD-set-other, getD-set-same}
+use Rattle.log_entry.specs.Entry.{noProcess, noTurn}
+use Rattle.log_entry.specs.Limits.{processPlaces}
+use Rattle.log_entry.specs.Refusal.{accepted, firstRefusal}
+use Rattle.log_entry.proofs.InsideLaws.{process-inside}
+use Rattle.log_entry.proofs.Tests.{neither-left}
+use Rattle.log_core.specs.Replay.{noReplay}
+use Rattle.model_steps.specs.Limits.{outsideStep}
 use Rattle.model_steps.specs.declared.Role.{Role}
 use Rattle.model_steps.specs.declared.Role.the-variants.{Acceptor, Coord, Proc}
 use Rattle.model_steps.specs.declared.Step.{Step}
-use Rattle.model_steps.specs.declared.Step.the-variants.{Crash, Deliver, Follow, Open, Propose, Request, Restore, Setup, Tell}
+use Rattle.model_steps.specs.declared.Step.the-variants.{Back, Crash, Deliver, Follow, Open, Propose, Request, Restore, Setup, Tell}
 use Rattle.model_protocol.specs.declared.Change.{Change}
 use Rattle.model_protocol.specs.declared.Down.{Down}
 use Rattle.model_protocol.specs.declared.Kind.{Kind}
@@ -26,11 +35,12 @@ use Rattle.model_protocol.specs.Change.{coordinatorNow, done, keepsFollo
 use Rattle.model_protocol.specs.Coordinator.{counting, isHeard, learning, promiseHeard, withRound}
 use Rattle.model_protocol.specs.Deliver.{deliveryChange}
 use Rattle.model_protocol.specs.Message.{acceptedFrom, promiseFrom}
-use Rattle.model_protocol.specs.Process.{following, taking, takesFollow}
+use Rattle.model_protocol.specs.Process.{following, taking, takesFollow, takesRestore}
+use Rattle.model_protocol.specs.Places.{placesOf}
 use Rattle.model_protocol.specs.Send.{sendToAll}
 use Rattle.model_protocol.specs.Step.{changeOf, changed, partsOf, placesIn, replayIn, stepOf, stepRefusal}
-use Rattle.model_protocol.specs.Unchanged.{CrashChangesOnlyDown, CrashedStaysDown, OnlyDownChanges, RefusedStepChangesNothing}
-use Rattle.model_protocol.specs.World.{crashed, isDown}
+use Rattle.model_protocol.specs.Unchanged.{BackStartsAnew, CrashChangesOnlyDown, CrashedStaysDown, HasProcesses, OnlyDownChanges, OthersUnchanged, RefusedStepChangesNothing, StartedAnew, StartsAgain}
+use Rattle.model_protocol.specs.World.{crashed, freshProcess, isDown, noFollows, startedIn, upAgain}
 use Rattle.model_protocol.proofs.PutBack.{same-coordinators, same-logs, same-processes, same-slots}
 
 -- what holds of both arms holds of the choice
@@ -116,7 +126,7 @@ delivered-down p kind.Accepted =
 delivered-down p kind.Tell = refl
 delivered-down p kind.Restore =
     let m = p .message in
-    same-down p (ltb (p .process .position) (m .position))
+    same-down p (takesRestore (p .process) (m .turn) (m .position))
     (takesReplay (processNow p (taking (p .process) (m .store) (m .position) (m .running)))) (done p) refl refl
 delivered-down p kind.Follow =
     let m = p .message in
@@ -141,23 +151,102 @@ crash-down d Proc i Acceptor id h = h
 crash-down d Proc i Coord id h = h
 crash-down d Proc i Proc id h = flag-stays (d .processes) i id h
 
-change-down : (p : Parts) (s : Step) (role : Role) (id : ℕ) → isDown (p .down) role id ≡ true → isDown (changeOf p s .parts .down) role id ≡ true
+-- a process that comes back changes no other
+back-down : (d : Down) (q : ℕ) (role : Role) (id : ℕ) → (role ≡ Proc → q ≡ id → ⊥) → isDown d role id ≡ true → isDown (upAgain d q) role id ≡ true
+back-down d q Acceptor id other h = h
+back-down d q Coord id other h = h
+back-down d q Proc id other h = getD-set-other (d .processes) q id false false (λ e. other refl (sym e)) ∙ h
+
+change-down : (p : Parts) (s : Step) (role : Role) (id : ℕ) → (StartsAgain s role id → ⊥)
+    → isDown (p .down) role id ≡ true → isDown (changeOf p s .parts .down) role id ≡ true
 unfolding changeOf
-change-down p (Setup n) role id h = h
-change-down p (Request e to) role id h = h
-change-down p (Open c i b) role id h = h
-change-down p (Propose c i b) role id h = h
-change-down p (Deliver m) role id h = subst (λ (d : Down). isDown d role id ≡ true) (sym (delivered-down p (p .message .kind))) h
-change-down p (Tell c q tx) role id h = h
-change-down p (Restore c q) role id h = h
-change-down p (Follow c q tx) role id h = h
-change-down p (Crash r i) role id h = crash-down (p .down) r i role id h
+change-down p (Setup n) role id again h = h
+change-down p (Request e to) role id again h = h
+change-down p (Open c i b) role id again h = h
+change-down p (Propose c i b) role id again h = h
+change-down p (Deliver m) role id again h = subst (λ (d : Down). isDown d role id ≡ true) (sym (delivered-down p (p .message .kind))) h
+change-down p (Tell c q tx) role id again h = h
+change-down p (Restore c q) role id again h = h
+change-down p (Follow c q tx) role id again h = h
+change-down p (Crash r i) role id again h = crash-down (p .down) r i role id h
+change-down p (Back q t) role id again h = back-down (p .down) q role id (λ r e. again (r, (t, ap (λ (n : ℕ). Back n t) e))) h
 
 pub stays-down : CrashedStaysDown
-stays-down w s role id h =
+stays-down w s role id again h =
     step-cases (λ (v : World). isDown (v .down) role id ≡ true) w s
-    (subst (λ (d : Down). isDown d role id ≡ true) (sym (sent-down _ (c .count) _)) (change-down (partsOf w s) s role id h))
+    (subst (λ (d : Down). isDown d role id ≡ true) (sym (sent-down _ (c .count) _)) (change-down (partsOf w s) s role id again h))
     h
   where
     c : Change
     c = changeOf (partsOf w s) s
+
+-- ---- a process that comes back
+
+-- a flag that is cleared is not set
+flag-cleared : (l : List Bool) (i : ℕ) → getD (set l i false) i false ≡ false
+flag-cleared [] i = refl
+flag-cleared (b ∷ l) zero = refl
+flag-cleared (b ∷ l) (suc i) = flag-cleared l i
+
+-- its number is within the limits
+back-inside : (w : World) (p t : ℕ) → stepOf w (Back p t) .answer ≡ accepted → p < processPlaces
+unfolding stepRefusal firstRefusal outsideStep
+back-inside w p t h = go (noProcess p || noTurn t) refl (sym (answer-is-refusal w (Back p t)) ∙ h)
+  where
+    go : (b : Bool) → (noProcess p || noTurn t) ≡ b → stepRefusal (partsOf w (Back p t)) (Back p t) ≡ accepted → p < processPlaces
+    go true e k = absurd (let z : ⊥ = omega (arith, rw e at k) in z)
+    go false e k = omega (arith, process-inside p (neither-left (noProcess p) (noTurn t) e))
+
+module _ (w : World) (p t : ℕ) (has : HasProcesses w) (inside : p < processPlaces) where
+  -- the world after it
+  back : World
+  back = changed w (placesIn w (Back p t)) (replayIn w (Back p t)) (changeOf (partsOf w (Back p t)) (Back p t))
+
+  place : p % processPlaces ≡ p
+  place = mod-eq-of-lt inside
+
+  -- what was stored by process stands there
+  stored-here : {A : Type 0} (l : List A) (a d : A) → length l ≡ processPlaces → getD (set l (p % processPlaces) a) p d ≡ a
+  stored-here l a d size = ap (λ (n : ℕ). getD (set l n a) p d) place ∙ getD-set-same l p a d (omega (arith, size))
+
+  -- and nowhere else
+  stored-only : {A : Type 0} (l : List A) (a d : A) (q : ℕ) → q ≢ p → getD (set l (p % processPlaces) a) q d ≡ getD l q d
+  stored-only l a d q other = ap (λ (n : ℕ). getD (set l n a) q d) place ∙ getD-set-other l p q a d other
+
+  anew : StartedAnew w back p t
+  unfolding back changeOf sendToAll placesOf
+  anew = record {
+    fresh = stored-here (w .processes) (startedIn t) freshProcess (has .processes);
+    nothing-restored = stored-here (w .restored) noReplay noReplay (has .restored);
+    nothing-followed = stored-here (w .follows) noFollows noFollows (has .follows);
+    up = flag-cleared (w .down .processes) p;
+  }
+
+  others : OthersUnchanged w back p
+  unfolding back changeOf sendToAll placesOf
+  others = record {
+    acceptors = refl;
+    slots = same-slots w (placesIn w (Back p t));
+    coordinators = same-coordinators w (placesIn w (Back p t));
+    logs = same-logs w (placesIn w (Back p t));
+    processes = stored-only (w .processes) (startedIn t) freshProcess;
+    restored = stored-only (w .restored) noReplay noReplay;
+    follows = stored-only (w .follows) noFollows noFollows;
+    acceptors-down = λ id. refl;
+    coordinators-down = λ id. refl;
+    processes-down = λ q. getD-set-other (w .down .processes) p q false false;
+    messages = refl;
+    replays = refl;
+    sent = refl;
+  }
+
+pub starts-anew : BackStartsAnew
+unfolding stepOf back
+starts-anew w p t has ok =
+    subst (λ (v : World). StartedAnew w v p t × OthersUnchanged w v p) (sym is) (anew w p t has inside, others w p t has inside)
+  where
+    inside : p < processPlaces
+    inside = back-inside w p t ok
+
+    is : stepOf w (Back p t) .world ≡ back w p t has inside
+    is = rw (sym (answer-is-refusal w (Back p t)) ∙ ok)

@@ -9,7 +9,7 @@ use Rattle.model_protocol.specs.Limits.{batchEntries}
 
 -- the place of no entry
 abbrev pub noEntry : Entry
-noEntry = record { take = false; process = 0; by = 0; store = 0; tx = 0; participants = 0; commit = false; update = 0 }
+noEntry = record { take = false; process = 0; turn = 0; by = 0; store = 0; tx = 0; participants = 0; commit = false; update = 0 }
 
 -- the place of no batch
 unfoldable pub noBatch : Batch

@@ -41,28 +41,32 @@ processNow p h = parts (p .acceptors) (p .sent) (p .down) (p .coordinator) (p .s
 
 -- the parts are these, and nothing is sent
 abbrev pub withoutMessages : Parts → ℕ → Change
-withoutMessages p answer = record { answer = answer; parts = p; count = 0; message = noMessage; learned = noBatch; gives = false; takes = false; follows = false }
+withoutMessages p answer = record { answer = answer; parts = p; count = 0; message = noMessage; learned = noBatch; gives = false; takes = false; follows = false; anew = false }
 
 -- the step is accepted, the parts are these, and n messages are sent
 abbrev pub sending : Parts → ℕ → Message → Change
-sending p n m = record { answer = accepted; parts = p; count = n; message = m; learned = noBatch; gives = false; takes = false; follows = false }
+sending p n m = record { answer = accepted; parts = p; count = n; message = m; learned = noBatch; gives = false; takes = false; follows = false; anew = false }
 
 -- the step is accepted, the parts are these, and the coordinator's log is to be fed the batch
 abbrev pub learns : Parts → Batch → Change
-learns p b = record { answer = accepted; parts = p; count = 0; message = noMessage; learned = b; gives = false; takes = false; follows = false }
+learns p b = record { answer = accepted; parts = p; count = 0; message = noMessage; learned = b; gives = false; takes = false; follows = false; anew = false }
 
 -- the step is accepted, the parts are these, and a restore is sent, with its store's replay
 abbrev pub givesReplay : Parts → Message → Change
-givesReplay p m = record { answer = accepted; parts = p; count = 1; message = m; learned = noBatch; gives = true; takes = false; follows = false }
+givesReplay p m = record { answer = accepted; parts = p; count = 1; message = m; learned = noBatch; gives = true; takes = false; follows = false; anew = false }
 
 -- the step is accepted, the parts are these, and the process takes the replay of the message
 -- delivered
 abbrev pub takesReplay : Parts → Change
-takesReplay p = record { answer = accepted; parts = p; count = 0; message = noMessage; learned = noBatch; gives = false; takes = true; follows = false }
+takesReplay p = record { answer = accepted; parts = p; count = 0; message = noMessage; learned = noBatch; gives = false; takes = true; follows = false; anew = false }
 
 -- the step is accepted, the parts are these, and the process takes the follow delivered
 abbrev pub keepsFollow : Parts → Change
-keepsFollow p = record { answer = accepted; parts = p; count = 0; message = noMessage; learned = noBatch; gives = false; takes = false; follows = true }
+keepsFollow p = record { answer = accepted; parts = p; count = 0; message = noMessage; learned = noBatch; gives = false; takes = false; follows = true; anew = false }
+
+-- the step is accepted, the parts are these, and the process starts anew
+abbrev pub startsAnew : Parts → Change
+startsAnew p = record { answer = accepted; parts = p; count = 0; message = noMessage; learned = noBatch; gives = false; takes = false; follows = false; anew = true }
 
 -- the step is accepted, the parts are these, and nothing is sent
 abbrev pub done : Parts → Change

@@ -1,6 +1,5 @@
 -- The step `deliver`: what a message of each kind does to its receiver.
 use mathlib.Core.Bool.{Bool, false, _&&_, not, cond}
-use lib.Dec.{ltb}
 use Rattle.model_steps.specs.declared.Role.the-variants.{Acceptor, Coord, Proc}
 use Rattle.model_protocol.specs.declared.Change.{Change}
 use Rattle.model_protocol.specs.declared.Down.{Down}
@@ -14,7 +13,7 @@ use Rattle.model_paxos.specs.Majority.{majority}
 use Rattle.model_protocol.specs.Change.{slotNow, coordinatorNow, done, keepsFollow, learns, processNow, sending, takesReplay}
 use Rattle.model_protocol.specs.Coordinator.{counting, isHeard, learning, promiseHeard, withQueue, withRound}
 use Rattle.model_protocol.specs.Message.{acceptedFrom, promiseFrom}
-use Rattle.model_protocol.specs.Process.{following, hearingOutcome, taking, takesFollow}
+use Rattle.model_protocol.specs.Process.{following, hearingOutcome, taking, takesFollow, takesRestore}
 use Rattle.model_protocol.specs.Queue.{isFull, isIn, joining, queued}
 use Rattle.model_protocol.specs.Send.{lacksNumbers}
 use Rattle.model_protocol.specs.World.{isDown}
@@ -87,10 +86,11 @@ deliveryChange p Accepted =
 -- "It hears outcomes only by `tell`."
 deliveryChange p Tell = done (processNow p (hearingOutcome (p .process) (p .message .tx) (p .message .outcome)))
 -- "A process takes a delivered restore exactly if its position is above the last it took, 0 at
--- first, and from then believes it holds that store and no other."
+-- first, and from then believes it holds that store and no other." "A restore names the holder's
+-- turn and is taken only at that turn."
 deliveryChange p Restore =
     let m = p .message in
-    cond (ltb (p .process .position) (m .position)) (takesReplay (processNow p (taking (p .process) (m .store) (m .position) (m .running)))) (done p)
+    cond (takesRestore (p .process) (m .turn) (m .position)) (takesReplay (processNow p (taking (p .process) (m .store) (m .position) (m .running)))) (done p)
 -- "A process takes a delivered follow exactly if it is for its last restore's store and a
 -- transaction listed there as running, and none for that transaction was taken since that restore."
 deliveryChange p Follow =

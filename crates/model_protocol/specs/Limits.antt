@@ -1,6 +1,5 @@
 -- Document 01, "Numbers in use": the limits of what the parties hold.
-use Prim.Native.Nat.{ℕ, _+_, _*_}
-use Rattle.log_entry.specs.Limits.{processes}
+use Prim.Native.Nat.{ℕ, _*_}
 use Rattle.model_steps.specs.Limits.{instances, mostAcceptors}
 
 -- a batch has 1 to 4 entries
@@ -10,10 +9,6 @@ batchEntries = 4
 -- a queue at most 8
 abbrev pub queuePlaces : ℕ
 queuePlaces = 8
-
--- places in an array by process: processes are 1 to 15, and place 0 is not used
-abbrev pub processPlaces : ℕ
-processPlaces = processes + 1
 
 -- a slot for every acceptor and instance
 abbrev pub slotPlaces : ℕ

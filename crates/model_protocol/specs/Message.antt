@@ -14,6 +14,7 @@ abbrev pub ballotMessage : Kind → ℕ → ℕ → ℕ → ℕ → Batch → Me
 ballotMessage kind inst ballot acceptor accepted batch = record {
   kind = kind;
   to = 0;
+  turn = 0;
   acceptor = acceptor;
   inst = inst;
   ballot = ballot;
@@ -42,10 +43,11 @@ abbrev pub acceptedFrom : ℕ → ℕ → ℕ → Message
 acceptedFrom inst ballot acceptor = ballotMessage Accepted inst ballot acceptor 0 noBatch
 
 -- a message of none of the ballots
-abbrev pub directMessage : Kind → ℕ → Entry → ℕ → Outcome → ℕ → ℕ → ℕ → ℕ → Message
-directMessage kind to entry tx outcome store position running update = record {
+abbrev pub directMessage : Kind → ℕ → ℕ → Entry → ℕ → Outcome → ℕ → ℕ → ℕ → ℕ → Message
+directMessage kind to turn entry tx outcome store position running update = record {
   kind = kind;
   to = to;
+  turn = turn;
   acceptor = 0;
   inst = 0;
   ballot = 0;
@@ -61,16 +63,16 @@ directMessage kind to entry tx outcome store position running update = record {
 }
 
 abbrev pub requestTo : ℕ → Entry → Message
-requestTo coord entry = directMessage Request coord entry 0 Open 0 0 0 0
+requestTo coord entry = directMessage Request coord 0 entry 0 Open 0 0 0 0
 
 abbrev pub tellTo : ℕ → ℕ → Outcome → Message
-tellTo process tx outcome = directMessage Tell process noEntry tx outcome 0 0 0 0
+tellTo process tx outcome = directMessage Tell process 0 noEntry tx outcome 0 0 0 0
 
-abbrev pub restoreTo : ℕ → ℕ → ℕ → ℕ → Message
-restoreTo process store position running = directMessage Restore process noEntry 0 Open store position running 0
+abbrev pub restoreTo : ℕ → ℕ → ℕ → ℕ → ℕ → Message
+restoreTo process turn store position running = directMessage Restore process turn noEntry 0 Open store position running 0
 
 abbrev pub followTo : ℕ → ℕ → ℕ → Outcome → ℕ → Message
-followTo process store tx outcome update = directMessage Follow process noEntry tx outcome store 0 0 update
+followTo process store tx outcome update = directMessage Follow process 0 noEntry tx outcome store 0 0 update
 
 -- the place of no message
 abbrev pub noMessage : Message

@@ -2,14 +2,15 @@
 -- step of every world has its places: a step with such a number is refused 2, and no message has
 -- one (`InBounds` of model_agreement).
 use Prim.Native.Nat.{ℕ, _+_, _*_, _%_}
+use Rattle.log_entry.specs.Limits.{processPlaces}
 use Rattle.model_steps.specs.declared.Step.{Step}
-use Rattle.model_steps.specs.declared.Step.the-variants.{Setup, Request, Open, Propose, Deliver, Tell, Restore, Follow, Crash}
+use Rattle.model_steps.specs.declared.Step.the-variants.{Setup, Request, Open, Propose, Deliver, Tell, Restore, Follow, Crash, Back}
 use Rattle.model_steps.specs.Limits.{coordinators, instances, messages}
 use Rattle.model_owners.specs.Owners.{owner}
 use Rattle.model_protocol.specs.declared.Kind.{Kind}
 use Rattle.model_protocol.specs.declared.Kind.the-variants as kind
 use Rattle.model_protocol.specs.declared.Message.{Message}
-use Rattle.model_protocol.specs.Limits.{slotPlaces, processPlaces}
+use Rattle.model_protocol.specs.Limits.{slotPlaces}
 use Rattle.model_protocol.specs.declared.Places.{Places}
 
 -- the message that the step delivers; message 0 if it delivers none
@@ -23,6 +24,7 @@ messageAt (Tell c p tx) = 0
 messageAt (Restore c p) = 0
 messageAt (Follow c p tx) = 0
 messageAt (Crash role id) = 0
+messageAt (Back p t) = 0
 
 abbrev pub onlyCoordinator : ℕ → Places
 onlyCoordinator k = record { coordinator = k % coordinators; slot = 0; process = 0 }
@@ -59,3 +61,4 @@ placesOf (Tell c p tx) m = onlyCoordinator c
 placesOf (Restore c p) m = onlyCoordinator c
 placesOf (Follow c p tx) m = onlyCoordinator c
 placesOf (Crash role id) m = onlyCoordinator 0
+placesOf (Back p t) m = onlyProcess p

@@ -15,6 +15,7 @@ believes p store = ltb 0 (p .position) && eqb (p .store) store
 
 abbrev pub hearingOutcome : Process → ℕ → Outcome → Process
 hearingOutcome p tx outcome = record {
+  turn = p .turn;
   heard = set (p .heard) tx (record { outcome = outcome });
   store = p .store;
   position = p .position;
@@ -22,9 +23,14 @@ hearingOutcome p tx outcome = record {
   followed = p .followed;
 }
 
+-- "A process takes a delivered restore exactly if its position is above the last it took, 0 at
+-- first"; "a restore names the holder's turn and is taken only at that turn"
+abbrev pub takesRestore : Process → ℕ → ℕ → Bool
+takesRestore p turn position = eqb (p .turn) turn && ltb (p .position) position
+
 -- with a restore no follow was taken "since that restore"
 abbrev pub taking : Process → ℕ → ℕ → ℕ → Process
-taking p store position running = record { heard = p .heard; store = store; position = position; running = running; followed = 0 }
+taking p store position running = record { turn = p .turn; heard = p .heard; store = store; position = position; running = running; followed = 0 }
 
 -- "exactly if it is for its last restore's store and a transaction listed there as running, and none
 -- for that transaction was taken since that restore"
@@ -32,7 +38,7 @@ abbrev pub takesFollow : Process → ℕ → ℕ → Bool
 takesFollow p store tx = believes p store && has (p .running) tx && not (has (p .followed) tx)
 
 abbrev pub following : Process → ℕ → Process
-following p tx = record { heard = p .heard; store = p .store; position = p .position; running = p .running; followed = with (p .followed) tx }
+following p tx = record { turn = p .turn; heard = p .heard; store = p .store; position = p .position; running = p .running; followed = with (p .followed) tx }
 
 -- the follows with that of the message
 abbrev pub withFollow : Follows → Message → Follows

@@ -21,6 +21,7 @@ abbrev pub addressed : Message → ℕ → Message
 addressed m acceptor = record {
   kind = m .kind;
   to = m .to;
+  turn = m .turn;
   acceptor = acceptor;
   inst = m .inst;
   ballot = m .ballot;

@@ -14,11 +14,11 @@ use Rattle.log_core.specs.declared.Replay.{Replay}
 use Rattle.log_core.specs.Enter.{feed}
 use Rattle.log_votes.specs.Outcome.{isCommit, isCommitted, isOpen}
 use Rattle.log_core.specs.Follow.{awaitedOf}
-use Rattle.log_core.specs.Log.{outcomeOf, voteAt}
-use Rattle.log_core.specs.Replay.{replayOf}
+use Rattle.log_core.specs.Log.{outcomeOf, turnOf, voteAt}
+use Rattle.log_core.specs.Replay.{noReplay, replayOf}
 use Rattle.model_steps.specs.declared.Role.the-variants.{Coord, Proc}
 use Rattle.model_steps.specs.declared.Step.{Step}
-use Rattle.model_steps.specs.declared.Step.the-variants.{Setup, Request, Open, Propose, Deliver, Tell, Restore, Follow, Crash}
+use Rattle.model_steps.specs.declared.Step.the-variants.{Setup, Request, Open, Propose, Deliver, Tell, Restore, Follow, Crash, Back}
 use Rattle.model_steps.specs.Limits.{mostAcceptors, outsideStep}
 use Rattle.model_protocol.specs.declared.Change.{Change}
 use Rattle.model_protocol.specs.declared.Coordinator.{Coordinator}
@@ -31,14 +31,14 @@ use Rattle.model_protocol.specs.declared.World.{World}
 use Rattle.model_owners.specs.Owners.{owner}
 use Rattle.model_paxos.specs.Majority.{majority}
 use Rattle.model_protocol.specs.Batch.{entriesOf}
-use Rattle.model_protocol.specs.Change.{acceptorsNow, coordinatorNow, done, downNow, givesReplay, parts, sending}
+use Rattle.model_protocol.specs.Change.{acceptorsNow, coordinatorNow, done, downNow, givesReplay, parts, processNow, sending, startsAnew}
 use Rattle.model_protocol.specs.Coordinator.{batchToPropose, proposing, withRound}
 use Rattle.model_protocol.specs.Deliver.{deliveryChange, noPlaceFor, receiverDown}
 use Rattle.model_protocol.specs.Message.{acceptTo, followTo, prepareTo, requestTo, restoreTo, tellTo}
 use Rattle.model_protocol.specs.Places.{messageAt, placesOf}
 use Rattle.model_protocol.specs.Process.{believes, withFollow}
 use Rattle.model_protocol.specs.Send.{copyOf, lacksNumbers, sendToAll}
-use Rattle.model_protocol.specs.World.{coordinatorOf, crashed, emptySlot, followsOf, isDown, logOf, messageOf, newRound, processOf, replayWith}
+use Rattle.model_protocol.specs.World.{coordinatorOf, crashed, emptySlot, followsOf, isDown, logOf, messageOf, newRound, noFollows, processOf, replayWith, startedIn, upAgain}
 
 -- 5: no setup
 abbrev pub notSetUp : Parts → Bool
@@ -71,6 +71,10 @@ updateOf l tx store = cond (isCommitted (outcomeOf l tx)) (voteAt l tx store .up
 abbrev pub voterNotHolder : Entry → Process → Bool
 voterNotHolder e p = not (e .take) && not (believes p (e .by))
 
+-- "A take or vote with another turn than the process's present one"
+abbrev pub otherTurn : Entry → Process → Bool
+otherTurn e p = not (eqb (e .turn) (p .turn))
+
 -- "a ballot of its own, above all it opened in the current instance"
 abbrev pub cannotOpen : Coordinator → ℕ → ℕ → ℕ → Bool
 cannotOpen k c i b = not (eqb i (k .applied)) || not (eqb (owner b) c) || leb b (k .round .ballot)
@@ -88,11 +92,11 @@ cannotPropose n k i b =
 -- receiver, so 4 is tried before 3
 unfoldable pub stepChecks : Parts → Step → List Check
 stepChecks p (Setup n) = check notMet (not (notSetUp p)) ∷ []
--- "A sent vote meets 1, 2, 3, 5, 6, 7". A sent take meets 5 too, where there was no setup, but not
--- 7, and nobody asks what its process believes
+-- "A sent vote meets 1, 2, 3, 5, 6, 7". A sent take meets 5 too, where there was no setup or the
+-- turn is another, but not 7, and nobody asks what its process believes
 stepChecks p (Request e to) =
     check partyDown (isDown (p .down) Proc (e .process) || isDown (p .down) Coord to)
-    ∷ check notMet (notSetUp p || voterNotHolder e (p .process))
+    ∷ check notMet (notSetUp p || otherTurn e (p .process) || voterNotHolder e (p .process))
     ∷ check noPlace (lacksNumbers (p .sent) 1)
     ∷ check illFormedVote (not (e .take) && illFormed e)
     ∷ []
@@ -130,6 +134,9 @@ stepChecks p (Follow c process tx) =
     ∷ check noPlace (lacksNumbers (p .sent) 1)
     ∷ []
 stepChecks p (Crash role id) = check partyDown (isDown (p .down) role id) ∷ check notMet (notSetUp p) ∷ []
+-- "starts a process again, down or up (3 does not stop it)"; "the turn must be above its present
+-- one"
+stepChecks p (Back process turn) = check notMet (notSetUp p || leb turn (p .process .turn)) ∷ []
 
 -- the answer to a step: "The lowest number that applies is given."
 unfoldable pub stepRefusal : Parts → Step → ℕ
@@ -151,6 +158,8 @@ changeOf p (Tell c process tx) = sending p 1 (p .message)
 changeOf p (Restore c process) = givesReplay p (p .message)
 changeOf p (Follow c process tx) = sending p 1 (p .message)
 changeOf p (Crash role id) = done (downNow p (crashed (p .down) role id))
+-- "starts a process again [..], with nothing heard and nothing held"
+changeOf p (Back process turn) = startsAnew (downNow (processNow p (startedIn turn)) (upAgain (p .down) process))
 
 -- ---- the message of a step, where d is the one that it delivers; l is the log of a coordinator
 -- that applied n instances
@@ -165,13 +174,16 @@ messageFor (Deliver m) d l n = d
 messageFor (Tell c process tx) d l n = tellTo process tx (outcomeOf l tx)
 -- "`restore` sends the store's holder, by this coordinator's log, the applied count as position and
 -- the store's replay." The replay goes beside it: see `putBack`. "A restore shall also carry the
--- running transactions in which the store has a kept commit vote."
-messageFor (Restore c process) d l n = restoreTo process (heldStore l process) n (awaitedOf l (heldStore l process))
+-- running transactions in which the store has a kept commit vote." It "names the holder's turn".
+messageFor (Restore c process) d l n =
+    let s = heldStore l process in
+    restoreTo process (turnOf l s) s n (awaitedOf l s)
 -- "`follow coord proc tx` sends the holder the store, the outcome and the update (0 if aborted)"
 messageFor (Follow c process tx) d l n =
     let s = votingStore l process tx in
     followTo process s tx (outcomeOf l tx) (updateOf l tx s)
 messageFor (Crash role id) d l n = d
+messageFor (Back process turn) d l n = d
 
 -- ---- the step: the parts are taken from their places, changed, and put back
 
@@ -205,8 +217,9 @@ abbrev pub partsOf : World → Step → Parts
 partsOf w s = partsAt w (placesIn w s) (messageIn w s)
 
 -- the world with the parts of the change at these places, and the coordinator's log fed the batch.
--- The process may take r, the replay of the message delivered, or that message as a follow. With the
--- message that is sent next may go its store's replay, by the coordinator's log
+-- The process may take r, the replay of the message delivered, or that message as a follow, or
+-- start anew. With the message that is sent next may go its store's replay, by the coordinator's
+-- log
 abbrev pub putBack : World → Places → Replay → Change → World
 putBack w at r ch =
     let log = logOf w (at .coordinator) in
@@ -216,11 +229,16 @@ putBack w at r ch =
       coordinators = set (w .coordinators) (at .coordinator) (ch .parts .coordinator);
       logs = set (w .logs) (at .coordinator) (feed log (entriesOf (ch .learned)));
       processes = set (w .processes) (at .process) (ch .parts .process);
-      restored = cond (ch .takes) (set (w .restored) (at .process) r) (w .restored);
+      restored =
+          cond (ch .anew)
+          (set (w .restored) (at .process) noReplay)
+          (cond (ch .takes) (set (w .restored) (at .process) r) (w .restored));
       follows =
-          cond (ch .follows)
+          cond (ch .anew)
+          (set (w .follows) (at .process) noFollows)
+          (cond (ch .follows)
           (set (w .follows) (at .process) (withFollow (followsOf w (at .process)) (ch .parts .message)))
-          (w .follows);
+          (w .follows));
       down = ch .parts .down;
       messages = w .messages;
       replays = cond (ch .gives) (set (w .replays) (w .sent) (replayOf log (ch .message .store))) (w .replays);

@@ -4,7 +4,7 @@ use Prim.Native.Nat.{ℕ, _+_, _*_}
 use mathlib.Core.Bool.{Bool, true, false}
 use mathlib.Core.List.{[]}
 use lib.ListN.{getD, replicate, set}
-use Rattle.log_entry.specs.Limits.{transactions}
+use Rattle.log_entry.specs.Limits.{firstTurn, processPlaces, transactions}
 use Rattle.log_core.specs.declared.Log.{Log}
 use Rattle.log_core.specs.declared.Replay.{Replay}
 use Rattle.log_votes.specs.declared.Outcome.the-variants.{Open}
@@ -23,7 +23,7 @@ use Rattle.model_protocol.specs.declared.Process.{Process}
 use Rattle.model_protocol.specs.declared.Round.{Round}
 use Rattle.model_protocol.specs.declared.World.{World}
 use Rattle.model_protocol.specs.Batch.{noBatch}
-use Rattle.model_protocol.specs.Limits.{slotPlaces, processPlaces}
+use Rattle.model_protocol.specs.Limits.{slotPlaces}
 use Rattle.model_protocol.specs.Message.{noMessage}
 use Rattle.model_protocol.specs.Queue.{queueOf}
 
@@ -40,9 +40,13 @@ newRound b = record { ballot = b; promises = 0; accepted = 0; batch = noBatch; p
 unfoldable pub freshCoordinator : Coordinator
 freshCoordinator = record { applied = 0; queue = queueOf []; round = newRound 0 }
 
--- a process as in a fresh world: it heard nothing and took no restore
-unfoldable pub freshProcess : Process
-freshProcess = record { heard = replicate transactions (record { outcome = Open }); store = 0; position = 0; running = 0; followed = 0 }
+-- a process as in a fresh world, in this turn: it heard nothing and took no restore
+unfoldable pub startedIn : ℕ → Process
+startedIn turn = record { turn = turn; heard = replicate transactions (record { outcome = Open }); store = 0; position = 0; running = 0; followed = 0 }
+
+-- its present turn is "1 at setup"
+abbrev pub freshProcess : Process
+freshProcess = startedIn firstTurn
 
 -- the follow of no transaction
 abbrev pub noFollowed : Followed
@@ -137,3 +141,7 @@ crashed d Coord id =
     record { acceptors = d .acceptors; coordinators = set (d .coordinators) id true; processes = d .processes }
 crashed d Proc id =
     record { acceptors = d .acceptors; coordinators = d .coordinators; processes = set (d .processes) id true }
+
+-- the process is up from now on
+abbrev pub upAgain : Down → ℕ → Down
+upAgain d id = record { acceptors = d .acceptors; coordinators = d .coordinators; processes = set (d .processes) id false }

@@ -4,12 +4,12 @@ use limits::ACCEPTOR_PLACES;
 use limits::BATCH_PLACES;
 use limits::COORDINATOR_PLACES;
 use limits::MESSAGE_PLACES;
-use limits::PROCESS_PLACES;
 use limits::QUEUE_PLACES;
 use limits::SLOT_PLACES;
 use log_core::Log;
 use log_core::Replay;
 use log_entry::Entry;
+use log_entry::limits::PROCESS_PLACES;
 use log_entry::limits::TRANSACTION_PLACES;
 use log_entry::limits::Update;
 
@@ -44,6 +44,8 @@ pub struct Message {
     pub kind: Kind,
     // Of a request the coordinator, of a tell, a restore and a follow the process that it goes to.
     pub to: u8,
+    // Of a restore: the holder's turn. It stands here, where a byte more costs no room.
+    pub turn: u8,
     // The acceptor that a prepare or an accept goes to, or that a promise or an acceptance comes
     // from.
     pub acceptor: u8,
@@ -112,6 +114,8 @@ pub struct Heard {
 }
 
 pub struct Process {
+    // Its present turn: 1 at first, and then the one that it came back with last.
+    pub turn: u8,
     // By transaction.
     pub heard: [Heard; TRANSACTION_PLACES],
     // The last restore that it took: store, position, and the transactions listed as running, bit t
@@ -151,8 +155,6 @@ pub struct World {
     pub coordinators: [Coordinator; COORDINATOR_PLACES],
     // By coordinator.
     pub logs: [Log; COORDINATOR_PLACES],
-    // Processes are numbered from 1.
-    pub processes: [Process; PROCESS_PLACES],
     // By process: the replay of the last restore that it took.
     pub restored: [Replay; PROCESS_PLACES],
     // By process: the follows that it took. Those of now are those that it has in `followed`.
@@ -163,6 +165,9 @@ pub struct World {
     // By message: of a restore the store's replay.
     pub replays: [Replay; MESSAGE_PLACES],
     pub sent: u8,
+    // Processes are numbered from 1. They stand last: a fresh one has a turn, so it is not all
+    // zeros, and what stands behind it the compiler would copy once more when a world is made.
+    pub processes: [Process; PROCESS_PLACES],
 }
 
 // The parts of the world that a step looks at and may change: of coordinators, slots, processes and
@@ -193,6 +198,8 @@ pub struct Change {
     pub takes: bool,
     // Whether the process takes the follow that is the message delivered.
     pub follows: bool,
+    // Whether the process starts anew: what stands beside it is as in a fresh world.
+    pub anew: bool,
 }
 
 // Where in the world the parts of a step stand.

@@ -1,5 +1,4 @@
 // The limits of what the parties hold. `specs/Limits.antt` has the same numbers for the contracts.
-use log_entry::limits::PROCESSES;
 use model_steps::limits::COORDINATORS;
 use model_steps::limits::INSTANCES;
 use model_steps::limits::MESSAGES;
@@ -19,9 +18,6 @@ pub const COORDINATOR_PLACES: usize = COORDINATORS as usize;
 pub const INSTANCE_PLACES: usize = INSTANCES as usize;
 
 pub const MESSAGE_PLACES: usize = MESSAGES as usize;
-
-// Processes are numbered from 1: place 0 is not used.
-pub const PROCESS_PLACES: usize = PROCESSES as usize + 1;
 
 // A slot for every acceptor and instance.
 pub const SLOT_PLACES: usize = ACCEPTOR_PLACES * INSTANCE_PLACES;

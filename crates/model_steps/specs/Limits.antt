@@ -1,14 +1,14 @@
 -- Document 01, "Numbers in use": the limits of what a step of the world names, beside those of its
 -- entry.
 use Prim.Native.Nat.{ℕ}
-use mathlib.Core.Bool.{Bool, _&&_, _||_, not}
+use mathlib.Core.Bool.{Bool, _||_, not}
 use lib.Dec.{eqb, leb, ltb}
-use Rattle.log_entry.specs.Entry.{noProcess, outside}
+use Rattle.log_entry.specs.Entry.{noProcess, noTurn, outside}
 use Rattle.log_entry.specs.Limits.{transactions}
 use Rattle.model_steps.specs.declared.Role.{Role}
 use Rattle.model_steps.specs.declared.Role.the-variants.{Acceptor, Coord, Proc}
 use Rattle.model_steps.specs.declared.Step.{Step}
-use Rattle.model_steps.specs.declared.Step.the-variants.{Setup, Request, Open, Propose, Deliver, Tell, Restore, Follow, Crash}
+use Rattle.model_steps.specs.declared.Step.the-variants.{Setup, Request, Open, Propose, Deliver, Tell, Restore, Follow, Crash, Back}
 
 -- coordinators are 0 to 2
 abbrev pub coordinators : ℕ
@@ -55,3 +55,4 @@ outsideStep acceptors (Tell c p tx) = noCoordinator c || noProcess p || leb tran
 outsideStep acceptors (Restore c p) = noCoordinator c || noProcess p
 outsideStep acceptors (Follow c p tx) = noCoordinator c || noProcess p || leb transactions tx
 outsideStep acceptors (Crash role id) = noParty acceptors role id
+outsideStep acceptors (Back p t) = noProcess p || noTurn t

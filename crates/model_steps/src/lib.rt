@@ -9,7 +9,8 @@ pub enum Role {
     Proc,
 }
 
-// Document 01's steps. `take` and `vote` are a request: the entry, and the coordinator in `to`.
+// The steps of document 01, and `follow` and `back` of document 02. `take` and `vote` are a
+// request: the entry, and the coordinator in `to`.
 pub enum Step {
     Setup { acceptors: u8 },
     Request { entry: Entry, to: u8 },
@@ -20,6 +21,7 @@ pub enum Step {
     Restore { coord: u8, process: u8 },
     Follow { coord: u8, process: u8, tx: u8 },
     Crash { role: Role, id: u8 },
+    Back { process: u8, turn: u8 },
 }
 
 // What a line asks for: a step to be taken, or only the answer to a line that is no step.

@@ -2,7 +2,7 @@
 ghost use mathlib.Core.Path.{_≡_};
 ghost use mathlib.Core.Bool.{_||_, not};
 ghost use lib.Dec.{eqb, leb};
-ghost use Rattle.log_entry.specs.Entry.{noProcess, outside};
+ghost use Rattle.log_entry.specs.Entry.{noProcess, noTurn, outside};
 ghost use Rattle.log_entry.specs.Limits.{transactions};
 ghost use Rattle.model_steps.specs.Limits.{fewestAcceptors, instances, mostAcceptors, noBallot, noCoordinator, noParty, outsideStep};
 use crate::Role;
@@ -66,6 +66,12 @@ fn no_party(acceptors: u8, role: Role, id: u8) -> bool
     }
 }
 
+fn no_back(process: u8, turn: u8) -> bool
+    ensures { λ r. ⌜ r ≡ (noProcess process || noTurn turn) ⌝ }
+{
+    log_entry::no_process(process) | log_entry::no_turn(turn)
+}
+
 // Refusal 2, where this many acceptors count.
 pub fn outside(acceptors: u8, s: Step) -> bool
     ensures { λ r. ⌜ r ≡ outsideStep acceptors s ⌝ }
@@ -88,5 +94,6 @@ pub fn outside(acceptors: u8, s: Step) -> bool
         Step::Restore { coord, process } => no_restore(coord, process),
         Step::Follow { coord, process, tx } => no_tell(coord, process, tx),
         Step::Crash { role, id } => no_party(acceptors, role, id),
+        Step::Back { process, turn } => no_back(process, turn),
     }
 }

@@ -2,7 +2,7 @@
 -- texts of entries within the limits.
 use Prim.Native.Nat.{ℕ, _≤_}
 use native.Mathlib.Omega.{arith}
-use mathlib.Core.Bool.{Bool, true, false, _||_, not, cond}
+use mathlib.Core.Bool.{Bool, true, false, not, cond}
 use mathlib.Core.List.{List, _∷_}
 use mathlib.Core.Option.{Option}
 use mathlib.Core.Path.{_≡_, refl, sym, _∙_, ap}
@@ -11,13 +11,14 @@ use lib.ListN.{getD, length}
 use borrow.Author.Tests.{le-ltb, lt-ltb}
 use Rattle.log_entry.specs.declared.Entry.{Entry}
 use Rattle.log_entry.specs.Entry.{illFormed, outside}
-use Rattle.log_entry.specs.Refusal.{accepted, check, firstRefusal, holdsOrHeld, illFormedVote, keptAlready, notHolder, otherList, outsideLimits, unreadable}
+use Rattle.log_entry.specs.Refusal.{accepted, check, firstRefusal, holdsAnother, illFormedVote, keptAlready, notHolder, otherList, outsideLimits, unreadable, wrongTurn}
 use Rattle.log_core.specs.declared.Log.{Log}
 use Rattle.log_core.specs.Decide.{refusal}
 use Rattle.log_core.specs.Enter.{answered, enter}
 use Rattle.log_core.proofs.EnterLaws.{answer-is, enter-outside as entered-outside, refusalOf}
-use Rattle.log_core.specs.Log.{heldBefore, holderOf, rowOf}
-use Rattle.log_core.specs.Refusal.{holdsAny, takeChecks}
+use Rattle.log_core.specs.Log.{holderOf, latestOf, rowOf, turnOf}
+use Rattle.log_core.specs.Refusal as log
+use Rattle.log_core.specs.Refusal.{takeChecks}
 use Rattle.log_votes.specs.Row.{noVote}
 use Rattle.log_votes.specs.Refusal.{anyClash, voteChecks}
 use Rattle.text_entry.specs.declared.Reading.{Reading}
@@ -62,16 +63,19 @@ other-line-is-unreadable l s h = go (ltb maxLineBytes (length s)) (reading s) re
     go false Unreadable k = refl
 
 -- no other refusal of an entry has the number 2
-take-not-2 : (b : Bool) → cond b holdsOrHeld accepted ≡ outsideLimits → ⊥
-take-not-2 true h = omega arith
-take-not-2 false h = omega arith
+take-not-2 : (a b : Bool) → cond a holdsAnother (cond b wrongTurn accepted) ≡ outsideLimits → ⊥
+take-not-2 true b h = omega arith
+take-not-2 false true h = omega arith
+take-not-2 false false h = omega arith
 
-vote-not-2 : (a b c d : Bool) → cond a illFormedVote (cond b notHolder (cond c otherList (cond d keptAlready accepted))) ≡ outsideLimits → ⊥
-vote-not-2 true b c d h = omega arith
-vote-not-2 false true c d h = omega arith
-vote-not-2 false false true d h = omega arith
-vote-not-2 false false false true h = omega arith
-vote-not-2 false false false false h = omega arith
+vote-not-2 : (a b c d t : Bool)
+    → cond a illFormedVote (cond b notHolder (cond c otherList (cond d keptAlready (cond t wrongTurn accepted)))) ≡ outsideLimits → ⊥
+vote-not-2 true b c d t h = omega arith
+vote-not-2 false true c d t h = omega arith
+vote-not-2 false false true d t h = omega arith
+vote-not-2 false false false true t h = omega arith
+vote-not-2 false false false false true h = omega arith
+vote-not-2 false false false false false h = omega arith
 
 refused-2 : (l : Log) (e : Entry) → refusalOf l e ≡ outsideLimits → outside e ≡ true
 unfolding refusal firstRefusal
@@ -80,12 +84,15 @@ refused-2 l e h = go (outside e) refl
     never : outside e ≡ false → (t : Bool)
         → firstRefusal
         (check outsideLimits (outside e)
-        ∷ cond t (takeChecks (l .holders) (getD (l .takers) (e .store) 0) e) (voteChecks (rowOf l (e .tx)) (holderOf l (e .by)) e))
+        ∷ cond t
+        (takeChecks (l .holders) (getD (l .takers) (e .store) 0) (latestOf l (e .process)) e)
+        (voteChecks (rowOf l (e .tx)) (holderOf l (e .by)) (turnOf l (e .by)) e))
         ≡ outsideLimits
         → ⊥
-    never k true h = take-not-2 (holdsAny (l .holders) (e .process) || heldBefore l (e .process) (e .store)) (rw k at h)
+    never k true h =
+        take-not-2 (log.holdsAnother (l .holders) (e .process) (e .store)) (log.wrongTurn (getD (l .takers) (e .store) 0) (latestOf l (e .process)) e) (rw k at h)
     never k false h =
-        vote-not-2 (illFormed e) (not (eqb (holderOf l (e .by)) (e .process))) (anyClash e (rowOf l (e .tx) .votes)) (getD (rowOf l (e .tx) .votes) (e .store) noVote .kept) (rw k at h)
+        vote-not-2 (illFormed e) (not (eqb (holderOf l (e .by)) (e .process))) (anyClash e (rowOf l (e .tx) .votes)) (getD (rowOf l (e .tx) .votes) (e .store) noVote .kept) (not (eqb (turnOf l (e .by)) (e .turn))) (rw k at h)
 
     go : (o : Bool) → outside e ≡ o → o ≡ true
     go true k = refl

@@ -43,7 +43,7 @@ fn refuse(answer: u8) -> Command
 {
     Command {
         refused: answer,
-        entry: Entry::take_of(0, 0),
+        entry: Entry::take_of(0, 0, 0),
     }
 }
 

@@ -55,10 +55,11 @@ pub extern "C" fn release_log_add(
     tx: u32,
     list: u32,
     say: u32,
+    turn: u32,
     update: Update,
 ) -> u32
-    ensures { λ r. ⌜ r ≡ addAnswer (now (records .entry)) count (numbers kind process by store tx list say update) ⌝ }
-    ensures { λ r. ⌜ now (records .exit) ≡ addBytes (now (records .entry)) count (numbers kind process by store tx list say update) ⌝ }
+    ensures { λ r. ⌜ r ≡ addAnswer (now (records .entry)) count (numbers kind process by store tx list say turn update) ⌝ }
+    ensures { λ r. ⌜ now (records .exit) ≡ addBytes (now (records .entry)) count (numbers kind process by store tx list say turn update) ⌝ }
 {
     let mut answer: u8 = ACCEPTED;
     let log = lent_log(&records[..], count, &mut answer);
@@ -73,6 +74,7 @@ pub extern "C" fn release_log_add(
         tx: tx,
         list: list,
         say: say,
+        turn: turn,
         update: update,
     };
     match numbers.read() {

@@ -3,76 +3,86 @@ use Prim.Native.Nat.{ℕ, _<_, _^_}
 use native.Mathlib.Omega.{arith}
 use mathlib.Core.Bool.{Bool, true, false, true≢false}
 use mathlib.Core.List.{List, []}
-use mathlib.Core.Logic.{_⊎_, inl, inr}
+use mathlib.Core.Logic.{inl, inr}
 use mathlib.Core.Option.{some}
 use mathlib.Core.Path.{_≡_, refl, sym, _∙_, ap, subst}
-use Rattle.text_ascii.specs.Hex.{earlierDigits, updateDigits}
+use Rattle.text_ascii.specs.Hex.{updateDigits}
 use Rattle.text_ascii.proofs.Words.{clash}
 use Rattle.log_entry.specs.declared.Entry.{Entry}
 use Rattle.log_entry.specs.Entry.{outside, takeEntry}
 use Rattle.log_entry.specs.Limits.{lists}
 use Rattle.text_entry.specs.declared.Reading.the-variants.{Read, Outside, Unreadable}
-use Rattle.text_entry.specs.Claims.{IsText, IsTextIn, OutsideLineIsText, ReadLineIsText, ReadsExactly, TextReadsBack, TextWithinLimitsRead, UnreadableIsNoText}
+use Rattle.text_entry.specs.Claims.{IsText, OutsideLineIsText, ReadLineIsText, ReadsExactly, TextReadsBack, TextWithinLimitsRead, UnreadableIsNoText}
 use Rattle.text_entry.specs.Fields.{inHex, lineText}
-use Rattle.text_entry.specs.Kinds.{takeKind, voteKind, voteWith}
+use Rattle.text_entry.specs.Kinds.{takeKind, takeWith, voteKind, voteWith}
 use Rattle.text_entry.specs.Table.{reader}
-use Rattle.text_entry.specs.Entry.{text, textIn, HasTextIn, takeOf, takeValues, voteOf, voteValues, entryReaders, readEntry, beyond, readingOf, reading}
+use Rattle.text_entry.specs.Entry.{HasTextIn, beyond, entryReaders, inFull, readEntry, readingOf, takeOf, takeValues, text, textIn, turnIn, voteOf, voteValues}
 use Rattle.text_entry.proofs.LineTexts.{LineIs, WritableAll, line-text-is, oneTextAll, written-line}
 use Rattle.text_entry.proofs.Beyond.{beyond-is-outside}
 use Rattle.text_entry.proofs.Table.{Distinct, by-fields, first-reads, first-written, namesApart, outside-some, read-some, unreadable-none, some-not}
-use Rattle.text_entry.proofs.Votes.{earlier-written, now-written, read-by, vote-back, vote-sound, vote-values, vote-writable, which-written}
+use Rattle.text_entry.proofs.Takes.{known-take, take-one, take-sound, take-writable, which-take}
+use Rattle.text_entry.proofs.TextReads.{clashAll}
+use Rattle.text_entry.proofs.Turns.{turn-written}
+use Rattle.text_entry.proofs.Votes.{known-vote, read-by, vote-back, vote-one, vote-sound, vote-values, vote-writable, which-vote}
 
--- a text with a count of digits that is read
-module _ (digits : ℕ) (voted : (vs s : List ℕ) → LineIs (voteWith (inHex digits)) vs s → LineIs voteKind vs s) (s : List ℕ) (e : Entry) (t : IsTextIn digits s e) where
-  take-line : e ≡ takeEntry (e .process) (e .store) → LineIs takeKind (takeValues e) s
+-- a text of an entry is a line of its kind, and is read as the entry
+module _ (s : List ℕ) (e : Entry) (t : IsText s e) where
+  take-line : e ≡ takeEntry (e .process) (e .turn) (e .store) → LineIs takeKind (takeValues e) s
   unfolding textIn
   take-line h =
-      let written : s ≡ lineText takeKind (takeValues e) = t .line ∙ ap (textIn digits) h in
-      subst (LineIs takeKind (takeValues e)) (sym written) (written-line takeKind (takeValues e) (tt, (tt, tt)))
+      let k = takeWith (turnIn (t .way .shown)) in
+      let written : s ≡ lineText k (takeValues e) = t .line ∙ ap (textIn (t .way)) h in
+      known-take [] (t .way .shown) (takeValues e) s
+      (subst (LineIs k (takeValues e)) (sym written) (written-line k (takeValues e) (take-writable (t .way .shown) e (t .hasText .0))))
 
-  vote-line : (e .take ≡ false) × (e .participants < lists) × (e .update < 16 ^ digits) → LineIs voteKind (voteValues e) s
+  vote-line : (e .take ≡ false) × (e .participants < lists) × (e .update < 16 ^ t .way .digits) → LineIs voteKind (voteValues e) s
   unfolding textIn
   vote-line h =
-      let k = voteWith (inHex digits) in
+      let k = voteWith (turnIn (t .way .shown)) (inHex (t .way .digits)) in
       let written : s ≡ lineText k (voteValues e) = t .line ∙ rw (h .0) in
-      voted (voteValues e) s (subst (LineIs k (voteValues e)) (sym written) (written-line k (voteValues e) (vote-writable digits e (h .1) (h .2))))
+      known-vote [] (voteValues e) s (t .way) (t .known)
+      (subst (LineIs k (voteValues e)) (sym written) (written-line k (voteValues e) (vote-writable (t .way) e (t .hasText .0) (h .1) (h .2))))
 
-  reads-in : readEntry s ≡ some e
-  unfolding readEntry namesApart clash
-  reads-in = go (t .hasText)
+  every-text-reads : readEntry s ≡ some e
+  unfolding readEntry namesApart clash clashAll
+  every-text-reads = go (t .hasText)
     where
-      go : HasTextIn digits e → readEntry s ≡ some e
-      go (inl h) = first-reads entryReaders 0 (reader takeKind takeOf) (takeValues e) s refl refl (tt, (tt, tt)) (take-line h) ∙ ap some (sym h)
-      go (inr h) = first-reads entryReaders 1 (reader voteKind voteOf) (voteValues e) s refl refl vote-sound (vote-line h) ∙ ap some (vote-back e (h .0))
-
-every-text-reads : (s : List ℕ) (e : Entry) → IsText s e → readEntry s ≡ some e
-every-text-reads s e (inl t) = reads-in updateDigits (now-written []) s e t
-every-text-reads s e (inr t) = reads-in earlierDigits (earlier-written []) s e t
+      go : HasTextIn (t .way) e → readEntry s ≡ some e
+      go (n, inl h) = first-reads entryReaders 0 (reader takeKind takeOf) (takeValues e) s refl refl (take-sound [] refl tt) (take-line h) ∙ ap some (sym h)
+      go (n, inr h) = first-reads entryReaders 1 (reader voteKind voteOf) (voteValues e) s refl refl (vote-sound [] refl tt) (vote-line h) ∙ ap some (vote-back e (h .0))
 
 pub text-reads-back : TextReadsBack
-text-reads-back e h = every-text-reads (text e) e (inl (record { line = refl; hasText = h }))
+text-reads-back e h = every-text-reads (text e) e (record { way = inFull; known = inl refl; line = refl; hasText = h })
 
 take-is-text : (s vs : List ℕ) → LineIs takeKind vs s → IsText s (takeOf vs)
 unfolding textIn oneTextAll
 take-is-text s vs l =
-    let r = line-text-is takeKind vs s refl l in
-    inl (record { line = r .text ∙ ap (lineText takeKind) (by-fields takeKind vs s l); hasText = inl refl })
-
-vote-is-text-in : (digits : ℕ) (s vs : List ℕ) → LineIs (voteWith (inHex digits)) vs s → IsTextIn digits s (voteOf vs)
-unfolding textIn oneTextAll
-vote-is-text-in digits s vs l =
-    let k = voteWith (inHex digits) in
-    let r = line-text-is k vs s refl l in
-    let e = by-fields k vs s l in
+    let t = which-take [] vs s l in
+    let k = takeWith (turnIn (t .0)) in
+    let r = line-text-is k vs s (take-one [] (t .0) refl) (t .1) in
+    let e = by-fields k vs s (t .1) in
     let w = subst (WritableAll (k .fields)) e (r .writable) in
-    record { line = r .text ∙ ap (lineText k) (e ∙ vote-values vs (w .1 .1 .1 .1 .1 .0)); hasText = inr (refl, w .1 .1 .1 .1 .0, w .1 .1 .1 .1 .1 .1 .0) }
+    record {
+      way = record { shown = t .0; digits = updateDigits };
+      known = inl refl;
+      line = r .text ∙ ap (lineText k) e;
+      hasText = (turn-written (t .0) _ (w .1 .0), inl refl);
+    }
 
 vote-is-text : (s vs : List ℕ) → LineIs voteKind vs s → IsText s (voteOf vs)
-vote-is-text s vs l = go (which-written [] vs s l)
-  where
-    go : LineIs (voteWith (inHex updateDigits)) vs s ⊎ LineIs (voteWith (inHex earlierDigits)) vs s → IsText s (voteOf vs)
-    go (inl k) = inl (vote-is-text-in updateDigits s vs k)
-    go (inr k) = inr (vote-is-text-in earlierDigits s vs k)
+unfolding textIn oneTextAll
+vote-is-text s vs l =
+    let t = which-vote [] vs s l in
+    let k = voteWith (turnIn (t .0 .shown)) (inHex (t .0 .digits)) in
+    let r = line-text-is k vs s (vote-one [] (t .0) refl) (t .2) in
+    let e = by-fields k vs s (t .2) in
+    let w = subst (WritableAll (k .fields)) e (r .writable) in
+    record {
+      way = t .0;
+      known = t .1;
+      line = r .text ∙ ap (lineText k) (e ∙ vote-values vs (w .1 .1 .1 .1 .1 .1 .0));
+      hasText = (turn-written (t .0 .shown) _ (w .1 .0), inr (refl, w .1 .1 .1 .1 .1 .0, w .1 .1 .1 .1 .1 .1 .1 .0));
+    }
 
 read-is-text : (s : List ℕ) (e : Entry) → readEntry s ≡ some e → IsText s e
 unfolding readEntry
@@ -93,8 +103,7 @@ distinct = record {
 
 -- a text with a number beyond a byte has one outside its limits
 pub text-beyond : (s : List ℕ) (e : Entry) → IsText s e → beyond e ≡ true → outside e ≡ true
-text-beyond s e (inl t) = beyond-is-outside updateDigits e (t .hasText)
-text-beyond s e (inr t) = beyond-is-outside earlierDigits e (t .hasText)
+text-beyond s e t = beyond-is-outside (t .way) e (t .hasText)
 
 within-bytes : (s : List ℕ) (e : Entry) → IsText s e → outside e ≡ false → beyond e ≡ false
 within-bytes s e t h = go (beyond e) refl

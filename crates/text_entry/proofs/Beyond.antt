@@ -8,9 +8,9 @@ use mathlib.Core.Path.{_≡_, refl, ap}
 use lib.Dec.{eqb, leb, ltb}
 use borrow.Author.Tests.{leb-true, le-leb, lt-ltb}
 use Rattle.log_entry.specs.declared.Entry.{Entry}
-use Rattle.log_entry.specs.Entry.{noProcess, outside}
-use Rattle.log_entry.specs.Limits.{stores, transactions, processes, lists, updates}
-use Rattle.text_entry.specs.Entry.{HasTextIn, beyond, numbers}
+use Rattle.log_entry.specs.Entry.{noProcess, noTurn, outside}
+use Rattle.log_entry.specs.Limits.{stores, transactions, processes, turns, lists, updates}
+use Rattle.text_entry.specs.Entry.{HasTextIn, Way, beyond, numbers}
 use Rattle.text_entry.specs.Table.{anyBeyond, noByte}
 
 -- one of the numbers is beyond a byte
@@ -39,22 +39,39 @@ module _ (a b c : Bool) where
 pub no-such-process : (p : ℕ) → 256 ≤ p → noProcess p ≡ true
 no-such-process p h = elim (eqb p 0) as (λ x. (x || ltb processes p) ≡ true) [ true ↦ refl | false ↦ lt-ltb processes p (omega arith) ]
 
+pub no-such-turn : (t : ℕ) → 256 ≤ t → noTurn t ≡ true
+no-such-turn t h = elim (eqb t 0) as (λ x. (x || ltb turns t) ≡ true) [ true ↦ refl | false ↦ lt-ltb turns t (omega arith) ]
+
 -- the parts of a vote's limits that a take has none of
 module _ (e : Entry) where
   vote-limits : Bool
   vote-limits = not (e .take) && (leb stores (e .by) || leb transactions (e .tx) || leb lists (e .participants) || leb updates (e .update))
 
-  process-outside : 256 ≤ e .process → outside e ≡ true
+  abbrev process : Bool
+  process = noProcess (e .process)
+
+  abbrev turn : Bool
+  turn = noTurn (e .turn)
+
+  abbrev store : Bool
+  store = leb stores (e .store)
+
+  one-outside : (process || turn || store) ≡ true → outside e ≡ true
   unfolding outside vote-limits
-  process-outside h = first-of (noProcess (e .process)) (leb stores (e .store)) vote-limits (no-such-process (e .process) h)
+  one-outside h = ap (λ (b : Bool). b || vote-limits) h
+
+  process-outside : 256 ≤ e .process → outside e ≡ true
+  process-outside h = one-outside (first-of process turn store (no-such-process (e .process) h))
+
+  turn-outside : 256 ≤ e .turn → outside e ≡ true
+  turn-outside h = one-outside (second-of process turn store (no-such-turn (e .turn) h))
 
   store-outside : 256 ≤ e .store → outside e ≡ true
-  unfolding outside vote-limits
-  store-outside h = second-of (noProcess (e .process)) (leb stores (e .store)) vote-limits (le-leb stores (e .store) (omega arith))
+  store-outside h = one-outside (third-of process turn store (le-leb stores (e .store) (omega arith)))
 
   others-outside : (leb stores (e .by) || leb transactions (e .tx) || leb lists (e .participants) || leb updates (e .update)) ≡ true → e .take ≡ false → outside e ≡ true
   unfolding outside vote-limits
-  others-outside h t = third-of (noProcess (e .process)) (leb stores (e .store)) vote-limits (rw t h)
+  others-outside h t = third-of (process || turn) store vote-limits (rw t h)
 
   by-outside : 256 ≤ e .by → e .take ≡ false → outside e ≡ true
   by-outside h = others-outside (rw (le-leb stores (e .by) (omega arith)))
@@ -73,23 +90,29 @@ module _ (e : Entry) where
 no-number : (n : ℕ) → n ≡ 0 → 256 ≤ n → ⊥
 no-number n h k = omega arith
 
-pub beyond-is-outside : (digits : ℕ) (e : Entry) → HasTextIn digits e → beyond e ≡ true → outside e ≡ true
-beyond-is-outside digits e (inl h) =
+pub beyond-is-outside : (w : Way) (e : Entry) → HasTextIn w e → beyond e ≡ true → outside e ≡ true
+beyond-is-outside w e (t, inl h) =
     beyond-cases (outside e ≡ true) (numbers e) (
       process-outside e,
       (
-        (λ m. absurd (no-number (e .by) (ap (λ (x : Entry). x .by) h) m)),
+        turn-outside e,
         (
-          store-outside e,
+          (λ m. absurd (no-number (e .by) (ap (λ (x : Entry). x .by) h) m)),
           (
-            (λ m. absurd (no-number (e .tx) (ap (λ (x : Entry). x .tx) h) m)),
-            ((λ m. absurd (no-number (e .participants) (ap (λ (x : Entry). x .participants) h) m)), tt),
+            store-outside e,
+            (
+              (λ m. absurd (no-number (e .tx) (ap (λ (x : Entry). x .tx) h) m)),
+              ((λ m. absurd (no-number (e .participants) (ap (λ (x : Entry). x .participants) h) m)), tt),
+            ),
           ),
         ),
       ),
     )
-beyond-is-outside digits e (inr h) =
+beyond-is-outside w e (t, inr h) =
     beyond-cases (outside e ≡ true) (numbers e) (
       process-outside e,
-      ((λ m. by-outside e m (h .0)), (store-outside e, ((λ m. tx-outside e m (h .0)), ((λ m. list-outside e m (h .0)), tt)))),
+      (
+        turn-outside e,
+        ((λ m. by-outside e m (h .0)), (store-outside e, ((λ m. tx-outside e m (h .0)), ((λ m. list-outside e m (h .0)), tt)))),
+      ),
     )

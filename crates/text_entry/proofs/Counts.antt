@@ -2,8 +2,8 @@
 use Prim.Native.Nat.{ℕ, suc, _≤_, min}
 use native.Mathlib.Omega.{arith}
 use native.Mathlib.Decide.{decLt}
-use mathlib.Core.Bool.{Bool, true, false, _||_, cond}
-use mathlib.Core.List.{List, [], _∷_}
+use mathlib.Core.Bool.{Bool, true, false, _||_, cond, false≢true}
+use mathlib.Core.List.{List, [], _∷_, _++_}
 use mathlib.Core.Option.{Option, none, some}
 use mathlib.Core.Path.{_≡_, refl, sym, _∙_, ap}
 use lib.ListN.{getD}
@@ -31,6 +31,14 @@ beyond-here n ns h = rw (no-byte n h)
 
 pub beyond-later : (n : ℕ) (ns : List ℕ) → anyBeyond ns ≡ true → anyBeyond (n ∷ ns) ≡ true
 beyond-later n ns h = elim (noByte n) as (λ b. (b || anyBeyond ns) ≡ true) [ true ↦ refl | false ↦ h ]
+
+pub beyond-before : (ns ms : List ℕ) → anyBeyond ns ≡ true → anyBeyond (ns ++ ms) ≡ true
+beyond-before [] ms h = absurd (false≢true h)
+beyond-before (n ∷ ns) ms h = go (noByte n) h (beyond-before ns ms)
+  where
+    go : (b : Bool) → (b || anyBeyond ns) ≡ true → (anyBeyond ns ≡ true → anyBeyond (ns ++ ms) ≡ true) → (b || anyBeyond (ns ++ ms)) ≡ true
+    go true k later = refl
+    go false k later = later k
 
 counted-zero : (f : Form) → counted f 0 ≡ 0
 counted-zero inDecimal = refl

@@ -46,7 +46,7 @@ all-fit [] h = tt
 all-fit (n ∷ ns) h = (leb-false byteNumbers n (none-1 (noByte n) (anyBeyond ns) h), all-fit ns (none-2 (noByte n) (anyBeyond ns) h))
 
 -- numbers that count up to `byteNumbers` only: one of them is beyond a byte, or they are the same
-abbrev capped : List ℕ → List ℕ
+abbrev pub capped : List ℕ → List ℕ
 capped [] = []
 capped (n ∷ ns) = min n byteNumbers ∷ capped ns
 
@@ -61,12 +61,16 @@ capped-fit : (ns : List ℕ) → AllFit ns → capped ns ≡ ns
 capped-fit [] h = refl
 capped-fit (n ∷ ns) h = let e : min n byteNumbers ≡ n = omega (arith, h .0) in λ i. e i ∷ capped-fit ns (h .1) i
 
-pub decimals-capped : (ns : List ℕ) → decimalsOf (some ns) ≡ decimalsOf (some (capped ns))
-decimals-capped ns = go (anyBeyond ns) refl
+-- they tell the same, where all that have a number beyond a byte have one result
+pub capped-same : {R : Type 0} (f : List ℕ → R) (outside : R) (ns : List ℕ) → (anyBeyond ns ≡ true → f ns ≡ outside) → (anyBeyond (capped ns) ≡ true → f (capped ns) ≡ outside) → f ns ≡ f (capped ns)
+capped-same f outside ns here there = go (anyBeyond ns) refl
   where
-    go : (b : Bool) → anyBeyond ns ≡ b → decimalsOf (some ns) ≡ decimalsOf (some (capped ns))
-    go true h = found-outside ns h ∙ sym (found-outside (capped ns) (capped-beyond ns h))
-    go false h = ap (λ (ms : List ℕ). decimalsOf (some ms)) (sym (capped-fit ns (all-fit ns h)))
+    go : (b : Bool) → anyBeyond ns ≡ b → f ns ≡ f (capped ns)
+    go true h = here h ∙ sym (there (capped-beyond ns h))
+    go false h = ap f (sym (capped-fit ns (all-fit ns h)))
+
+pub decimals-capped : (ns : List ℕ) → decimalsOf (some ns) ≡ decimalsOf (some (capped ns))
+decimals-capped ns = capped-same (λ (ms : List ℕ). decimalsOf (some ms)) noneFit ns (found-outside ns) (found-outside (capped ns))
 
 pub one-counts : (j vs : List ℕ) → decimalsOf (some (one vs)) ≡ decimalsOf (some (one (counts (decimalField j ∷ []) vs)))
 one-counts j vs = let h = at-counts (decimalField j ∷ []) vs in decimals-capped (one vs) ∙ (λ i. decimalsOf (some (sym (h 0) i ∷ [])))

@@ -5,8 +5,8 @@ use mathlib.Core.Bool.{Bool, true, false, _&&_, cond}
 use mathlib.Core.List.{List, [], _∷_}
 use mathlib.Core.Option.{none, some}
 use mathlib.Core.Path.{_≡_, refl, sym, _∙_, ap, subst}
-use Rattle.text_entry.specs.Fields.{Field}
-use Rattle.text_entry.specs.Read.{Part, after, readField, isEnd, with, readFields}
+use Rattle.text_entry.specs.Fields.{Field, Form, Presence, absent, always, optional}
+use Rattle.text_entry.specs.Read.{Part, after, isEnd, readField, readFields, readIn, with}
 use Rattle.text_entry.specs.Parts.{counted, countedPart, fieldParts}
 
 -- each part is what the next field reads as after the one before
@@ -50,14 +50,16 @@ counts (f ∷ fs) [] = []
 counts (f ∷ fs) (v ∷ vs) = counted (f .form) v ∷ counts fs vs
 
 -- what is read after a part depends on what stands after it, and not on its value
-field-behind : (f : Field) (p : Part) (v : ℕ) → readField f (record { readable = p .readable; value = v; rest = p .rest }) ≡ readField f p
+field-behind : (pr : Presence) (key : List ℕ) (form : Form) (p : Part) (v : ℕ) → readIn pr key form (record { readable = p .readable; value = v; rest = p .rest }) ≡ readIn pr key form p
 unfolding after
-field-behind f p v = refl
+field-behind always key form p v = refl
+field-behind (optional n) key form p v = refl
+field-behind (absent n) key form p v = refl
 
 fields-behind : (fs : List Field) (p : Part) (v : ℕ) → readFields fs (record { readable = p .readable; value = v; rest = p .rest }) ≡ readFields fs p
 unfolding readFields
 fields-behind [] p v = refl
-fields-behind (f ∷ fs) p v = ap (λ (q : Part). with (q .value) (readFields fs q)) (field-behind f p v)
+fields-behind (f ∷ fs) p v = ap (λ (q : Part). with (q .value) (readFields fs q)) (field-behind (f .presence) (f .key) (f .form) p v)
 
 pub record Told (fs : List Field) (p : Part) (qs : List Part) : Type 0 where
   pub found : List ℕ

@@ -9,6 +9,8 @@ pub mod LineTexts
 pub mod Parts
 pub mod ReadsText
 pub mod Table
+pub mod Takes
 pub mod TextReads
+pub mod Turns
 pub mod Votes
 pub mod Words

@@ -10,9 +10,9 @@ use lib.Dec.{eqb, leb}
 use lib.ListN.{length, drop, drop-of-length-le, length-append}
 use lib.Seq.{drop-cons, drop-drop}
 use Rattle.text_ascii.specs.Bytes.{begins}
-use Rattle.text_entry.specs.Fields.{Form, inHex, inHexOr, inWords}
+use Rattle.text_entry.specs.Fields.{Form, inHex, inHexOr, inWords, keyed, optional}
 use Rattle.text_entry.specs.Seen.{wordAfter}
-use Rattle.text_entry.specs.Read.{Part, part, unreadable, after, orPart, wordOr, readHex, readWord, readValue, valueAfter, isEnd}
+use Rattle.text_entry.specs.Read.{Part, part, unreadable, after, orPart, wordOr, readHex, readWord, readValue, valueAfter, keyedValue, without, readIn, isEnd}
 
 module _ (w : List ℕ) (p : Part) where
   pub after-stopped : p .readable ≡ false → unreadable ≡ after w p
@@ -128,3 +128,11 @@ module _ (k j : ℕ) (p : Part) where
           → cond b (readHex j 0 (p .rest)) unreadable ≡ cond b (orPart (readHex k 0 (p .rest)) (readHex j 0 (p .rest))) unreadable
       go true h = rw h
       go false h = refl
+
+-- a field that a line may be without
+module _ (n : ℕ) (key : List ℕ) (form : Form) (p : Part) where
+  pub field-there : after (keyed key) p .readable ≡ true → keyedValue key form p ≡ readIn (optional n) key form p
+  field-there h = rw h
+
+  pub field-absent : after (keyed key) p .readable ≡ false → without n p ≡ readIn (optional n) key form p
+  field-absent h = rw h

@@ -16,9 +16,9 @@ use Rattle.text_ascii.specs.Hex.{hex, isHexDigit, hexDigitOf, hexGrown}
 use Rattle.text_ascii.proofs.Decimals.{is-digit-low, is-digit-high, digit-byte, decimal-small, decimal-grows}
 use Rattle.text_ascii.proofs.Hexes.{hex-grows, hex-digit-bound}
 use Rattle.text_ascii.proofs.Words.{begins-splits, both-l, both-r}
-use Rattle.text_entry.specs.Fields.{Form, inDecimal, inHex, inHexOr, inWords, Field, keyText, Kind, nameText}
-use Rattle.text_entry.specs.Read.{Part, part, unreadable, leadingZero, readDigits, readDecimal, readHex, readWord, readValue, after, readField, isEnd, with, readFields, readKind}
-use Rattle.text_entry.proofs.LineTexts.{FieldsAre, IsValue, LineIs}
+use Rattle.text_entry.specs.Fields.{Form, inDecimal, inHex, inHexOr, inWords, Presence, always, optional, absent, Field, keyed, Kind, nameText}
+use Rattle.text_entry.specs.Read.{Part, part, unreadable, leadingZero, readDigits, readDecimal, readHex, readWord, readValue, after, keyedValue, without, readIn, readField, isEnd, with, readFields, readKind}
+use Rattle.text_entry.proofs.LineTexts.{FieldsAre, IsFieldIn, IsValue, LineIs}
 
 -- a decimal with a digit's byte behind it
 decimal-byte : (n c : ℕ) → 1 ≤ n → isDigit c ≡ true → decimal n ++ c ∷ [] ≡ decimal (grown n c)
@@ -176,25 +176,38 @@ after-text w p h =
     let t = readable-true (p .readable && begins (p .rest) w) (part 0 (drop (length w) (p .rest))) h in
     record { readable = both-l (p .readable) _ t; text = rw t (begins-splits (p .rest) w (both-r (p .readable) _ t)) }
 
-pub record FieldAt (f : Field) (p : Part) : Type 0 where
+pub record FieldAt (pr : Presence) (key : List ℕ) (form : Form) (p q : Part) : Type 0 where
   pub readable : p .readable ≡ true
-  pub value : List ℕ
-  pub isValue : IsValue (f .form) (readField f p .value) value
-  pub text : p .rest ≡ keyText f ++ (value ++ readField f p .rest)
+  pub here : List ℕ
+  pub isField : IsFieldIn pr key form (q .value) here
+  pub text : p .rest ≡ here ++ q .rest
 
-field-text : (f : Field) (p : Part) → readField f p .readable ≡ true → FieldAt f p
-field-text f p h =
-    let q = after (keyText f) p in
-    let t = readable-true (q .readable) (readValue (f .form) (q .rest)) h in
-    let a = after-text (keyText f) p t in
-    let e : readField f p ≡ readValue (f .form) (q .rest) = rw t in
-    let v = value-text (f .form) (q .rest) (ap (λ (r : Part). r .readable) (sym e) ∙ h) in
+keyed-text : (key : List ℕ) (form : Form) (p : Part) → keyedValue key form p .readable ≡ true → FieldAt always key form p (keyedValue key form p)
+keyed-text key form p h =
+    let q = after (keyed key) p in
+    let t = readable-true (q .readable) (readValue form (q .rest)) h in
+    let a = after-text (keyed key) p t in
+    let e : keyedValue key form p ≡ readValue form (q .rest) = rw t in
+    let v = value-text form (q .rest) (ap (λ (r : Part). r .readable) (sym e) ∙ h) in
     record {
       readable = a .readable;
-      value = v .value;
-      isValue = subst (λ (r : Part). IsValue (f .form) (r .value) (v .value)) (sym e) (v .isValue);
-      text = a .text ∙ ap (λ (r : List ℕ). keyText f ++ r) (v .text) ∙ ap (λ (r : Part). keyText f ++ (v .value ++ r .rest)) (sym e);
+      here = keyed key ++ v .value;
+      isField = record { value = v .value; isValue = subst (λ (r : Part). IsValue form (r .value) (v .value)) (sym e) (v .isValue); text = refl };
+      text =
+          a .text
+          ∙ ap (λ (r : List ℕ). keyed key ++ r) (v .text)
+          ∙ ap (λ (r : Part). keyed key ++ (v .value ++ r .rest)) (sym e)
+          ∙ sym (append-assoc (keyed key) (v .value) (keyedValue key form p .rest));
     }
+
+field-text : (pr : Presence) (key : List ℕ) (form : Form) (p : Part) → readIn pr key form p .readable ≡ true → FieldAt pr key form p (readIn pr key form p)
+field-text always key form p h = keyed-text key form p h
+field-text (optional n) key form p h = go (after (keyed key) p .readable) h
+  where
+    go : (b : Bool) → cond b (keyedValue key form p) (without n p) .readable ≡ true → FieldAt (optional n) key form p (cond b (keyedValue key form p) (without n p))
+    go true m = let k = keyed-text key form p m in record { readable = k .readable; here = k .here; isField = inl (k .isField); text = k .text }
+    go false m = record { readable = m; here = []; isField = inr (refl, refl); text = refl }
+field-text (absent n) key form p h = record { readable = h; here = []; isField = (refl, refl); text = refl }
 
 pub record FieldsAt (fs : List Field) (p : Part) (vs : List ℕ) : Type 0 where
   pub readable : p .readable ≡ true
@@ -218,10 +231,10 @@ fields-text (f ∷ fs) p vs h = go (readFields fs (readField f p)) refl h (field
   where
     joined : (us : List ℕ) → FieldsAt fs (readField f p) us → FieldsAt (f ∷ fs) p (readField f p .value ∷ us)
     joined us r =
-        let t = field-text f p (r .readable) in
+        let t = field-text (f .presence) (f .key) (f .form) p (r .readable) in
         record {
           readable = t .readable;
-          fields = record { value = t .value; rest = readField f p .rest; isValue = t .isValue; text = t .text; left = r .fields };
+          fields = record { here = t .here; rest = readField f p .rest; isField = t .isField; text = t .text; left = r .fields };
         }
 
     go : (o : Option (List ℕ)) → readFields fs (readField f p) ≡ o → with (readField f p .value) o ≡ some vs

@@ -18,10 +18,10 @@ use Rattle.text_ascii.specs.Hex.{hexDigit, hex, isHexDigit, beginsHexDigit}
 use Rattle.text_ascii.proofs.Decimals.{digit-is, decimal-small, decimal-grows, by-digits}
 use Rattle.text_ascii.proofs.Hexes.{hex-digit-is, hex-digit-number}
 use Rattle.text_ascii.proofs.Words.{begins-word, clash, clash-begins, both-l, both-r}
-use Rattle.text_entry.specs.Fields.{Form, inDecimal, inHex, inHexOr, inWords, Field, keyText, Kind, nameText}
-use Rattle.text_entry.specs.Read.{Part, part, unreadable, readDigits, readDecimal, readHex, readWord, orPart, readValue, after, valueAfter, readField, isEnd, with, readFields, readKind}
+use Rattle.text_entry.specs.Fields.{Form, inDecimal, inHex, inHexOr, inWords, Presence, always, optional, absent, Field, keyed, keyText, Kind, nameText}
+use Rattle.text_entry.specs.Read.{Part, part, unreadable, readDigits, readDecimal, readHex, readWord, orPart, readValue, after, valueAfter, keyedValue, without, readIn, readField, isEnd, with, readFields, readKind}
 use Rattle.text_entry.proofs.Digits.{hex-other}
-use Rattle.text_entry.proofs.LineTexts.{FieldsAre, InDigits, IsValue, LineIs}
+use Rattle.text_entry.proofs.LineTexts.{FieldsAre, InDigits, IsFieldIn, IsValue, Lacks, LineIs, Stands}
 
 -- ---- decimals
 
@@ -121,9 +121,22 @@ Sound (inHex k) = Unit {0}
 Sound (inHexOr k j) = j < k
 Sound (inWords ws) = apart ws ≡ true
 
+abbrev keys : List Field → List (List ℕ)
+keys [] = []
+keys (f ∷ fs) = keyText f ∷ keys fs
+
+-- a field that a line may be without has a key that no field behind it has
+abbrev pub OtherKeys : List ℕ → List Field → Type 0
+OtherKeys key fs = clashAll (keyed key) (keys fs) ≡ true
+
+abbrev pub SoundIn : Presence → List ℕ → Form → List Field → Type 0
+SoundIn always key form fs = Sound form
+SoundIn (optional n) key form fs = Sound form × OtherKeys key fs
+SoundIn (absent n) key form fs = Unit {0}
+
 abbrev pub SoundAll : List Field → Type 0
 SoundAll [] = Unit {0}
-SoundAll (f ∷ fs) = Sound (f .form) × SoundAll fs
+SoundAll (f ∷ fs) = SoundIn (f .presence) (f .key) (f .form) fs × SoundAll fs
 
 digits-read : (k v : ℕ) (t r : List ℕ) → InDigits k v t → readHex k 0 (t ++ r) ≡ part v r
 digits-read k v t r h =
@@ -167,14 +180,74 @@ after-reads : (w t : List ℕ) (v : ℕ) → after w (part v (w ++ t)) ≡ part 
 unfolding after
 after-reads w t v = rw (begins-word w t, drop-append-seam w t)
 
-no-digit-next : (fs : List Field) (vs s : List ℕ) → FieldsAre fs vs s → beginsHexDigit s ≡ false
-no-digit-next [] [] s h = ap beginsHexDigit h
-no-digit-next [] (v ∷ vs) s h = absurd h
-no-digit-next (f ∷ fs) [] s h = absurd h
-no-digit-next (f ∷ fs) (v ∷ vs) s h = ap beginsHexDigit (h .text)
+-- ---- what comes next
 
-field-reads : (f : Field) (v : ℕ) (t r : List ℕ) (n : ℕ) → Sound (f .form) → IsValue (f .form) v t → beginsHexDigit r ≡ false → readField f (part n (keyText f ++ (t ++ r))) ≡ part v r
-field-reads f v t r n o h e = ap (valueAfter (f .form)) (after-reads (keyText f) (t ++ r) n) ∙ value-reads (f .form) v t r o h e
+-- every text that begins with the key of one of the fields has the property
+abbrev Each : (List ℕ → Type 0) → List Field → Type 0
+Each P [] = Unit {0}
+Each P (f ∷ fs) = ((t : List ℕ) → P (keyText f ++ t)) × Each P fs
+
+-- then every text of the fields has it, if no bytes have it too
+next-is : (P : List ℕ → Type 0) → P [] → (fs : List Field) (vs s : List ℕ) → Each P fs → FieldsAre fs vs s → P s
+next-is P nil [] [] s each h = subst P (sym h) nil
+next-is P nil [] (v ∷ vs) s each h = absurd h
+next-is P nil (f ∷ fs) [] s each h = absurd h
+next-is P nil (f ∷ fs) (v ∷ vs) s each h = subst P (sym (h .text)) (go (f .presence) (h .isField) (next-is P nil fs vs (h .rest) (each .1) (h .left)))
+  where
+    stands : Stands (f .key) (f .form) v (h .here) → P (h .here ++ h .rest)
+    stands k = subst P (sym (append-assoc (keyText f) (k .value) (h .rest)) ∙ ap (λ (t : List ℕ). t ++ h .rest) (sym (k .text))) (each .0 (k .value ++ h .rest))
+
+    go : (p : Presence) → IsFieldIn p (f .key) (f .form) v (h .here) → P (h .rest) → P (h .here ++ h .rest)
+    go always k later = stands k
+    go (optional n) (inl k) later = stands k
+    go (optional n) (inr k) later = subst (λ (t : List ℕ). P (t ++ h .rest)) (sym (k .1)) later
+    go (absent n) k later = subst (λ (t : List ℕ). P (t ++ h .rest)) (sym (k .1)) later
+
+no-digit-next : (fs : List Field) (vs s : List ℕ) → FieldsAre fs vs s → beginsHexDigit s ≡ false
+no-digit-next fs vs s h = next-is (λ t. beginsHexDigit t ≡ false) refl fs vs s (each fs) h
+  where
+    each : (gs : List Field) → Each (λ t. beginsHexDigit t ≡ false) gs
+    each [] = tt
+    each (g ∷ gs) = ((λ t. refl), each gs)
+
+no-key-next : (key : List ℕ) (fs : List Field) (vs s : List ℕ) → OtherKeys key fs → FieldsAre fs vs s → begins s (keyed key) ≡ false
+unfolding begins clashAll
+no-key-next key fs vs s c h = next-is (λ t. begins t (keyed key) ≡ false) refl fs vs s (each fs c) h
+  where
+    each : (gs : List Field) → OtherKeys key gs → Each (λ t. begins t (keyed key) ≡ false) gs
+    each [] c = tt
+    each (g ∷ gs) c =
+        let b = clash (keyText g) (keyed key) in
+        ((λ t. clash-begins (keyText g) (keyed key) t (both-l b _ c)), each gs (both-r b _ c))
+
+-- ---- fields and lines
+
+key-reads : (key : List ℕ) (form : Form) (v : ℕ) (t r : List ℕ) (n : ℕ) (h : Stands key form v t) → after (keyed key) (part n (t ++ r)) ≡ part 0 (h .value ++ r)
+key-reads key form v t r n h =
+    ap (λ (u : List ℕ). after (keyed key) (part n u)) (ap (λ (u : List ℕ). u ++ r) (h .text) ∙ append-assoc (keyed key) (h .value) r)
+    ∙ after-reads (keyed key) (h .value ++ r) n
+
+keyed-reads : (key : List ℕ) (form : Form) (v : ℕ) (t r : List ℕ) (n : ℕ) → Sound form → Stands key form v t → beginsHexDigit r ≡ false → keyedValue key form (part n (t ++ r)) ≡ part v r
+keyed-reads key form v t r n o h e = ap (valueAfter form) (key-reads key form v t r n h) ∙ value-reads form v (h .value) r o (h .isValue) e
+
+no-key-there : (key r : List ℕ) (n : ℕ) → begins r (keyed key) ≡ false → after (keyed key) (part n r) .readable ≡ false
+unfolding after
+no-key-there key r n h = rw h
+
+nothing-reads : (n v m : ℕ) (t r : List ℕ) → Lacks n v t → without n (part m (t ++ r)) ≡ part v r
+nothing-reads n v m t r h = λ i. part (sym (h .0) i) (h .1 i ++ r)
+
+module _ (key : List ℕ) (form : Form) (v : ℕ) (t r : List ℕ) (m : ℕ) (digit : beginsHexDigit r ≡ false) where
+  field-reads : (p : Presence) → (fs : List Field) (vs : List ℕ) → SoundIn p key form fs → FieldsAre fs vs r → IsFieldIn p key form v t → readIn p key form (part m (t ++ r)) ≡ part v r
+  field-reads always fs vs o l h = keyed-reads key form v t r m o h digit
+  field-reads (optional n) fs vs o l (inl h) =
+      ap (λ (q : Part). cond (q .readable) (keyedValue key form (part m (t ++ r))) (without n (part m (t ++ r)))) (key-reads key form v t r m h)
+      ∙ keyed-reads key form v t r m (o .0) h digit
+  field-reads (optional n) fs vs o l (inr h) =
+      ap (λ (b : Bool). cond b (keyedValue key form (part m (t ++ r))) (without n (part m (t ++ r))))
+      (ap (λ (u : List ℕ). after (keyed key) (part m (u ++ r)) .readable) (h .1) ∙ no-key-there key r m (no-key-next key fs vs r (o .1) l))
+      ∙ nothing-reads n v m t r h
+  field-reads (absent n) fs vs o l h = nothing-reads n v m t r h
 
 pub fields-read : (fs : List Field) (vs s : List ℕ) (n : ℕ) → SoundAll fs → FieldsAre fs vs s → readFields fs (part n s) ≡ some vs
 unfolding readFields
@@ -183,7 +256,8 @@ fields-read [] (v ∷ vs) s n o h = absurd h
 fields-read (f ∷ fs) [] s n o h = absurd h
 fields-read (f ∷ fs) (v ∷ vs) s n o h =
     let e : readField f (part n s) ≡ part v (h .rest) =
-    ap (λ (r : List ℕ). readField f (part n r)) (h .text) ∙ field-reads f v (h .value) (h .rest) n (o .0) (h .isValue) (no-digit-next fs vs (h .rest) (h .left)) in
+    ap (λ (r : List ℕ). readField f (part n r)) (h .text)
+    ∙ field-reads (f .key) (f .form) v (h .here) (h .rest) n (no-digit-next fs vs (h .rest) (h .left)) (f .presence) fs vs (o .0) (h .left) (h .isField) in
     ap (λ (p : Part). with (p .value) (readFields fs p)) e ∙ ap (with v) (fields-read fs vs (h .rest) v (o .1) (h .left))
 
 pub kind-reads : (k : Kind) (vs s : List ℕ) → SoundAll (k .fields) → LineIs k vs s → readKind k s ≡ some vs
@@ -198,11 +272,18 @@ other-kind : (k other : Kind) (vs s : List ℕ) → clash (nameText other) (name
 unfolding after
 other-kind k other vs s h l = rw (ap (λ (r : List ℕ). begins r (nameText k)) (l .text) ∙ clash-begins (nameText other) (nameText k) (l .rest) h)
 
-stopped : (fs : List Field) → readFields fs unreadable ≡ none
-unfolding readFields after
-stopped [] = refl
-stopped (f ∷ fs) = ap (with 0) (stopped fs)
+-- nothing reads behind what does not read
+stopped-in : (p : Presence) (key : List ℕ) (form : Form) (q : Part) → q .readable ≡ false → readIn p key form q .readable ≡ false
+unfolding after
+stopped-in always key form q h = rw h
+stopped-in (optional n) key form q h = rw h
+stopped-in (absent n) key form q h = h
+
+stopped : (fs : List Field) (p : Part) → p .readable ≡ false → readFields fs p ≡ none
+unfolding readFields
+stopped [] p h = rw h
+stopped (f ∷ fs) p h = ap (with (readField f p .value)) (stopped fs (readField f p) (stopped-in (f .presence) (f .key) (f .form) p h))
 
 pub other-kind-unread : (k other : Kind) (vs s : List ℕ) → clash (nameText other) (nameText k) ≡ true → LineIs other vs s → readKind k s ≡ none
 unfolding readKind
-other-kind-unread k other vs s h l = ap (readFields (k .fields)) (other-kind k other vs s h l) ∙ stopped (k .fields)
+other-kind-unread k other vs s h l = ap (readFields (k .fields)) (other-kind k other vs s h l) ∙ stopped (k .fields) unreadable refl

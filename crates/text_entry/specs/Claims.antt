@@ -1,26 +1,24 @@
 -- The claims on the two meanings of a line: `text` writes an entry, `readEntry` and `reading` read
--- a line. An entry is written in one way and read in two.
+-- a line. An entry is written in one way and read in several.
 use Prim.Native.Nat.{ℕ}
 use mathlib.Core.Bool.{true, false}
 use mathlib.Core.List.{List}
-use mathlib.Core.Logic.{_⊎_}
 use mathlib.Core.Option.{some}
 use mathlib.Core.Path.{_≡_}
 use Rattle.log_entry.specs.declared.Entry.{Entry}
 use Rattle.log_entry.specs.Entry.{outside}
-use Rattle.text_ascii.specs.Hex.{earlierDigits, updateDigits}
 use Rattle.text_entry.specs.declared.Reading.the-variants.{Read, Outside, Unreadable}
-use Rattle.text_entry.specs.Entry.{HasText, HasTextIn, readEntry, reading, text, textIn}
+use Rattle.text_entry.specs.Entry.{HasText, HasTextIn, Known, Way, readEntry, reading, text, textIn}
 
--- the line is the text of the entry with so many digits of its update, to the byte
-pub record IsTextIn (digits : ℕ) (s : List ℕ) (e : Entry) : Type 0 where
-  pub line : s ≡ textIn digits e
-  pub hasText : HasTextIn digits e
-
--- "Lines with eight digits are still read and mean the same number": the line is the text of the
--- entry with sixteen digits, or with eight where the number has at most 32 bits
-abbrev pub IsText : List ℕ → Entry → Type 0
-IsText s e = IsTextIn updateDigits s e ⊎ IsTextIn earlierDigits s e
+-- The line is the text of the entry, to the byte, in a way that the entry has a text in. "A line
+-- without it means turn 1": with its turn, or without where that is 1. "Lines with eight digits are
+-- still read and mean the same number": with sixteen digits of its update, or with eight where the
+-- number has at most 32 bits.
+pub record IsText (s : List ℕ) (e : Entry) : Type 0 where
+  pub way : Way
+  pub known : Known way
+  pub line : s ≡ textIn way e
+  pub hasText : HasTextIn way e
 
 -- The text of an entry reads back as that entry, whatever the size of its numbers.
 abbrev pub TextReadsBack : Type 0

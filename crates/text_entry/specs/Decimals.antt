@@ -4,11 +4,15 @@ use mathlib.Core.Bool.{true, false, cond}
 use mathlib.Core.List.{List, [], _∷_}
 use mathlib.Core.Option.{Option, none, some}
 use Rattle.text_entry.specs.declared.decimals.Decimals.{Decimals}
-use Rattle.text_entry.specs.Fields.{Field, field, inDecimal}
+use Rattle.text_entry.specs.Fields.{Field, field, fieldIn, inDecimal, optional}
 use Rattle.text_entry.specs.Table.{anyBeyond, at}
 
 abbrev pub decimalField : List ℕ → Field
 decimalField key = field key inDecimal
+
+-- a decimal that a line may be without; the line then means n
+abbrev pub decimalOr : List ℕ → ℕ → Field
+decimalOr key n = fieldIn (optional n) key inDecimal
 
 -- the first values of a line
 abbrev pub one : List ℕ → List ℕ

@@ -17,12 +17,24 @@ pub data Form : Type 0 where
   inHexOr : ℕ → ℕ → Form
   inWords : List (List ℕ) → Form
 
+-- whether a field stands in a line: always; or a line may be without it and then means this value;
+-- or it is without it and means this value
+pub data Presence : Type 0 where
+  always : Presence
+  optional : ℕ → Presence
+  absent : ℕ → Presence
+
 pub record Field : Type 0 where
   pub key : List ℕ
   pub form : Form
+  pub presence : Presence
 
+abbrev pub fieldIn : Presence → List ℕ → Form → Field
+fieldIn p k f = record { key = k; form = f; presence = p }
+
+-- a field that stands in every line
 abbrev pub field : List ℕ → Form → Field
-field k f = record { key = k; form = f }
+field k f = fieldIn always k f
 
 -- a kind of step: its name, and its fields in their order
 pub record Kind : Type 0 where
@@ -46,11 +58,21 @@ keyed key = ascii " " ++ key ++ ascii "="
 abbrev pub keyText : Field → List ℕ
 keyText f = keyed (f .key)
 
+-- a field's text, where the field is written
+abbrev pub shownIn : Presence → List ℕ → List ℕ
+shownIn always t = t
+shownIn (optional n) t = t
+shownIn (absent n) t = []
+
+-- a field with its value
+abbrev pub fieldText : Field → ℕ → List ℕ
+fieldText f v = shownIn (f .presence) (keyText f ++ valueText (f .form) v)
+
 -- the fields with their values
 unfoldable pub fieldsText : List Field → List ℕ → List ℕ
 fieldsText [] vs = []
 fieldsText (f ∷ fs) [] = []
-fieldsText (f ∷ fs) (v ∷ vs) = keyText f ++ (valueText (f .form) v ++ fieldsText fs vs)
+fieldsText (f ∷ fs) (v ∷ vs) = fieldText f v ++ fieldsText fs vs
 
 -- a step's name, as a line begins with it
 abbrev pub named : List ℕ → List ℕ

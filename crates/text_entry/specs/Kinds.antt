@@ -1,12 +1,22 @@
 -- The fields and kinds of steps, as document 01 lists them: `take proc store`, `vote proc by store
--- tx list say upd` (say is commit or abort).
+-- tx list say upd` (say is commit or abort). Document 02: "Takes and votes gain `turn=`, 1 to 255,
+-- after `proc=`".
 use mathlib.Core.List.{[], _∷_}
+use Rattle.log_entry.specs.Limits.{firstTurn}
 use Rattle.text_ascii.specs.Bytes.{ascii}
 use Rattle.text_ascii.specs.Hex.{earlierDigits, listDigits, updateDigits}
-use Rattle.text_entry.specs.Fields.{Form, inDecimal, inHex, inHexOr, inWords, Field, field, Kind, kind}
+use Rattle.text_entry.specs.Fields.{Form, inDecimal, inHex, inHexOr, inWords, Presence, optional, Field, field, fieldIn, Kind, kind}
 
 abbrev pub proc : Field
 proc = field (ascii "proc") inDecimal
+
+-- a turn, which is or is not shown
+abbrev pub turn : Presence → Field
+turn presence = fieldIn presence (ascii "turn") inDecimal
+
+-- "A line without it means turn 1"
+abbrev pub turnPresence : Presence
+turnPresence = optional firstTurn
 
 abbrev pub by : Field
 by = field (ascii "by") inDecimal
@@ -34,12 +44,16 @@ upd form = field (ascii "upd") form
 abbrev pub updateForm : Form
 updateForm = inHexOr updateDigits earlierDigits
 
-abbrev pub takeKind : Kind
-takeKind = kind (ascii "take") (proc ∷ store ∷ [])
+-- a take whose turn is shown or not
+abbrev pub takeWith : Presence → Kind
+takeWith presence = kind (ascii "take") (proc ∷ turn presence ∷ store ∷ [])
 
--- a vote whose update is written so
-abbrev pub voteWith : Form → Kind
-voteWith form = kind (ascii "vote") (proc ∷ by ∷ store ∷ tx ∷ list ∷ say ∷ upd form ∷ [])
+abbrev pub takeKind : Kind
+takeKind = takeWith turnPresence
+
+-- a vote whose turn is shown or not, and whose update is written so
+abbrev pub voteWith : Presence → Form → Kind
+voteWith presence form = kind (ascii "vote") (proc ∷ turn presence ∷ by ∷ store ∷ tx ∷ list ∷ say ∷ upd form ∷ [])
 
 abbrev pub voteKind : Kind
-voteKind = voteWith updateForm
+voteKind = voteWith turnPresence updateForm

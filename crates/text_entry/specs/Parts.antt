@@ -1,6 +1,7 @@
 -- The parts of a line, read one after the other as the fields of a kind ask.
 use Prim.Native.Nat.{ℕ, min}
 use mathlib.Core.List.{List, [], _∷_}
+use Rattle.text_entry.specs.declared.TakeParts.{TakeParts}
 use Rattle.text_entry.specs.declared.VoteParts.{VoteParts}
 use Rattle.text_entry.specs.Fields.{Field, Form, Kind, inDecimal, inHex, inHexOr, inWords, nameText}
 use Rattle.text_entry.specs.Read.{Part, after, part, readField}
@@ -26,10 +27,15 @@ fieldParts (f ∷ fs) p = countedPart (f .form) (readField f p) ∷ fieldParts f
 abbrev pub kindParts : Kind → List ℕ → List Part
 kindParts k s = fieldParts (k .fields) (after (nameText k) (part 0 s))
 
+-- the parts that the reader found of a take's line
+abbrev pub takeParts : List ℕ → TakeParts → List Part
+takeParts s t = seen s (t .process) ∷ seen s (t .turn) ∷ seen s (t .store) ∷ []
+
 -- the parts that the reader found of a vote's line
 abbrev pub voteParts : List ℕ → VoteParts → List Part
 voteParts s v =
     seen s (v .process)
+    ∷ seen s (v .turn)
     ∷ seen s (v .by)
     ∷ seen s (v .store)
     ∷ seen s (v .tx)

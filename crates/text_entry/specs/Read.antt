@@ -8,7 +8,7 @@ use lib.ListN.{length, drop}
 use Rattle.text_ascii.specs.Bytes.{begins}
 use Rattle.text_ascii.specs.Decimal.{isDigit, grown, beginsDigit}
 use Rattle.text_ascii.specs.Hex.{isHexDigit, hexGrown}
-use Rattle.text_entry.specs.Fields.{Form, inDecimal, inHex, inHexOr, inWords, Field, keyText, Kind, nameText}
+use Rattle.text_entry.specs.Fields.{Form, inDecimal, inHex, inHexOr, inWords, Presence, always, optional, absent, Field, keyed, Kind, nameText}
 
 -- what a line begins with: whether it reads, its value, and the bytes after it
 pub record Part : Type 0 where
@@ -68,9 +68,23 @@ after w p = cond (p .readable && begins (p .rest) w) (part 0 (drop (length w) (p
 abbrev pub valueAfter : Form → Part → Part
 valueAfter f p = cond (p .readable) (readValue f (p .rest)) unreadable
 
+-- after what was read before: the key, and behind it a value
+abbrev pub keyedValue : List ℕ → Form → Part → Part
+keyedValue key form p = valueAfter form (after (keyed key) p)
+
+-- after what was read before: nothing, which means this value
+abbrev pub without : ℕ → Part → Part
+without n p = record { readable = p .readable; value = n; rest = p .rest }
+
+-- where a line may be without the field, it is without it if the key does not come next
+abbrev pub readIn : Presence → List ℕ → Form → Part → Part
+readIn always key form p = keyedValue key form p
+readIn (optional n) key form p = cond (after (keyed key) p .readable) (keyedValue key form p) (without n p)
+readIn (absent n) key form p = without n p
+
 -- after what was read before: the field
 abbrev pub readField : Field → Part → Part
-readField f p = valueAfter (f .form) (after (keyText f) p)
+readField f p = readIn (f .presence) (f .key) (f .form) p
 
 abbrev pub isEnd : List ℕ → Bool
 isEnd [] = true

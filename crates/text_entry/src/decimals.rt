@@ -24,20 +24,21 @@ pub struct Decimals {
 }
 
 // Whether each number fits a byte.
-pub fn bytes(a: Number, b: Number, c: Number, d: Number, e: Number) -> bool
-    ensures { λ r. ⌜ r ≡ not (anyBeyond (a ∷ b ∷ c ∷ d ∷ e ∷ [])) ⌝ }
+pub fn bytes(a: Number, b: Number, c: Number, d: Number, e: Number, f: Number) -> bool
+    ensures { λ r. ⌜ r ≡ not (anyBeyond (a ∷ b ∷ c ∷ d ∷ e ∷ f ∷ [])) ⌝ }
 {
     !((BYTE_NUMBERS <= a)
         | (BYTE_NUMBERS <= b)
         | (BYTE_NUMBERS <= c)
         | (BYTE_NUMBERS <= d)
-        | (BYTE_NUMBERS <= e))
+        | (BYTE_NUMBERS <= e)
+        | (BYTE_NUMBERS <= f))
 }
 
 fn found(a: Number, b: Number, c: Number) -> Decimals
     ensures { λ r. ⌜ r ≡ decimalsOf (some (a ∷ b ∷ c ∷ [])) ⌝ }
 {
-    if !bytes(a, b, c, 0, 0) {
+    if !bytes(a, b, c, 0, 0, 0) {
         return Decimals {
             readable: true,
             fit: false,

@@ -6,17 +6,15 @@ pub mod value;
 ghost use mathlib.Core.Option.{some};
 ghost use mathlib.Core.Path.{_≡_};
 ghost use lib.Dec.{eqb};
-ghost use Rattle.log_entry.specs.Entry.{voteEntry};
-ghost use Rattle.text_entry.specs.Decimals.{answerBy};
-ghost use Rattle.text_entry.specs.declared.Reading.the-variants.{Read, Outside, Unreadable};
-ghost use Rattle.text_entry.specs.Kinds.{say, takeKind, voteKind};
-ghost use Rattle.text_entry.specs.Parts.{kindParts, voteParts};
+ghost use Rattle.log_entry.specs.Entry.{takeEntry, voteEntry};
+ghost use Rattle.text_entry.specs.Kinds.{say, takeKind, turn, turnPresence, voteKind};
+ghost use Rattle.text_entry.specs.Parts.{kindParts, takeParts, voteParts};
 ghost use Rattle.text_entry.specs.Read.{readField, readKind};
-ghost use Rattle.text_entry.specs.Seen.{seen};
+ghost use Rattle.text_entry.specs.Seen.{capped, seen};
 ghost use Rattle.text_entry.specs.Table.{made};
 ghost use Rattle.text_entry.specs.Entry.{readingOf, reading, takeOf, voteOf};
-use decimals::Decimals;
 use log_entry::Entry;
+use log_entry::limits::FIRST_TURN;
 use value::Number;
 use value::Value;
 
@@ -28,9 +26,17 @@ pub enum Reading {
     Unreadable,
 }
 
+// The values of a take's fields.
+pub struct TakeParts {
+    pub process: Value,
+    pub turn: Value,
+    pub store: Value,
+}
+
 // The values of a vote's fields.
 pub struct VoteParts {
     pub process: Value,
+    pub turn: Value,
     pub by: Value,
     pub store: Value,
     pub tx: Value,
@@ -39,30 +45,52 @@ pub struct VoteParts {
     pub update: Value,
 }
 
-// The answer to a line of these decimals that stands for the entry.
-fn answer(d: Decimals, entry: Entry) -> Reading
-    ensures { λ r. ⌜ r ≡ answerBy Read Outside Unreadable d entry ⌝ }
+// After a value: the field `turn`, and the first turn in a line without it.
+fn turned(line: &[u8], before: Value) -> Value
+    ensures { λ r. ⌜ seen (now (line .entry)) r ≡ capped (readField (turn turnPresence) (seen (now (line .entry)) before)) ⌝ }
 {
-    if !d.readable {
-        return Reading::Unreadable;
-    }
-    if !d.fit {
+    fields::decimal_or(line, before, b"turn", FIRST_TURN)
+}
+
+// The take of these numbers.
+pub fn made_take(process: Number, turn: Number, store: Number) -> Reading
+    ensures { λ r. ⌜ r ≡ readingOf (some (takeEntry process turn store)) ⌝ }
+{
+    if !decimals::bytes(process, turn, store, 0, 0, 0) {
         return Reading::Outside;
     }
-    Reading::Read(entry)
+    Reading::Read(Entry::take_of(process as u8, turn as u8, store as u8))
+}
+
+// The values of a line that begins with a take's name and fields.
+pub fn take_parts(line: &[u8]) -> TakeParts
+    ensures { λ r. ⌜ takeParts (now (line .entry)) r ≡ kindParts takeKind (now (line .entry)) ⌝ }
+{
+    let name = fields::named(line, b"take");
+    let process = fields::decimal(line, name, b"proc");
+    let turn = turned(line, process);
+    let store = fields::decimal(line, turn, b"store");
+    TakeParts {
+        process,
+        turn,
+        store,
+    }
 }
 
 fn read_take(line: &[u8]) -> Reading
     ensures { λ r. ⌜ r ≡ readingOf (made takeOf (readKind takeKind (now (line .entry)))) ⌝ }
 {
-    let d = decimals::two(line, b"take", b"proc", b"store");
-    let entry = Entry::take_of(d.first, d.second);
-    answer(d, entry)
+    let t = take_parts(line);
+    if !fields::ends(line, t.store) {
+        return Reading::Unreadable;
+    }
+    made_take(t.process.number, t.turn.number, t.store.number)
 }
 
 // The vote of these numbers.
 pub fn made_vote(
     process: Number,
+    turn: Number,
     by: Number,
     store: Number,
     tx: Number,
@@ -70,14 +98,15 @@ pub fn made_vote(
     say: Number,
     update: Number,
 ) -> Reading
-    ensures { λ r. ⌜ r ≡ readingOf (some (voteEntry process by store tx list (eqb say 1) update)) ⌝ }
+    ensures { λ r. ⌜ r ≡ readingOf (some (voteEntry process turn by store tx list (eqb say 1) update)) ⌝ }
 {
-    if !decimals::bytes(process, by, store, tx, list) {
+    if !decimals::bytes(process, turn, by, store, tx, list) {
         return Reading::Outside;
     }
     Reading::Read(Entry {
         take: false,
         process: process as u8,
+        turn: turn as u8,
         by: by as u8,
         store: store as u8,
         tx: tx as u8,
@@ -93,7 +122,8 @@ pub fn vote_parts(line: &[u8]) -> VoteParts
 {
     let name = fields::named(line, b"vote");
     let process = fields::decimal(line, name, b"proc");
-    let by = fields::decimal(line, process, b"by");
+    let turn = turned(line, process);
+    let by = fields::decimal(line, turn, b"by");
     let store = fields::decimal(line, by, b"store");
     let tx = fields::decimal(line, store, b"tx");
     let list = value::list_digits(line, fields::keyed(line, tx, b"list"));
@@ -101,6 +131,7 @@ pub fn vote_parts(line: &[u8]) -> VoteParts
     let update = value::update_digits(line, fields::keyed(line, say, b"upd"));
     VoteParts {
         process,
+        turn,
         by,
         store,
         tx,
@@ -119,6 +150,7 @@ fn read_vote(line: &[u8]) -> Reading
     }
     made_vote(
         v.process.number,
+        v.turn.number,
         v.by.number,
         v.store.number,
         v.tx.number,

@@ -7,18 +7,19 @@ use mathlib.Core.Path.{_≡_, refl, sym, _∙_}
 use lib.Dec.{eqb, leb, ltb}
 use borrow.Author.Tests.{le-leb, leb-true, lt-ltb, ne-eqb}
 use Rattle.log_entry.specs.declared.Entry.{Entry}
-use Rattle.log_entry.specs.Entry.{noProcess, outside}
+use Rattle.log_entry.specs.Entry.{noProcess, noTurn, outside}
 use Rattle.log_entry.specs.Limits.{transactions}
 use Rattle.model_steps.specs.declared.Role.{Role}
 use Rattle.model_steps.specs.declared.Role.the-variants.{Acceptor, Coord, Proc}
 use Rattle.model_steps.specs.declared.Step.{Step}
-use Rattle.model_steps.specs.declared.Step.the-variants.{Setup, Request, Open, Propose, Deliver, Tell, Restore, Follow, Crash}
+use Rattle.model_steps.specs.declared.Step.the-variants.{Setup, Request, Open, Propose, Deliver, Tell, Restore, Follow, Crash, Back}
 use Rattle.model_steps.specs.Limits.{ballots, coordinators, instances, messages, mostAcceptors, noBallot, noCoordinator, noParty, outsideStep}
 use Rattle.text_entry.specs.Entry as entry
+use Rattle.text_entry.specs.Entry.{Way}
 use Rattle.text_ascii.specs.Decimal.{byteNumbers}
 use Rattle.text_entry.specs.Table.{anyBeyond, noByte}
 use Rattle.text_entry.proofs.Beyond as texts
-use Rattle.text_entry.proofs.Beyond.{beyond-cases, first-of, no-such-process, second-of, third-of}
+use Rattle.text_entry.proofs.Beyond.{beyond-cases, first-of, no-such-process, no-such-turn, second-of, third-of}
 use Rattle.text_step.proofs.Readings.{beyond-last}
 use Rattle.text_step.specs.Step.{HasTextIn, beyond, numbers}
 
@@ -54,11 +55,11 @@ party-beyond n k Coord id h = coordinator-beyond id h
 party-beyond n k Proc id h = no-such-process id h
 
 -- the entry or its receiver
-request-beyond : (digits : ℕ) (e : Entry) (to : ℕ) → entry.HasTextIn digits e → anyBeyond (entry.numbers e ++ to ∷ []) ≡ true → (outside e || noCoordinator to) ≡ true
-request-beyond digits e to t h = go (entry.beyond e) (noByte to) refl refl (sym (beyond-last (entry.numbers e) to) ∙ h)
+request-beyond : (w : Way) (e : Entry) (to : ℕ) → entry.HasTextIn w e → anyBeyond (entry.numbers e ++ to ∷ []) ≡ true → (outside e || noCoordinator to) ≡ true
+request-beyond w e to t h = go (entry.beyond e) (noByte to) refl refl (sym (beyond-last (entry.numbers e) to) ∙ h)
   where
     go : (b c : Bool) → entry.beyond e ≡ b → noByte to ≡ c → (b || c) ≡ true → (outside e || noCoordinator to) ≡ true
-    go true c k m z = or-left (outside e) (noCoordinator to) (texts.beyond-is-outside digits e t k)
+    go true c k m z = or-left (outside e) (noCoordinator to) (texts.beyond-is-outside w e t k)
     go false c k m z = or-right (outside e) (noCoordinator to) (coordinator-beyond to (leb-true byteNumbers to (m ∙ z)))
 
 -- a coordinator, a process or a transaction
@@ -73,17 +74,21 @@ tell-beyond c p tx =
     )
 
 -- the step has a number outside its limits, whichever of the numbers of acceptors counts
-pub beyond-is-outside : (n : ℕ) → n ≤ byteNumbers → (digits : ℕ) (s : Step) → HasTextIn digits s → beyond s ≡ true → outsideStep n s ≡ true
+pub beyond-is-outside : (n : ℕ) → n ≤ byteNumbers → (w : Way) (s : Step) → HasTextIn w s → beyond s ≡ true → outsideStep n s ≡ true
 unfolding outsideStep
-beyond-is-outside n k digits (Setup a) t = beyond-cases (not (eqb a 3 || eqb a mostAcceptors) ≡ true) (a ∷ []) ((λ h. setup-beyond a h), tt)
-beyond-is-outside n k digits (Request e to) t = request-beyond digits e to t
-beyond-is-outside n k digits (Open c i b) t = round-beyond c i b
-beyond-is-outside n k digits (Propose c i b) t = round-beyond c i b
-beyond-is-outside n k digits (Deliver m) t = beyond-cases (leb messages m ≡ true) (m ∷ []) ((λ h. le-leb messages m (omega arith)), tt)
-beyond-is-outside n k digits (Tell c p tx) t = tell-beyond c p tx
-beyond-is-outside n k digits (Restore c p) t =
+beyond-is-outside n k w (Setup a) t = beyond-cases (not (eqb a 3 || eqb a mostAcceptors) ≡ true) (a ∷ []) ((λ h. setup-beyond a h), tt)
+beyond-is-outside n k w (Request e to) t = request-beyond w e to t
+beyond-is-outside n k w (Open c i b) t = round-beyond c i b
+beyond-is-outside n k w (Propose c i b) t = round-beyond c i b
+beyond-is-outside n k w (Deliver m) t = beyond-cases (leb messages m ≡ true) (m ∷ []) ((λ h. le-leb messages m (omega arith)), tt)
+beyond-is-outside n k w (Tell c p tx) t = tell-beyond c p tx
+beyond-is-outside n k w (Restore c p) t =
     let x = noCoordinator c in
     let y = noProcess p in
     beyond-cases ((x || y) ≡ true) (c ∷ p ∷ []) ((λ h. or-left x y (coordinator-beyond c h)), ((λ h. or-right x y (no-such-process p h)), tt))
-beyond-is-outside n k digits (Follow c p tx) t = tell-beyond c p tx
-beyond-is-outside n k digits (Crash r id) t = beyond-cases (noParty n r id ≡ true) (id ∷ []) ((λ h. party-beyond n k r id h), tt)
+beyond-is-outside n k w (Follow c p tx) t = tell-beyond c p tx
+beyond-is-outside n k w (Crash r id) t = beyond-cases (noParty n r id ≡ true) (id ∷ []) ((λ h. party-beyond n k r id h), tt)
+beyond-is-outside n k w (Back p turn) t =
+    let x = noProcess p in
+    let y = noTurn turn in
+    beyond-cases ((x || y) ≡ true) (p ∷ turn ∷ []) ((λ h. or-left x y (no-such-process p h)), ((λ h. or-right x y (no-such-turn turn h)), tt))

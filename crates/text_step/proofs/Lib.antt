@@ -1,3 +1,4 @@
 pub mod Agreement
 pub mod Beyond
+pub mod Cases
 pub mod Readings

@@ -11,24 +11,25 @@ use lib.ListN.{drop, drop-of-length-le, length}
 use lib.Seq.{drop-cons}
 use borrow.Author.Tests.{lt-leb}
 use Rattle.log_entry.specs.declared.Entry.{Entry}
-use Rattle.log_entry.specs.Entry.{voteEntry}
+use Rattle.log_entry.specs.Entry.{takeEntry, voteEntry}
 use Rattle.model_steps.specs.declared.Role.{Role}
 use Rattle.model_steps.specs.declared.Step.{Step}
 use Rattle.model_steps.specs.declared.Step.the-variants.{Request, Crash}
 use Rattle.text_entry.specs.declared.Reading.{Reading as EntryReading}
 use Rattle.text_entry.specs.declared.Reading.the-variants as variants
 use Rattle.text_entry.specs.Entry as entry
-use Rattle.text_entry.specs.Kinds.{voteKind}
+use Rattle.text_entry.specs.Kinds.{takeKind, voteKind}
 use Rattle.text_ascii.specs.Decimal.{byteNumbers}
 use Rattle.text_entry.specs.Table.{anyBeyond, at, noByte, orElse, readAs, readFirst, reader}
 use Rattle.text_entry.proofs.Counts.{at-counts, counted-same, no-byte}
 use Rattle.text_entry.proofs.Follows.{counts}
+use Rattle.text_entry.proofs.Takes as takes
 use Rattle.text_entry.proofs.Votes as votes
 use Rattle.text_step.specs.declared.Reading.{Reading}
 use Rattle.text_step.specs.declared.Reading.the-variants.{Read, Outside, Unreadable}
 use Rattle.text_step.specs.Answers.{isRead, requestOf}
-use Rattle.text_step.specs.Kinds.{crashKind, sentVote}
-use Rattle.text_step.specs.Step.{beyond, crashOf, readStep, readerAt, reading, readingOf, roleOf, stepReaders, voteOf}
+use Rattle.text_step.specs.Kinds.{crashKind, sentTake, sentVote}
+use Rattle.text_step.specs.Step.{beyond, crashOf, readStep, readerAt, reading, readingOf, roleOf, stepReaders, takeOf, voteOf}
 
 -- ---- requests
 
@@ -58,17 +59,34 @@ request-counted (variants.Read e) n = counted-same (λ (m : ℕ). requestOf (var
 request-counted variants.Outside n = refl
 request-counted variants.Unreadable n = refl
 
+-- where only the counts of an entry's values matter, only those of its request's do
+request-counts : (build : List ℕ → Entry) (vs us ws : List ℕ) (n : ℕ) → entry.readingOf (some (build vs)) ≡ entry.readingOf (some (build us)) → build us ≡ build ws → min (at vs n) byteNumbers ≡ at ws n
+    → readingOf (some (Request (build vs) (at vs n))) ≡ readingOf (some (Request (build ws) (at ws n)))
+request-counts build vs us ws n same is to =
+    sym (request-is (build vs) (at vs n))
+    ∙ ap (λ (r : EntryReading). requestOf r (at vs n)) same
+    ∙ request-counted (entry.readingOf (some (build us))) (at vs n)
+    ∙ request-is (build us) (min (at vs n) byteNumbers)
+    ∙ (λ i. readingOf (some (Request (is i) (to i))))
+
+pub take-counts : (vs : List ℕ) → readingOf (some (takeOf vs)) ≡ readingOf (some (takeOf (counts (sentTake .fields) vs)))
+take-counts vs =
+    let j = at-counts (takeKind .fields) vs in
+    let k = at-counts (sentTake .fields) vs in
+    request-counts entry.takeOf vs (counts (takeKind .fields) vs) (counts (sentTake .fields) vs) 3 (takes.take-counts vs)
+    ((λ i. takeEntry (j 0 i) (j 1 i) (j 2 i)) ∙ (λ i. takeEntry (sym (k 0) i) (sym (k 1) i) (sym (k 2) i)))
+    (sym (k 3))
+
 pub vote-counts : (vs : List ℕ) → readingOf (some (voteOf vs)) ≡ readingOf (some (voteOf (counts (sentVote .fields) vs)))
 vote-counts vs =
-    let k = at-counts (sentVote .fields) vs in
     let j = at-counts (voteKind .fields) vs in
-    let us = counts (voteKind .fields) vs in
-    sym (request-is (entry.voteOf vs) (at vs 7))
-    ∙ ap (λ (r : EntryReading). requestOf r (at vs 7)) (votes.vote-counts vs)
-    ∙ request-counted (entry.readingOf (some (entry.voteOf us))) (at vs 7)
-    ∙ request-is (entry.voteOf us) (min (at vs 7) byteNumbers)
-    ∙ (λ i. readingOf (some (Request (voteEntry (j 0 i) (j 1 i) (j 2 i) (j 3 i) (j 4 i) (eqb (j 5 i) 1) (j 6 i)) (min (at vs 7) byteNumbers))))
-    ∙ (λ i. readingOf (some (Request (voteEntry (sym (k 0) i) (sym (k 1) i) (sym (k 2) i) (sym (k 3) i) (sym (k 4) i) (eqb (sym (k 5) i) 1) (sym (k 6) i)) (sym (k 7) i))))
+    let k = at-counts (sentVote .fields) vs in
+    request-counts entry.voteOf vs (counts (voteKind .fields) vs) (counts (sentVote .fields) vs) 8 (votes.vote-counts vs)
+    (
+    (λ i. voteEntry (j 0 i) (j 1 i) (j 2 i) (j 3 i) (j 4 i) (j 5 i) (eqb (j 6 i) 1) (j 7 i))
+    ∙ (λ i. voteEntry (sym (k 0) i) (sym (k 1) i) (sym (k 2) i) (sym (k 3) i) (sym (k 4) i) (sym (k 5) i) (eqb (sym (k 6) i) 1) (sym (k 7) i))
+    )
+    (sym (k 8))
 
 -- ---- crashes
 

@@ -1,27 +1,26 @@
 -- The claims on the two meanings of a line: `text` writes a step, `readStep` and `reading` read a
--- line. A vote is written in one way and read in two.
+-- line. A take or a vote is written in one way and read in several.
 use Prim.Native.Nat.{ℕ, _≤_}
 use mathlib.Core.Bool.{true, false}
 use mathlib.Core.List.{List}
-use mathlib.Core.Logic.{_⊎_}
 use mathlib.Core.Option.{some}
 use mathlib.Core.Path.{_≡_}
 use Rattle.model_steps.specs.declared.Step.{Step}
 use Rattle.model_steps.specs.Limits.{outsideStep}
 use Rattle.text_ascii.specs.Decimal.{byteNumbers}
-use Rattle.text_ascii.specs.Hex.{earlierDigits, updateDigits}
+use Rattle.text_entry.specs.Entry.{Known, Way}
 use Rattle.text_step.specs.declared.Reading.the-variants.{Read, Outside, Unreadable}
 use Rattle.text_step.specs.Step.{HasText, HasTextIn, readStep, reading, text, textIn}
 
--- the line is the text of the step with so many digits of an update, to the byte
-pub record IsTextIn (digits : ℕ) (l : List ℕ) (s : Step) : Type 0 where
-  pub line : l ≡ textIn digits s
-  pub hasText : HasTextIn digits s
-
--- "Lines with eight digits are still read and mean the same number": the line is the text of the
--- step with sixteen digits, or with eight where the number has at most 32 bits
-abbrev pub IsText : List ℕ → Step → Type 0
-IsText l s = IsTextIn updateDigits l s ⊎ IsTextIn earlierDigits l s
+-- The line is the text of the step, to the byte, in a way that the step has a text in. Of a take or
+-- a vote: "A line without it means turn 1": with its turn, or without where that is 1. "Lines with
+-- eight digits are still read and mean the same number": with sixteen digits of its update, or with
+-- eight where the number has at most 32 bits.
+pub record IsText (l : List ℕ) (s : Step) : Type 0 where
+  pub way : Way
+  pub known : Known way
+  pub line : l ≡ textIn way s
+  pub hasText : HasTextIn way s
 
 -- The text of a step reads back as that step, whatever the size of its numbers.
 abbrev pub TextReadsBack : Type 0

@@ -1,10 +1,10 @@
 -- The fields and kinds of the world's steps, as document 01 lists them beside those of an entry.
--- Document 02 adds one kind.
+-- Document 02 adds two kinds.
 use mathlib.Core.List.{[], _∷_, _++_}
 use Rattle.text_ascii.specs.Bytes.{ascii}
 use Rattle.text_entry.specs.Decimals.{decimalField}
-use Rattle.text_entry.specs.Fields.{Field, Form, Kind, field, inWords, kind}
-use Rattle.text_entry.specs.Kinds.{proc, takeKind, tx, updateForm, voteWith}
+use Rattle.text_entry.specs.Fields.{Field, Form, Kind, Presence, always, field, inWords, kind}
+use Rattle.text_entry.specs.Kinds.{proc, takeWith, turn, turnPresence, tx, updateForm, voteWith}
 
 abbrev pub to : Field
 to = decimalField (ascii "to")
@@ -35,15 +35,19 @@ id = decimalField (ascii "id")
 abbrev sent : Kind → Kind
 sent k = kind (k .name) (k .fields ++ to ∷ [])
 
-abbrev pub sentTake : Kind
-sentTake = sent takeKind
+-- a take whose turn is shown or not
+abbrev pub sentTakeWith : Presence → Kind
+sentTakeWith presence = sent (takeWith presence)
 
--- a vote whose update is written so
-abbrev pub sentVoteWith : Form → Kind
-sentVoteWith form = sent (voteWith form)
+abbrev pub sentTake : Kind
+sentTake = sentTakeWith turnPresence
+
+-- a vote whose turn is shown or not, and whose update is written so
+abbrev pub sentVoteWith : Presence → Form → Kind
+sentVoteWith presence form = sent (voteWith presence form)
 
 abbrev pub sentVote : Kind
-sentVote = sentVoteWith updateForm
+sentVote = sentVoteWith turnPresence updateForm
 
 abbrev pub setupKind : Kind
 setupKind = kind (ascii "setup") (acceptors ∷ [])
@@ -69,3 +73,7 @@ followKind = kind (ascii "follow") (coord ∷ proc ∷ tx ∷ [])
 
 abbrev pub crashKind : Kind
 crashKind = kind (ascii "crash") (role ∷ id ∷ [])
+
+-- "a new step `back proc turn`", which has its turn always
+abbrev pub backKind : Kind
+backKind = kind (ascii "back") (proc ∷ turn always ∷ [])

@@ -8,14 +8,14 @@ use lib.ListN.{getD}
 use Rattle.model_steps.specs.declared.Role.{Role}
 use Rattle.model_steps.specs.declared.Role.the-variants.{Acceptor, Coord, Proc}
 use Rattle.model_steps.specs.declared.Step.{Step}
-use Rattle.model_steps.specs.declared.Step.the-variants.{Setup, Request, Open, Propose, Deliver, Tell, Restore, Follow, Crash}
+use Rattle.model_steps.specs.declared.Step.the-variants.{Setup, Request, Open, Propose, Deliver, Tell, Restore, Follow, Crash, Back}
 use Rattle.text_entry.specs.Entry as entry
-use Rattle.text_ascii.specs.Hex.{updateDigits}
+use Rattle.text_entry.specs.Entry.{Way, inFull, turnIn}
 use Rattle.text_entry.specs.Fields.{inHex, lineText}
 use Rattle.text_entry.specs.Table.{Reader, anyBeyond, answerOf, at, readFirst, reader}
 use Rattle.text_step.specs.declared.Reading.{Reading}
 use Rattle.text_step.specs.declared.Reading.the-variants.{Read, Outside, Unreadable}
-use Rattle.text_step.specs.Kinds.{sentTake, sentVote, sentVoteWith, setupKind, openKind, proposeKind, deliverKind, tellKind, restoreKind, followKind, crashKind}
+use Rattle.text_step.specs.Kinds.{sentTake, sentTakeWith, sentVote, sentVoteWith, setupKind, openKind, proposeKind, deliverKind, tellKind, restoreKind, followKind, crashKind, backKind}
 
 -- the index of a role's word
 abbrev pub roleNumber : Role → ℕ
@@ -26,44 +26,47 @@ roleNumber Proc = 2
 abbrev pub roleOf : ℕ → Role
 roleOf n = cond (eqb n 0) Acceptor (cond (eqb n 1) Coord Proc)
 
--- the line of a step with so many digits of an update; other numbers are of any size
-unfoldable pub textIn : ℕ → Step → List ℕ
-textIn digits (Setup n) = lineText setupKind (n ∷ [])
-textIn digits (Request e to) =
-    cond (e .take) (lineText sentTake (entry.takeValues e ++ to ∷ [])) (lineText (sentVoteWith (inHex digits)) (entry.voteValues e ++ to ∷ []))
-textIn digits (Open c i b) = lineText openKind (c ∷ i ∷ b ∷ [])
-textIn digits (Propose c i b) = lineText proposeKind (c ∷ i ∷ b ∷ [])
-textIn digits (Deliver m) = lineText deliverKind (m ∷ [])
-textIn digits (Tell c p tx) = lineText tellKind (c ∷ p ∷ tx ∷ [])
-textIn digits (Restore c p) = lineText restoreKind (c ∷ p ∷ [])
-textIn digits (Follow c p tx) = lineText followKind (c ∷ p ∷ tx ∷ [])
-textIn digits (Crash r id) = lineText crashKind (roleNumber r ∷ id ∷ [])
+-- the line of a step, an entry written in this way; its numbers but for an update are of any size
+unfoldable pub textIn : Way → Step → List ℕ
+textIn w (Setup n) = lineText setupKind (n ∷ [])
+textIn w (Request e to) =
+    cond (e .take)
+    (lineText (sentTakeWith (turnIn (w .shown))) (entry.takeValues e ++ to ∷ []))
+    (lineText (sentVoteWith (turnIn (w .shown)) (inHex (w .digits))) (entry.voteValues e ++ to ∷ []))
+textIn w (Open c i b) = lineText openKind (c ∷ i ∷ b ∷ [])
+textIn w (Propose c i b) = lineText proposeKind (c ∷ i ∷ b ∷ [])
+textIn w (Deliver m) = lineText deliverKind (m ∷ [])
+textIn w (Tell c p tx) = lineText tellKind (c ∷ p ∷ tx ∷ [])
+textIn w (Restore c p) = lineText restoreKind (c ∷ p ∷ [])
+textIn w (Follow c p tx) = lineText followKind (c ∷ p ∷ tx ∷ [])
+textIn w (Crash r id) = lineText crashKind (roleNumber r ∷ id ∷ [])
+textIn w (Back p t) = lineText backKind (p ∷ t ∷ [])
 
 -- a request has such a text if its entry has one, and every other step has one
-abbrev pub HasTextIn : ℕ → Step → Type 0
-HasTextIn digits (Setup n) = Unit {0}
-HasTextIn digits (Request e to) = entry.HasTextIn digits e
-HasTextIn digits (Open c i b) = Unit {0}
-HasTextIn digits (Propose c i b) = Unit {0}
-HasTextIn digits (Deliver m) = Unit {0}
-HasTextIn digits (Tell c p tx) = Unit {0}
-HasTextIn digits (Restore c p) = Unit {0}
-HasTextIn digits (Follow c p tx) = Unit {0}
-HasTextIn digits (Crash r id) = Unit {0}
+abbrev pub HasTextIn : Way → Step → Type 0
+HasTextIn w (Setup n) = Unit {0}
+HasTextIn w (Request e to) = entry.HasTextIn w e
+HasTextIn w (Open c i b) = Unit {0}
+HasTextIn w (Propose c i b) = Unit {0}
+HasTextIn w (Deliver m) = Unit {0}
+HasTextIn w (Tell c p tx) = Unit {0}
+HasTextIn w (Restore c p) = Unit {0}
+HasTextIn w (Follow c p tx) = Unit {0}
+HasTextIn w (Crash r id) = Unit {0}
+HasTextIn w (Back p t) = Unit {0}
 
--- "printed as sixteen digits"
 abbrev pub text : Step → List ℕ
-text s = textIn updateDigits s
+text s = textIn inFull s
 
 abbrev pub HasText : Step → Type 0
-HasText s = HasTextIn updateDigits s
+HasText s = HasTextIn inFull s
 
 -- the step of a line's values
 abbrev pub takeOf : List ℕ → Step
-takeOf vs = Request (entry.takeOf vs) (at vs 2)
+takeOf vs = Request (entry.takeOf vs) (at vs 3)
 
 abbrev pub voteOf : List ℕ → Step
-voteOf vs = Request (entry.voteOf vs) (at vs 7)
+voteOf vs = Request (entry.voteOf vs) (at vs 8)
 
 abbrev pub setupOf : List ℕ → Step
 setupOf vs = Setup (at vs 0)
@@ -89,6 +92,9 @@ followOf vs = Follow (at vs 0) (at vs 1) (at vs 2)
 abbrev pub crashOf : List ℕ → Step
 crashOf vs = Crash (roleOf (at vs 0)) (at vs 1)
 
+abbrev pub backOf : List ℕ → Step
+backOf vs = Back (at vs 0) (at vs 1)
+
 -- The kinds of lines, in the order in which a line is tried. No line is of two kinds, so the order
 -- is free: most lines of a trace deliver a message.
 abbrev pub stepReaders : List (Reader Step)
@@ -102,6 +108,7 @@ stepReaders =
     ∷ reader tellKind tellOf
     ∷ reader restoreKind restoreOf
     ∷ reader followKind followOf
+    ∷ reader backKind backOf
     ∷ reader crashKind crashOf
     ∷ []
 
@@ -124,6 +131,7 @@ numbers (Tell c p tx) = c ∷ p ∷ tx ∷ []
 numbers (Restore c p) = c ∷ p ∷ []
 numbers (Follow c p tx) = c ∷ p ∷ tx ∷ []
 numbers (Crash r id) = id ∷ []
+numbers (Back p t) = p ∷ t ∷ []
 
 -- a number of the step is beyond a byte
 abbrev pub beyond : Step → Bool

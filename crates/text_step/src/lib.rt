@@ -10,9 +10,8 @@ ghost use Rattle.text_entry.specs.Seen.{seen};
 ghost use Rattle.text_entry.specs.Table.{made, readAs};
 ghost use Rattle.text_step.specs.declared.Reading.the-variants.{Read, Outside, Unreadable};
 ghost use Rattle.text_step.specs.Answers.{isRead, requestOf};
-ghost use Rattle.text_step.specs.Kinds.{role, sentTake, sentVote, setupKind, openKind, proposeKind, deliverKind, tellKind, restoreKind, followKind, crashKind};
-ghost use Rattle.text_step.specs.Step.{readerAt, reading, readingOf, roleOf, stepReaders, takeOf, voteOf, setupOf, openOf, proposeOf, deliverOf, tellOf, restoreOf, followOf, crashOf};
-use log_entry::Entry;
+ghost use Rattle.text_step.specs.Kinds.{role, sentTake, sentVote, setupKind, openKind, proposeKind, deliverKind, tellKind, restoreKind, followKind, crashKind, backKind};
+ghost use Rattle.text_step.specs.Step.{readerAt, reading, readingOf, roleOf, stepReaders, takeOf, voteOf, setupOf, openOf, proposeOf, deliverOf, tellOf, restoreOf, followOf, crashOf, backOf};
 use model_steps::Role;
 use model_steps::Step;
 use text_entry::decimals;
@@ -24,7 +23,7 @@ use text_entry::value::Number;
 use text_entry::value::Value;
 
 // The kinds of lines: `stepReaders` of `specs/Step.antt` has them in their order.
-const KINDS: u8 = 10;
+const KINDS: u8 = 11;
 
 // What a line is: a step; the text of a step with a number beyond a byte; or no text of a step.
 pub enum Reading {
@@ -46,14 +45,6 @@ fn answer(d: Decimals, step: Step) -> Reading
     Reading::Read(step)
 }
 
-fn read_take(line: &[u8]) -> Reading
-    ensures { λ r. ⌜ r ≡ readingOf (made takeOf (readKind sentTake (now (line .entry)))) ⌝ }
-{
-    let d = decimals::three(line, b"take", b"proc", b"store", b"to");
-    let entry = Entry::take_of(d.first, d.second);
-    answer(d, Step::Request { entry, to: d.third })
-}
-
 // The request of this entry.
 fn request(entry: text_entry::Reading, to: Number) -> Reading
     ensures { λ r. ⌜ r ≡ requestOf entry to ⌝ }
@@ -73,6 +64,18 @@ fn request(entry: text_entry::Reading, to: Number) -> Reading
     }
 }
 
+fn read_take(line: &[u8]) -> Reading
+    ensures { λ r. ⌜ r ≡ readingOf (made takeOf (readKind sentTake (now (line .entry)))) ⌝ }
+{
+    let t = text_entry::take_parts(line);
+    let to = fields::decimal(line, t.store, b"to");
+    if !fields::ends(line, to) {
+        return Reading::Unreadable;
+    }
+    let take = text_entry::made_take(t.process.number, t.turn.number, t.store.number);
+    request(take, to.number)
+}
+
 fn read_vote(line: &[u8]) -> Reading
     ensures { λ r. ⌜ r ≡ readingOf (made voteOf (readKind sentVote (now (line .entry)))) ⌝ }
 {
@@ -83,6 +86,7 @@ fn read_vote(line: &[u8]) -> Reading
     }
     let vote = text_entry::made_vote(
         v.process.number,
+        v.turn.number,
         v.by.number,
         v.store.number,
         v.tx.number,
@@ -176,6 +180,19 @@ fn read_follow(line: &[u8]) -> Reading
     )
 }
 
+fn read_back(line: &[u8]) -> Reading
+    ensures { λ r. ⌜ r ≡ readingOf (made backOf (readKind backKind (now (line .entry)))) ⌝ }
+{
+    let d = decimals::two(line, b"back", b"proc", b"turn");
+    answer(
+        d,
+        Step::Back {
+            process: d.first,
+            turn: d.second,
+        },
+    )
+}
+
 // Behind a value: the word of a role, by its index.
 fn role_word(line: &[u8], before: Value) -> Value
     ensures { λ r. ⌜ seen (now (line .entry)) r ≡ valueAfter (role .form) (seen (now (line .entry)) before) ⌝ }
@@ -247,6 +264,7 @@ fn read_kind(line: &[u8], kind: u8) -> Reading
         6 => read_tell(line),
         7 => read_restore(line),
         8 => read_follow(line),
+        9 => read_back(line),
         _ => read_crash(line),
     }
 }

@@ -1,9 +1,9 @@
 -- What the delivered message does to its receiver, by the tests that the receiver makes.
-use Prim.Native.Nat.{ℕ, _<_, _≤_}
+use Prim.Native.Nat.{ℕ, _<_}
 use mathlib.Core.Bool.{Bool, cond, false, true, true≢false, _&&_}
 use mathlib.Core.Path.{_≡_, ap, sym, _∙_}
 use native.Mathlib.Omega.{arith}
-use borrow.Author.Tests.{le-ltb, lt-ltb, ltb-true}
+use borrow.Author.Tests.{ltb-true}
 use lib.Dec.{ltb}
 use Rattle.model_steps.specs.Limits.{mostAcceptors}
 use Rattle.model_protocol.specs.declared.AcceptorSlot.{AcceptorSlot}
@@ -17,7 +17,7 @@ use Rattle.model_paxos.specs.Majority.{majority}
 use Rattle.model_protocol.specs.Acceptor.{accepting, accepts, promises, promising}
 use Rattle.model_protocol.specs.Coordinator.{counting, isCurrent, isHeard, learning, promiseHeard, withQueue, withRound}
 use Rattle.model_protocol.specs.Message.{acceptedFrom, promiseFrom}
-use Rattle.model_protocol.specs.Process.{following, hearingOutcome, taking, takesFollow}
+use Rattle.model_protocol.specs.Process.{following, hearingOutcome, taking, takesFollow, takesRestore}
 use Rattle.model_protocol.specs.Queue.{joining}
 use Rattle.world_coordinator.specs.Limits.{setPlaces}
 use Rattle.world_coordinator.proofs.RoundLaws.{heard-inside}
@@ -72,16 +72,16 @@ module _ (p : Parts) where
   unfolding deliveryChange
   tell-heard h is = ap (λ (x : Process). done (processNow p x)) is
 
-  pub restore-passed : p .message .position ≤ p .process .position → done p ≡ deliveryChange p Restore
+  pub restore-passed : takesRestore (p .process) (p .message .turn) (p .message .position) ≡ false → done p ≡ deliveryChange p Restore
   unfolding deliveryChange
-  restore-passed h = rw (le-ltb (p .process .position) (p .message .position) h)
+  restore-passed h = rw h
 
   pub restore-taken : (h : Process)
       → h ≡ taking (p .process) (p .message .store) (p .message .position) (p .message .running)
-      → p .process .position < p .message .position
+      → takesRestore (p .process) (p .message .turn) (p .message .position) ≡ true
       → takesReplay (processNow p h) ≡ deliveryChange p Restore
   unfolding deliveryChange
-  restore-taken h is above = rw (lt-ltb (p .process .position) (p .message .position) above, is)
+  restore-taken h is takes = rw (takes, is)
 
   pub follow-passed : takesFollow (p .process) (p .message .store) (p .message .tx) ≡ false → done p ≡ deliveryChange p Follow
   unfolding deliveryChange

@@ -29,7 +29,7 @@ inside width set k small h = by (ltb k width) refl
     by false e = absurd (true≢false (sym h ∙ sym (beyond width set k small (ltb-false k width e))))
 
 running-small : (p : Parts) (vs : List Val) → Is (row parts-type) p vs → p .process .running < 2 ^ transactions
-running-small p vs g = g .1 .1 .1 .1 .1 .1 .1 .0 .1 .1 .1 .1 .1 .0 .1
+running-small p vs g = g .1 .1 .1 .1 .1 .1 .1 .0 .1 .1 .1 .1 .1 .1 .0 .1
 
 pub taken-inside : (p : Parts) (vs : List Val) → Is (row parts-type) p vs → (store tx : ℕ) → takesFollow (p .process) store tx ≡ true → tx < transactions
 taken-inside p vs g store tx h = inside transactions (p .process .running) tx (running-small p vs g) (and-right (believes (p .process) store) (has (p .process .running) tx)
@@ -40,7 +40,7 @@ set-with : (set tx : ℕ) → tx < transactions → bitOr set (1 * 2 ^ tx % 2 ^ 
 set-with set tx h = rw (one-mul (2 ^ tx), mod-eq-of-lt (pow-lt {j = transactions} h))
 
 abbrev followedAs : Process → ℕ → Process
-followedAs h set = record { heard = h .heard; store = h .store; position = h .position; running = h .running; followed = set }
+followedAs h set = record { turn = h .turn; heard = h .heard; store = h .store; position = h .position; running = h .running; followed = set }
 
 pub followed-with : (h : Process) (tx : ℕ) → tx < transactions → followedAs h (bitOr (h .followed) (1 * 2 ^ tx % 2 ^ transactions)) ≡ following h tx
 followed-with h tx inside = ap (followedAs h) (set-with (h .followed) tx inside)

@@ -149,7 +149,7 @@ fn restore(mut p: Parts) -> Change
 {
     let m = p.message;
     let h = p.process;
-    if m.position <= h.position {
+    if !world_process::takes_restore(h, m.turn, m.position) {
         return changes::without_messages(p, 0);
     }
     p.process = world_process::taking(h, m.store, m.position, m.running);

@@ -9,16 +9,17 @@ use native.Mathlib.Omega.{arith}
 use denote.Laws.{Is}
 use denote.Struct.Declared.{row}
 use lib.ListN.{drop, getD, length, length-map, length-set, replicate, set, take}
-use lib.Seq.{set-getD, sets}
+use lib.Seq.{set-getD, set-set, sets}
 use mir.Val.{Val}
+use Rattle.log_entry.specs.Limits.{processPlaces}
 use Rattle.log_votes.proofs.InList.{in-list}
 use Rattle.log_core.specs.declared.Log.{Log}
 use Rattle.log_core.specs.declared.Replay.{Replay}
 use Rattle.log_core.specs.Enter.{feed}
 use Rattle.log_core.specs.Log.{emptyLog}
-use Rattle.log_core.specs.Replay.{replayOf}
+use Rattle.log_core.specs.Replay.{noReplay, replayOf}
 use Rattle.model_steps.specs.declared.Step.{Step}
-use Rattle.model_steps.specs.declared.Step.the-variants.{Setup, Request, Open, Propose, Deliver, Tell, Restore, Follow, Crash}
+use Rattle.model_steps.specs.declared.Step.the-variants.{Setup, Request, Open, Propose, Deliver, Tell, Restore, Follow, Crash, Back}
 use Rattle.model_steps.specs.Limits.{coordinators, instances, messages}
 use Rattle.model_protocol.proofs.World.{the-type as world-type}
 use Rattle.model_protocol.specs.declared.AcceptorSlot.{AcceptorSlot}
@@ -36,7 +37,7 @@ use Rattle.model_protocol.specs.Batch.{entriesOf}
 use Rattle.model_protocol.specs.Change.{parts}
 use Rattle.model_protocol.specs.declared.Kind.{Kind}
 use Rattle.model_protocol.specs.declared.Kind.the-variants as kind
-use Rattle.model_protocol.specs.Limits.{slotPlaces, processPlaces}
+use Rattle.model_protocol.specs.Limits.{slotPlaces}
 use Rattle.model_protocol.specs.Places.{deliveryPlaces, messageAt, onlyOwner, placesOf}
 use Rattle.model_protocol.specs.Process.{withFollow}
 use Rattle.model_protocol.specs.Send.{addressed, copyOf, sendToAll}
@@ -70,11 +71,11 @@ world-lengths w vs g = record {
   slot-row = simp length-map at (g .1 .1 .1 .0 .1 .0 .1);
   co-row = simp length-map at (g .1 .1 .1 .1 .0 .1 .0 .1);
   log-row = simp length-map at (g .1 .1 .1 .1 .1 .0 .1 .0 .1);
-  process-row = simp length-map at (g .1 .1 .1 .1 .1 .1 .0 .1 .0 .1);
-  restored-row = simp length-map at (g .1 .1 .1 .1 .1 .1 .1 .0 .1 .0 .1);
-  follows-row = simp length-map at (g .1 .1 .1 .1 .1 .1 .1 .1 .0 .1 .0 .1);
-  message-row = simp length-map at (g .1 .1 .1 .1 .1 .1 .1 .1 .1 .1 .0 .1 .0 .1);
-  replay-row = simp length-map at (g .1 .1 .1 .1 .1 .1 .1 .1 .1 .1 .1 .0 .1 .0 .1);
+  process-row = simp length-map at (g .1 .1 .1 .1 .1 .1 .1 .1 .1 .1 .1 .1 .0 .1 .0 .1);
+  restored-row = simp length-map at (g .1 .1 .1 .1 .1 .1 .0 .1 .0 .1);
+  follows-row = simp length-map at (g .1 .1 .1 .1 .1 .1 .1 .0 .1 .0 .1);
+  message-row = simp length-map at (g .1 .1 .1 .1 .1 .1 .1 .1 .1 .0 .1 .0 .1);
+  replay-row = simp length-map at (g .1 .1 .1 .1 .1 .1 .1 .1 .1 .1 .0 .1 .0 .1);
 }
 
 message-inside : (s : Step) → messageAt s < messages
@@ -87,6 +88,7 @@ message-inside (Tell c p tx) = omega arith
 message-inside (Restore c p) = omega arith
 message-inside (Follow c p tx) = omega arith
 message-inside (Crash role id) = omega arith
+message-inside (Back p t) = omega arith
 
 -- the world has every place of a step
 abbrev pub There : Places → Type 0
@@ -119,6 +121,7 @@ step-there (Tell c p tx) m = there c 0 0
 step-there (Restore c p) m = there c 0 0
 step-there (Follow c p tx) m = there c 0 0
 step-there (Crash role id) m = there 0 0 0
+step-there (Back p t) m = there 0 0 p
 
 pub places-there : (at : Places) (s : Step) (m : Message) → at ≡ placesOf s m → There at
 places-there at s m e = rw e (step-there s m)
@@ -172,6 +175,7 @@ not-asked (Tell c p tx) d l n h = absurd (true≢false h)
 not-asked (Restore c p) d l n h = absurd (true≢false h)
 not-asked (Follow c p tx) d l n h = absurd (true≢false h)
 not-asked (Crash role id) d l n h = refl
+not-asked (Back p t) d l n h = refl
 
 -- ---- the world with the parts stored, and these replays, follows and logs
 
@@ -235,13 +239,46 @@ storedWith w at p restored follows replays logs = record {
   sent = w .sent;
 }
 
+-- the replays of the processes, where this one may take r
+abbrev takenRows : World → Places → Replay → Change → List Replay
+takenRows w at r ch = cond (ch .takes) (set (w .restored) (at .process) r) (w .restored)
+
+-- the follows of the processes, where this one may take that of the message
+abbrev followedRows : World → Places → Change → List Follows
+followedRows w at ch =
+    cond (ch .follows) (set (w .follows) (at .process) (withFollow (getD (w .follows) (at .process) noFollows) (ch .parts .message))) (w .follows)
+
 -- first the process takes the replay
 abbrev pub takenIn : World → Places → Replay → Change → World
-takenIn w at r ch = storedWith w at (ch .parts) (putBack w at r ch .restored) (w .follows) (w .replays) (w .logs)
+takenIn w at r ch = storedWith w at (ch .parts) (takenRows w at r ch) (w .follows) (w .replays) (w .logs)
 
 -- then it takes the follow
 abbrev pub followedIn : World → Places → Replay → Change → World
-followedIn w at r ch = storedWith w at (ch .parts) (putBack w at r ch .restored) (putBack w at r ch .follows) (w .replays) (w .logs)
+followedIn w at r ch = storedWith w at (ch .parts) (takenRows w at r ch) (followedRows w at ch) (w .replays) (w .logs)
+
+-- then it starts anew
+abbrev pub anewIn : World → Places → Replay → Change → World
+anewIn w at r ch = storedWith w at (ch .parts) (putBack w at r ch .restored) (putBack w at r ch .follows) (w .replays) (w .logs)
+
+abbrev withRestored : World → List Replay → List Follows → World
+withRestored w rs fs = record {
+  acceptors = w .acceptors;
+  slots = w .slots;
+  coordinators = w .coordinators;
+  logs = w .logs;
+  processes = w .processes;
+  restored = rs;
+  follows = fs;
+  down = w .down;
+  messages = w .messages;
+  replays = w .replays;
+  sent = w .sent;
+}
+
+-- what was stored before at the same place does not show
+set-over : {A : Type 0} (t : Bool) (l : List A) (i : ℕ) (a b : A) → set (cond t (set l i a) l) i b ≡ set l i b
+set-over true l i a b = set-set l i a b
+set-over false l i a b = refl
 
 -- then the replay goes with the message that is sent
 abbrev pub givenIn : World → Places → Replay → Change → World
@@ -267,6 +304,21 @@ module _ (w : World) (at : Places) (r : Replay) (ch : Change) where
     follows-it x f long here h is = rw (h, is, before, in-list (w .follows) (at .process) f noFollows (omega (arith, long .follows-row, here .2)))
 
   module _ (v : World) (before : v ≡ followedIn w at r ch) where
+    pub anew-none : ch .anew ≡ false → v ≡ anewIn w at r ch
+    anew-none h = rw (h, before)
+
+    -- both are as in a fresh world
+    pub anew-both : (x : Replay) (f : Follows) → ch .anew ≡ true → x ≡ noReplay → f ≡ noFollows
+        → withRestored v (set (v .restored) (at .process) x) (set (v .follows) (at .process) f) ≡ anewIn w at r ch
+    anew-both x f h is are =
+        (λ i. withRestored (before i) (set (before i .restored) (at .process) (is i)) (set (before i .follows) (at .process) (are i)))
+        ∙ (λ i. storedWith w at (ch .parts)
+        (set-over (ch .takes) (w .restored) (at .process) r noReplay i)
+        (set-over (ch .follows) (w .follows) (at .process) (withFollow (getD (w .follows) (at .process) noFollows) (ch .parts .message)) noFollows i)
+        (w .replays) (w .logs))
+        ∙ rw h
+
+  module _ (v : World) (before : v ≡ anewIn w at r ch) where
     pub gives-none : ch .gives ≡ false → v ≡ givenIn w at r ch
     gives-none h = rw (h, before)
 
@@ -368,14 +420,25 @@ same-length : {A : Type 0} (t : Bool) (l : List A) (i : ℕ) (x : A) → length 
 same-length true l i x = length-set l i x
 same-length false l i x = refl
 
+-- either of two lists
+both-lengths : {A : Type 0} {n : ℕ} (t : Bool) (l m : List A) → length l ≡ n → length m ≡ n → length (cond t l m) ≡ n
+both-lengths true l m h k = h
+both-lengths false l m h k = k
+
 pub put-lengths : (w : World) (at : Places) (r : Replay) (ch : Change) → Lengths w → Lengths (putBack w at r ch)
 put-lengths w at r ch long = record {
   slot-row = rw length-set (long .slot-row);
   co-row = rw length-set (long .co-row);
   log-row = rw length-set (long .log-row);
   process-row = rw length-set (long .process-row);
-  restored-row = same-length (ch .takes) (w .restored) (at .process) r ∙ long .restored-row;
-  follows-row = same-length (ch .follows) (w .follows) (at .process) _ ∙ long .follows-row;
+  restored-row =
+      both-lengths (ch .anew) (set (w .restored) (at .process) noReplay) (takenRows w at r ch) (length-set (w .restored) (at .process) noReplay)
+      (same-length (ch .takes) (w .restored) (at .process) r)
+      ∙ long .restored-row;
+  follows-row =
+      both-lengths (ch .anew) (set (w .follows) (at .process) noFollows) (followedRows w at ch) (length-set (w .follows) (at .process) noFollows)
+      (same-length (ch .follows) (w .follows) (at .process) _)
+      ∙ long .follows-row;
   message-row = long .message-row;
   replay-row = same-length (ch .gives) (w .replays) (w .sent) _ ∙ long .replay-row;
 }

@@ -5,14 +5,14 @@ use mathlib.Core.Bool.{Bool, cond, false, true, true≢false, not, _&&_, _||_}
 use mathlib.Core.Path.{_≡_, refl, sym}
 use native.Mathlib.Omega.{arith}
 use borrow.Author.Tests.{eqb-true, ltb-false}
-use lib.Dec.{eqb, leb, ltb}
+use lib.Dec.{eqb, leb}
 use Rattle.log_entry.specs.Limits.{stores}
 use Rattle.log_entry.specs.Refusal.{firstRefusal, outsideLimits}
 use Rattle.log_entry.specs.Entry.{illFormed}
 use Rattle.log_votes.specs.Outcome.{isOpen}
 use Rattle.model_steps.specs.declared.Role.the-variants.{Coord, Proc}
 use Rattle.model_steps.specs.declared.Step.{Step}
-use Rattle.model_steps.specs.declared.Step.the-variants.{Setup, Request, Open, Propose, Deliver, Tell, Restore, Follow, Crash}
+use Rattle.model_steps.specs.declared.Step.the-variants.{Setup, Request, Open, Propose, Deliver, Tell, Restore, Follow, Crash, Back}
 use Rattle.model_steps.specs.Limits.{messages, outsideStep}
 use Rattle.model_protocol.specs.declared.Kind.{Kind}
 use Rattle.model_protocol.specs.declared.Kind.the-variants as kind
@@ -22,9 +22,9 @@ use Rattle.model_protocol.specs.Coordinator.{counting, isHeard}
 use Rattle.model_protocol.specs.declared.Change.{Change}
 use Rattle.model_protocol.specs.declared.Parts.{Parts}
 use Rattle.model_protocol.specs.Deliver.{deliveryChange, noPlaceFor, receiverDown}
-use Rattle.model_protocol.specs.Process.{takesFollow}
+use Rattle.model_protocol.specs.Process.{takesFollow, takesRestore}
 use Rattle.model_protocol.specs.Send.{lacksNumbers}
-use Rattle.model_protocol.specs.Step.{acceptorsCounted, cannotOpen, cannotPropose, changeOf, notSetUp, stepChecks, stepRefusal, voterNotHolder}
+use Rattle.model_protocol.specs.Step.{acceptorsCounted, cannotOpen, cannotPropose, changeOf, notSetUp, otherTurn, stepChecks, stepRefusal, voterNotHolder}
 use Rattle.model_protocol.specs.World.{isDown}
 use Rattle.world_parts.specs.Plan.{refusalIn}
 use Rattle.world_parts.specs.Refusal.{firstOf, tests}
@@ -63,7 +63,7 @@ delivery-change-fits p kind.Accepted room =
     (omega arith)
 delivery-change-fits p kind.Tell room = omega arith
 delivery-change-fits p kind.Restore room =
-    either-fits (ltb (p .process .position) (p .message .position)) _ _ (messages - p .sent) (λ _. omega arith) (omega arith)
+    either-fits (takesRestore (p .process) (p .message .turn) (p .message .position)) _ _ (messages - p .sent) (λ _. omega arith) (omega arith)
 delivery-change-fits p kind.Follow room =
     either-fits (takesFollow (p .process) (p .message .store) (p .message .tx)) _ _ (messages - p .sent) (λ _. omega arith) (omega arith)
 
@@ -72,7 +72,7 @@ unfolding changeOf stepChecks firstRefusal
 change-fits p (Setup n) h = omega arith
 change-fits p (Request e to) h =
     ltb-false (messages - p .sent) 1
-    (first-roomy false (isDown (p .down) Proc (e .process) || isDown (p .down) Coord to) (notSetUp p || voterNotHolder e (p .process)) (lacksNumbers (p .sent) 1) (not (e .take) && illFormed e) h)
+    (first-roomy false (isDown (p .down) Proc (e .process) || isDown (p .down) Coord to) (notSetUp p || otherTurn e (p .process) || voterNotHolder e (p .process)) (lacksNumbers (p .sent) 1) (not (e .take) && illFormed e) h)
 change-fits p (Open c i b) h =
     ltb-false (messages - p .sent) (p .acceptors)
     (first-roomy false (isDown (p .down) Coord c) (notSetUp p || cannotOpen (p .coordinator) c i b) (lacksNumbers (p .sent) (p .acceptors)) false h)
@@ -92,6 +92,7 @@ change-fits p (Follow c process tx) h =
     ltb-false (messages - p .sent) 1
     (first-roomy false (isDown (p .down) Coord c || isDown (p .down) Proc process) (notSetUp p || isOpen (p .message .outcome) || leb stores (p .message .store)) (lacksNumbers (p .sent) 1) false h)
 change-fits p (Crash role id) h = omega arith
+change-fits p (Back process turn) h = omega arith
 
 -- so does a command
 within : (p : Parts) (s : Step) → stepRefusal p s ≡ 0 → refusalIn p s ≡ 0
@@ -134,7 +135,7 @@ delivery-sends p kind.Accepted =
     (either-sends (majority (p .acceptors) (counting (p .coordinator .round) (p .message .acceptor) .acceptances)) _ _ none none)
     none
 delivery-sends p kind.Tell = none
-delivery-sends p kind.Restore = either-sends (ltb (p .process .position) (p .message .position)) _ _ none none
+delivery-sends p kind.Restore = either-sends (takesRestore (p .process) (p .message .turn) (p .message .position)) _ _ none none
 delivery-sends p kind.Follow = either-sends (takesFollow (p .process) (p .message .store) (p .message .tx)) _ _ none none
 
 change-sends : (p : Parts) (s : Step) → Sends (changeOf p s)
@@ -148,6 +149,7 @@ change-sends p (Tell c process tx) = none
 change-sends p (Restore c process) = λ _. omega arith
 change-sends p (Follow c process tx) = none
 change-sends p (Crash role id) = none
+change-sends p (Back process turn) = none
 
 pub command-sends : (o : Command) (p : Parts) → Sends (changeIn o p)
 unfolding changeIn

@@ -2,11 +2,11 @@
 use Prim.Native.Nat.{ℕ}
 use mathlib.Core.Bool.{Bool, cond, false, true}
 use mathlib.Core.Path.{_≡_, ap, refl}
-use lib.Dec.{eqb, ltb}
+use lib.Dec.{eqb}
 use Rattle.log_entry.specs.Refusal.{accepted}
 use Rattle.log_core.specs.declared.Replay.{Replay}
 use Rattle.model_steps.specs.declared.Step.{Step}
-use Rattle.model_steps.specs.declared.Step.the-variants.{Setup, Request, Open, Propose, Deliver, Tell, Restore, Follow, Crash}
+use Rattle.model_steps.specs.declared.Step.the-variants.{Setup, Request, Open, Propose, Deliver, Tell, Restore, Follow, Crash, Back}
 use Rattle.model_protocol.specs.declared.Change.{Change}
 use Rattle.model_protocol.specs.declared.Kind.{Kind}
 use Rattle.model_protocol.specs.declared.Kind.the-variants as kind
@@ -19,7 +19,7 @@ use Rattle.model_protocol.specs.Change.{withoutMessages}
 use Rattle.model_paxos.specs.Majority.{majority}
 use Rattle.model_protocol.specs.Coordinator.{counting, isHeard}
 use Rattle.model_protocol.specs.Deliver.{deliveryChange}
-use Rattle.model_protocol.specs.Process.{takesFollow}
+use Rattle.model_protocol.specs.Process.{takesFollow, takesRestore}
 use Rattle.model_protocol.specs.Step.{answered, changed, changeOf, messageIn, partsOf, placesIn, replayIn, stepOf, stepRefusal}
 use Rattle.model_protocol.proofs.PutBack.{nothing-changed}
 use Rattle.world_parts.specs.Plan.{decided}
@@ -44,7 +44,7 @@ delivery-change-accepted p kind.Accepted =
     (either-accepted (majority (p .acceptors) (counting (p .coordinator .round) (p .message .acceptor) .acceptances)) _ _ refl refl)
     refl
 delivery-change-accepted p kind.Tell = refl
-delivery-change-accepted p kind.Restore = either-accepted (ltb (p .process .position) (p .message .position)) _ _ refl refl
+delivery-change-accepted p kind.Restore = either-accepted (takesRestore (p .process) (p .message .turn) (p .message .position)) _ _ refl refl
 delivery-change-accepted p kind.Follow = either-accepted (takesFollow (p .process) (p .message .store) (p .message .tx)) _ _ refl refl
 
 change-accepted : (p : Parts) (s : Step) → changeOf p s .answer ≡ accepted
@@ -58,6 +58,7 @@ change-accepted p (Tell c process tx) = refl
 change-accepted p (Restore c process) = refl
 change-accepted p (Follow c process tx) = refl
 change-accepted p (Crash role id) = refl
+change-accepted p (Back process turn) = refl
 
 -- ---- the command
 

@@ -5,6 +5,7 @@ ghost use Prim.Native.Nat.{min};
 ghost use Rattle.world_engine.specs.Commands.{answersIn, worldAfter};
 ghost use Rattle.model_steps.specs.Commands.{commandsIn, mostCommands};
 use crate::plan;
+use log_core::Replay;
 use model_protocol::Parts;
 use model_protocol::Stepped;
 use model_protocol::World;
@@ -14,6 +15,7 @@ use model_steps::Step;
 use model_steps::limits::COMMAND_PLACES;
 use model_steps::limits::COMMANDS;
 use world_coordinator::learn;
+use world_fresh::no_follows;
 use world_parts::place;
 
 fn at_most(count: u16) -> u16
@@ -72,6 +74,10 @@ pub fn advance(mut w: World, commands: Commands, answers: &mut [u8; COMMAND_PLAC
         if change.follows {
             let kept = w.follows[h];
             w.follows[h] = world_process::with_follow(kept, change.parts.message);
+        }
+        if change.anew {
+            w.restored[h] = Replay::none();
+            w.follows[h] = no_follows();
         }
         let mut m = change.message;
         if change.gives {

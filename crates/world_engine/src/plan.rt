@@ -33,6 +33,7 @@ fn plan(p: Parts, s: Step) -> Change
         Step::Restore { coord, process } => world_requests::restore(p, coord, process),
         Step::Follow { coord, process, tx } => world_requests::follow(p, coord, process, tx),
         Step::Crash { role, id } => world_requests::crash(p, role, id),
+        Step::Back { process, turn } => world_requests::back(p, process, turn),
     }
 }
 

@@ -4,10 +4,12 @@ ghost use mathlib.Core.Path.{_≡_};
 ghost use Rattle.model_protocol.specs.Batch.{noBatch, noEntry};
 ghost use Rattle.model_protocol.specs.Message.{noMessage};
 ghost use Rattle.model_protocol.specs.Queue.{queueOf};
-ghost use Rattle.model_protocol.specs.World.{allUp, emptySlot, freshCoordinator, freshProcess, freshWorld, newRound, noFollows};
+ghost use Rattle.model_protocol.specs.World.{allUp, emptySlot, freshCoordinator, freshWorld, newRound, noFollows, startedIn};
 use log_core::Log;
 use log_core::Replay;
 use log_entry::Entry;
+use log_entry::limits::FIRST_TURN;
+use log_entry::limits::PROCESS_PLACES;
 use log_entry::limits::TRANSACTION_PLACES;
 use log_votes::Outcome;
 use model_protocol::AcceptorSlot;
@@ -27,7 +29,6 @@ use model_protocol::limits::ACCEPTOR_PLACES;
 use model_protocol::limits::BATCH_PLACES;
 use model_protocol::limits::COORDINATOR_PLACES;
 use model_protocol::limits::MESSAGE_PLACES;
-use model_protocol::limits::PROCESS_PLACES;
 use model_protocol::limits::QUEUE_PLACES;
 use model_protocol::limits::SLOT_PLACES;
 
@@ -37,6 +38,7 @@ pub fn no_entry() -> Entry
     Entry {
         take: false,
         process: 0,
+        turn: 0,
         by: 0,
         store: 0,
         tx: 0,
@@ -98,6 +100,7 @@ pub fn no_message() -> Message
     Message {
         kind: Kind::Request,
         to: 0,
+        turn: 0,
         acceptor: 0,
         inst: 0,
         ballot: 0,
@@ -123,13 +126,15 @@ pub fn empty_slot() -> AcceptorSlot
     }
 }
 
-pub fn fresh_process() -> Process
-    ensures { λ r. ⌜ r ≡ freshProcess ⌝ }
+// A process that starts in this turn.
+pub fn started_in(turn: u8) -> Process
+    ensures { λ r. ⌜ r ≡ startedIn turn ⌝ }
 {
     let nothing = Heard {
         outcome: Outcome::Open,
     };
     Process {
+        turn: turn,
         heard: [nothing; TRANSACTION_PLACES],
         store: 0,
         position: 0,
@@ -138,7 +143,7 @@ pub fn fresh_process() -> Process
     }
 }
 
-fn no_follows() -> Follows
+pub fn no_follows() -> Follows
     ensures { λ r. ⌜ r ≡ noFollows ⌝ }
 {
     let none = Followed {
@@ -166,7 +171,7 @@ pub fn fresh_world() -> World
     let slot = empty_slot();
     let coordinator = fresh_coordinator();
     let log = Log::empty();
-    let process = fresh_process();
+    let process = started_in(FIRST_TURN);
     let none = no_message();
     let replay = Replay::none();
     let follows = no_follows();
@@ -177,12 +182,12 @@ pub fn fresh_world() -> World
         slots: [slot; SLOT_PLACES],
         coordinators: [coordinator; COORDINATOR_PLACES],
         logs: [log; COORDINATOR_PLACES],
-        processes: [process; PROCESS_PLACES],
         restored: [replay; PROCESS_PLACES],
         follows: [follows; PROCESS_PLACES],
         down: all_up(),
         messages: [none; MESSAGE_PLACES],
         replays: replays,
         sent: 0,
+        processes: [process; PROCESS_PLACES],
     }
 }

@@ -9,13 +9,13 @@ use borrow.Author.Tests.{ltb-false, ltb-true}
 use denote.Laws.{Is}
 use denote.Struct.Declared.{row}
 use lib.Dec.{ltb}
-use lib.ListN.{List·getD-eq-default, getD, length, length-map, set}
+use lib.ListN.{List·getD-eq-default, getD, length, length-map}
 use lib.Seq.{set-out}
 use mir.Val.{Val}
 use Rattle.model_steps.specs.declared.Role.the-variants.{Acceptor, Coord, Proc}
 use Rattle.model_protocol.proofs.Down.{the-type as down-type}
 use Rattle.model_protocol.specs.declared.Down.{Down}
-use Rattle.model_protocol.specs.World.{crashed}
+use Rattle.model_protocol.specs.World.{crashed, upAgain}
 
 module _ (d : Down) (vs : List Val) (g : Is (row down-type) d vs) where
   pub acceptors-length : length (d .acceptors) ≡ 5
@@ -49,3 +49,8 @@ module _ (d : Down) (id : ℕ) where
   pub no-process-crashed : length (d .processes) ≤ id → d ≡ crashed d Proc id
   no-process-crashed h =
       λ i. record { acceptors = d .acceptors; coordinators = d .coordinators; processes = sym (set-out (d .processes) id true h) i }
+
+  -- nor comes back
+  pub no-process-back : length (d .processes) ≤ id → d ≡ upAgain d id
+  no-process-back h =
+      λ i. record { acceptors = d .acceptors; coordinators = d .coordinators; processes = sym (set-out (d .processes) id false h) i }

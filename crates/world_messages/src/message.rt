@@ -23,6 +23,7 @@ fn ballot_message(
     Message {
         kind: kind,
         to: 0,
+        turn: 0,
         acceptor: acceptor,
         inst: inst,
         ballot: ballot,
@@ -41,6 +42,7 @@ fn ballot_message(
 fn direct_message(
     kind: Kind,
     to: u8,
+    turn: u8,
     entry: Entry,
     tx: u8,
     outcome: Outcome,
@@ -49,11 +51,12 @@ fn direct_message(
     running: u32,
     update: Update,
 ) -> Message
-    ensures { λ r. ⌜ r ≡ directMessage kind to entry tx outcome store position running update ⌝ }
+    ensures { λ r. ⌜ r ≡ directMessage kind to turn entry tx outcome store position running update ⌝ }
 {
     Message {
         kind: kind,
         to: to,
+        turn: turn,
         acceptor: 0,
         inst: 0,
         ballot: 0,
@@ -96,21 +99,22 @@ pub fn accepted_from(inst: u8, ballot: u8, acceptor: u8) -> Message
 pub fn request_to(coord: u8, entry: Entry) -> Message
     ensures { λ r. ⌜ r ≡ requestTo coord entry ⌝ }
 {
-    direct_message(Kind::Request, coord, entry, 0, Outcome::Open, 0, 0, 0, 0)
+    direct_message(Kind::Request, coord, 0, entry, 0, Outcome::Open, 0, 0, 0, 0)
 }
 
 pub fn tell_to(process: u8, tx: u8, outcome: Outcome) -> Message
     ensures { λ r. ⌜ r ≡ tellTo process tx outcome ⌝ }
 {
-    direct_message(Kind::Tell, process, no_entry(), tx, outcome, 0, 0, 0, 0)
+    direct_message(Kind::Tell, process, 0, no_entry(), tx, outcome, 0, 0, 0, 0)
 }
 
-pub fn restore_to(process: u8, store: u8, position: u8, running: u32) -> Message
-    ensures { λ r. ⌜ r ≡ restoreTo process store position running ⌝ }
+pub fn restore_to(process: u8, turn: u8, store: u8, position: u8, running: u32) -> Message
+    ensures { λ r. ⌜ r ≡ restoreTo process turn store position running ⌝ }
 {
     direct_message(
         Kind::Restore,
         process,
+        turn,
         no_entry(),
         0,
         Outcome::Open,
@@ -127,6 +131,7 @@ pub fn follow_to(process: u8, store: u8, tx: u8, outcome: Outcome, update: Updat
     direct_message(
         Kind::Follow,
         process,
+        0,
         no_entry(),
         tx,
         outcome,

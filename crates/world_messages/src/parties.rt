@@ -2,7 +2,8 @@
 ghost use mathlib.Core.Path.{_≡_};
 ghost use Rattle.model_protocol.specs.World.{isDown};
 ghost use Rattle.model_protocol.specs.Deliver.{receiverDown};
-ghost use Rattle.model_protocol.specs.World.{crashed};
+ghost use Rattle.model_protocol.specs.World.{crashed, upAgain};
+use log_entry::limits::PROCESS_PLACES;
 use log_entry::limits::PROCESSES;
 use model_owners::owner;
 use model_protocol::Down;
@@ -10,7 +11,6 @@ use model_protocol::Kind;
 use model_protocol::Message;
 use model_protocol::limits::ACCEPTOR_PLACES;
 use model_protocol::limits::COORDINATOR_PLACES;
-use model_protocol::limits::PROCESS_PLACES;
 use model_steps::Role;
 use model_steps::limits::COORDINATORS;
 use model_steps::limits::MOST_ACCEPTORS;
@@ -58,6 +58,16 @@ pub fn crashed(mut d: Down, role: Role, id: u8) -> Down
                 d.processes[id as usize] = true;
             }
         }
+    }
+    d
+}
+
+// The process is up from now on.
+pub fn up_again(mut d: Down, process: u8) -> Down
+    ensures { λ r. ⌜ r ≡ upAgain d process ⌝ }
+{
+    if process <= PROCESSES {
+        d.processes[process as usize] = false;
     }
     d
 }

@@ -1,6 +1,6 @@
 // Changes of the parts.
 ghost use mathlib.Core.Path.{_≡_};
-ghost use Rattle.model_protocol.specs.Change.{givesReplay, keepsFollow, learns, sending, takesReplay, withoutMessages};
+ghost use Rattle.model_protocol.specs.Change.{givesReplay, keepsFollow, learns, sending, startsAnew, takesReplay, withoutMessages};
 use model_protocol::Batch;
 use model_protocol::Change;
 use model_protocol::Message;
@@ -21,6 +21,7 @@ pub fn without_messages(p: Parts, answer: u8) -> Change
         gives: false,
         takes: false,
         follows: false,
+        anew: false,
     }
 }
 
@@ -67,5 +68,14 @@ pub fn keeps_follow(p: Parts) -> Change
 {
     let mut change = without_messages(p, 0);
     change.follows = true;
+    change
+}
+
+// The parts are these now, and the process starts anew.
+pub fn starts_anew(p: Parts) -> Change
+    ensures { λ r. ⌜ r ≡ startsAnew p ⌝ }
+{
+    let mut change = without_messages(p, 0);
+    change.anew = true;
     change
 }

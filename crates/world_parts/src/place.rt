@@ -102,5 +102,6 @@ pub fn places(s: Step, m: Message) -> Places
         Step::Restore { coord, .. } => only_coordinator(coord),
         Step::Follow { coord, .. } => only_coordinator(coord),
         Step::Crash { .. } => only_coordinator(0),
+        Step::Back { process, .. } => only_process(process),
     }
 }

@@ -5,7 +5,7 @@ use mathlib.Core.List.{List}
 use mathlib.Core.Path.{_≡_, sym}
 use denote.Laws.{Is}
 use denote.Struct.Declared.{row}
-use lib.ListN.{length, length-map, set}
+use lib.ListN.{length, length-map}
 use lib.Seq.{set-out}
 use mir.Val.{Val}
 use Rattle.log_entry.specs.Limits.{transactions}
@@ -18,11 +18,11 @@ use Rattle.model_protocol.specs.declared.Process.{Process}
 use Rattle.model_protocol.specs.Process.{hearingOutcome, withFollow}
 
 pub heard-length : (p : Process) (vs : List Val) → Is (row the-type) p vs → length (p .heard) ≡ transactions
-heard-length p vs g = simp length-map at (g .1 .1 .0 .1 .0 .1)
+heard-length p vs g = simp length-map at (g .1 .1 .1 .0 .1 .0 .1)
 
 pub not-heard : (p : Process) (tx : ℕ) (outcome : Outcome) → length (p .heard) ≤ tx → p ≡ hearingOutcome p tx outcome
 not-heard p tx outcome h =
-    λ i. record { heard = sym (set-out (p .heard) tx (record { outcome = outcome }) h) i; store = p .store; position = p .position; running = p .running; followed = p .followed }
+    λ i. record { turn = p .turn; heard = sym (set-out (p .heard) tx (record { outcome = outcome }) h) i; store = p .store; position = p .position; running = p .running; followed = p .followed }
 
 pub follows-length : (fs : Follows) (vs : List Val) → Is (row follows-type) fs vs → length (fs .of) ≡ transactions
 follows-length fs vs g = simp length-map at (g .1 .1 .0 .1 .0 .1)

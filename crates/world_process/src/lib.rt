@@ -1,6 +1,6 @@
 // What a process hears, takes and believes.
 ghost use mathlib.Core.Path.{_≡_};
-ghost use Rattle.model_protocol.specs.Process.{believes, hearingOutcome, taking, takesFollow, withFollow};
+ghost use Rattle.model_protocol.specs.Process.{believes, hearingOutcome, taking, takesFollow, takesRestore, withFollow};
 use log_entry::limits::TRANSACTIONS;
 use log_entry::sets::has32;
 use log_votes::Outcome;
@@ -26,6 +26,13 @@ pub fn hearing(mut p: Process, tx: u8, outcome: Outcome) -> Process
     }
     p.heard[tx as usize] = Heard { outcome: outcome };
     p
+}
+
+// Whether it takes a restore for this turn with this position.
+pub fn takes_restore(p: Process, turn: u8, position: u8) -> bool
+    ensures { λ r. ⌜ r ≡ takesRestore p turn position ⌝ }
+{
+    (p.turn == turn) & (p.position < position)
 }
 
 // It takes the restore.

@@ -5,6 +5,7 @@ ghost use Rattle.text_report.specs.Within.{Within, longestLine};
 ghost use Rattle.world_report.specs.Longest.{longestFollows, longestHeard, longestHeardLine, longestRestore, longestRunning, longestRunningLine};
 ghost use Rattle.world_report.specs.Processes.{byProcess, followLine, followText, followsText, heardLine, heardText, listedText, outcomeText, restoreLine, restoreText, restoresText, runningLine, runningText};
 use log_core::Replay;
+use log_entry::limits::PROCESS_PLACES;
 use log_entry::limits::PROCESSES;
 use log_entry::limits::TRANSACTIONS;
 use log_entry::sets;
@@ -12,7 +13,6 @@ use log_votes::Outcome;
 use model_protocol::Followed;
 use model_protocol::Follows;
 use model_protocol::Process;
-use model_protocol::limits::PROCESS_PLACES;
 
 pub fn heard_line(out: &mut [u8], at: usize, proc: u8, tx: u8, outcome: Outcome) -> usize
     ensures { λ r. ⌜ Within longestHeardLine (now (out .entry)) at (heardLine proc tx outcome) (now (out .exit)) r ⌝ }

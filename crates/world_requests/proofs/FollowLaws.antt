@@ -8,13 +8,13 @@ use Rattle.log_votes.specs.declared.Vote.{Vote}
 use Rattle.log_votes.specs.Outcome.{isCommitted}
 use Rattle.log_core.specs.declared.Log.{Log}
 use Rattle.log_core.specs.Follow.{awaitedOf}
-use Rattle.log_core.specs.Log.{outcomeOf, voteAt}
+use Rattle.log_core.specs.Log.{outcomeOf, turnOf, voteAt}
 use Rattle.model_protocol.specs.Message.{followTo, restoreTo}
 use Rattle.model_protocol.specs.Step.{heldStore, updateOf, votingStore}
 
-pub restore-says : (l : Log) (process applied s running : ℕ) → s ≡ heldStore l process → running ≡ awaitedOf l s
-    → restoreTo process s applied running ≡ restoreTo process (heldStore l process) applied (awaitedOf l (heldStore l process))
-restore-says l process applied s running held runs = rw (runs, held)
+pub restore-says : (l : Log) (process applied s turn running : ℕ) → s ≡ heldStore l process → turn ≡ turnOf l s → running ≡ awaitedOf l s
+    → restoreTo process turn s applied running ≡ restoreTo process (turnOf l (heldStore l process)) (heldStore l process) applied (awaitedOf l (heldStore l process))
+restore-says l process applied s turn running held named runs = rw (runs, named, held)
 
 -- ---- the store that a follow is for
 

@@ -1,16 +1,15 @@
-// The steps that need no ballot: setup, take and vote, tell, restore, follow, crash.
+// The steps that need no ballot: setup, take and vote, tell, restore, follow, crash, back.
 ghost use mathlib.Core.Path.{_≡_};
 ghost use mathlib.Core.Bool.{false, _&&_, _||_, not};
-ghost use lib.Dec.{eqb, leb};
+ghost use lib.Dec.{eqb};
 ghost use Rattle.log_entry.specs.Entry.{illFormed};
-ghost use Rattle.log_entry.specs.Limits.{stores};
 ghost use Rattle.log_votes.specs.Outcome.{isOpen};
 ghost use Rattle.log_core.specs.Follow.{awaitedOf};
-ghost use Rattle.log_core.specs.Log.{outcomeOf};
+ghost use Rattle.log_core.specs.Log.{outcomeOf, turnOf};
 ghost use Rattle.model_steps.specs.declared.Role.the-variants.{Coord, Proc};
-ghost use Rattle.model_steps.specs.declared.Step.the-variants.{Crash, Follow, Request, Restore, Setup, Tell};
+ghost use Rattle.model_steps.specs.declared.Step.the-variants.{Back, Crash, Follow, Request, Restore, Setup, Tell};
 ghost use Rattle.model_protocol.specs.Message.{followTo, restoreTo};
-ghost use Rattle.model_protocol.specs.Step.{heldFrom, heldStore, messageFor, updateOf, voterNotHolder, votingStore};
+ghost use Rattle.model_protocol.specs.Step.{heldFrom, heldStore, messageFor, otherTurn, updateOf, voterNotHolder, votingStore};
 ghost use Rattle.model_protocol.specs.World.{isDown};
 ghost use Rattle.model_protocol.specs.Send.{lacksNumbers};
 ghost use Rattle.world_parts.specs.Refusal.{firstOf, tests};
@@ -28,6 +27,7 @@ use model_protocol::Parts;
 use model_protocol::Process;
 use model_steps::Role;
 use model_steps::Step;
+use world_fresh::started_in;
 use world_messages::message;
 use world_messages::parties;
 use world_messages::send;
@@ -45,12 +45,12 @@ pub fn setup(mut p: Parts, n: u8) -> Change
     changes::without_messages(p, 0)
 }
 
-// Whether there was no setup, or the entry is a vote by a process that does not believe that it
-// holds `by`.
+// Whether there was no setup, or the entry has another turn than the process, or is a vote by a
+// process that does not believe that it holds `by`.
 fn request_barred(n: u8, e: Entry, p: Process) -> bool
-    ensures { λ r. ⌜ r ≡ (eqb n 0 || voterNotHolder e p) ⌝ }
+    ensures { λ r. ⌜ r ≡ (eqb n 0 || otherTurn e p || voterNotHolder e p) ⌝ }
 {
-    (n == 0) | (!e.take & !world_process::believes(p, e.by))
+    (n == 0) | (e.turn != p.turn) | (!e.take & !world_process::believes(p, e.by))
 }
 
 fn ill_formed(e: Entry) -> bool
@@ -67,7 +67,7 @@ fn either_down(d: Down, coord: u8, process: u8) -> bool
 }
 
 fn request_refusal(n: u8, sent: u8, d: Down, p: Process, e: Entry, to: u8) -> u8
-    ensures { λ r. ⌜ r ≡ firstOf (tests false (isDown d Proc (e .process) || isDown d Coord to) (eqb n 0 || voterNotHolder e p) (lacksNumbers sent 1) (not (e .take) && illFormed e)) ⌝ }
+    ensures { λ r. ⌜ r ≡ firstOf (tests false (isDown d Proc (e .process) || isDown d Coord to) (eqb n 0 || otherTurn e p || voterNotHolder e p) (lacksNumbers sent 1) (not (e .take) && illFormed e)) ⌝ }
 {
     refusal::first_of(Tests {
         unsent: false,
@@ -158,11 +158,11 @@ fn held_store(holders: [u8; STORE_PLACES], process: u8) -> u8
 }
 
 fn restored(log: Log, applied: u8, process: u8) -> Message
-    ensures { λ r. ⌜ r ≡ restoreTo process (heldStore log process) applied (awaitedOf log (heldStore log process)) ⌝ }
+    ensures { λ r. ⌜ r ≡ restoreTo process (turnOf log (heldStore log process)) (heldStore log process) applied (awaitedOf log (heldStore log process)) ⌝ }
 {
     let holders = log.holders;
     let store = held_store(holders, process);
-    message::restore_to(process, store, applied, log.awaited(store))
+    message::restore_to(process, log.turn(store), store, applied, log.awaited(store))
 }
 
 // The store that the process holds, if it has a kept commit vote on the transaction; one past the
@@ -235,4 +235,16 @@ pub fn crash(mut p: Parts, role: Role, id: u8) -> Change
     }
     p.down = parties::crashed(p.down, role, id);
     changes::without_messages(p, 0)
+}
+
+// Neither 3 nor 6 stops a process from coming back.
+pub fn back(mut p: Parts, process: u8, turn: u8) -> Change
+    ensures { λ r. ⌜ r ≡ planOf p (Back process turn) ⌝ }
+{
+    if (p.acceptors == 0) | (turn <= p.process.turn) {
+        return changes::without_messages(p, NOT_MET);
+    }
+    p.process = started_in(turn);
+    p.down = parties::up_again(p.down, process);
+    changes::starts_anew(p)
 }

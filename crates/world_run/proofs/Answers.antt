@@ -1,6 +1,6 @@
 -- What each answer says of a line: which lines are answered 1, which 2, and that all others are
 -- texts of steps within the limits.
-use Prim.Native.Nat.{ℕ, _≤_, _<_}
+use Prim.Native.Nat.{ℕ, _≤_}
 use native.Mathlib.Omega.{arith}
 use mathlib.Core.Bool.{Bool, true, false, cond}
 use mathlib.Core.List.{List}
@@ -20,7 +20,7 @@ use Rattle.model_protocol.specs.Step.{acceptorsCounted, answered, partsOf, run,
 use Rattle.model_protocol.specs.World.{freshWorld}
 use Rattle.model_protocol.proofs.Unchanged.{answer-is-refusal}
 use Rattle.model_steps.specs.declared.Step.{Step}
-use Rattle.model_steps.specs.declared.Step.the-variants.{Setup, Request, Open, Propose, Deliver, Tell, Restore, Follow, Crash}
+use Rattle.model_steps.specs.declared.Step.the-variants.{Setup, Request, Open, Propose, Deliver, Tell, Restore, Follow, Crash, Back}
 use Rattle.model_steps.specs.Limits.{mostAcceptors, outsideStep}
 use Rattle.text_ascii.specs.Decimal.{byteNumbers}
 use Rattle.text_step.specs.declared.Reading.{Reading}
@@ -86,6 +86,7 @@ none-is-2 p (Tell c q tx) = refl
 none-is-2 p (Restore c q) = refl
 none-is-2 p (Follow c q tx) = refl
 none-is-2 p (Crash role id) = refl
+none-is-2 p (Back q t) = refl
 
 refused-2 : (p : Parts) (s : Step) → stepRefusal p s ≡ outsideLimits → outsideStep (acceptorsCounted (p .acceptors)) s ≡ true
 unfolding stepRefusal firstRefusal

@@ -4,10 +4,11 @@
 use crate::crash::limited;
 use crate::damage::{padded, BEFORE_REFUSED, REFUSED};
 use crate::host::{
-    answer, checksum, log_of, queries, slot, slots, write_in_place, Bench, Ran, SLOT,
+    answer, checksum, log_of, queries, slot, slots, slots_without_turns, without_turn,
+    write_in_place, Bench, Ran, SLOT,
 };
-use crate::longest::longest;
-use crate::plain_log::{Entry, RECORD};
+use crate::longest::{longest, longest_of_turn_1, OF_TURN_1};
+use crate::plain_log::{Entry, Log, RECORD, TURN};
 use crate::random::{History, Random};
 use std::fs;
 use std::os::fd::AsRawFd;
@@ -20,8 +21,8 @@ use std::time::{Duration, Instant};
 const OLD_RECORD: usize = 12;
 const OLD_SLOT: usize = 16;
 
-/// The most entries of a log, and how many the files here have.
-const MOST: usize = 376;
+/// The most entries of a log without turns, and how many the files here have.
+const MOST: usize = OF_TURN_1;
 const SIZES: [usize; 7] = [0, 1, 2, 3, 9, MOST - 1, MOST];
 const HISTORIES: usize = 20;
 const KILLS: usize = 60;
@@ -37,26 +38,32 @@ fn old_slot(index: usize, record: &[u8; OLD_RECORD]) -> [u8; OLD_SLOT] {
 fn old_slots(entries: &[Entry]) -> Vec<u8> {
     let mut bytes = Vec::new();
     for (i, e) in entries.iter().enumerate() {
-        let record = e.to_record();
+        let record = without_turn(e);
         assert_eq!(record[OLD_RECORD..], [0; RECORD - OLD_RECORD], "an update of 32 bits");
         bytes.extend(old_slot(i, record[..OLD_RECORD].try_into().expect("twelve bytes")));
     }
     bytes
 }
 
-/// The entries as an earlier host could have them: with updates of 32 bits.
+/// The entries as an earlier host could have them: of turn 1, with updates of 32 bits, and without
+/// those that are refused then.
 fn narrow(mut entries: Vec<Entry>) -> Vec<Entry> {
-    for e in &mut entries {
-        if let Entry::Vote(v) = e {
-            v.update >>= 32;
+    let mut log = Log::new();
+    entries.retain_mut(|e| {
+        match e {
+            Entry::Take { turn, .. } => *turn = 1,
+            Entry::Vote(v) => (v.turn, v.update) = (1, v.update >> 32),
         }
-    }
+        log.enter(e) == 0
+    });
     entries
 }
 
-/// The first entries of a longest log.
+/// The first entries of a longest log of turn 1.
 fn first(n: usize) -> Vec<Entry> {
-    narrow(longest()[..n].to_vec())
+    let entries = narrow(longest_of_turn_1()[..n].to_vec());
+    assert_eq!(entries.len(), n);
+    entries
 }
 
 /// A folder with a file OLD and, if all goes well, a file NEW.
@@ -120,7 +127,8 @@ impl Folder<'_> {
         assert_eq!(ran.out, format!("records converted: {}\n", entries.len()));
         assert_eq!(self.names(), ["new", "old"]);
         assert!(fs::read(self.old()).expect("OLD") == bytes, "OLD was changed");
-        assert!(fs::read(self.new()).expect("NEW") == slots(entries), "NEW has other bytes");
+        let new = slots_without_turns(entries);
+        assert!(fs::read(self.new()).expect("NEW") == new, "NEW has other bytes");
     }
 
     /// The converter stops and says why; there is no NEW, and OLD is as it was.
@@ -145,7 +153,7 @@ fn whole(f: &Folder, seed: u64) {
         let ran = f.bench.run_with(f.bench.command(&f.new()), asked.as_bytes());
         assert_eq!((ran.code, &ran.err[..]), (Some(0), ""));
         assert_eq!(ran.out, expected);
-        assert_eq!(fs::read(f.new()).expect("NEW"), slots(&entries));
+        assert_eq!(fs::read(f.new()).expect("NEW"), slots_without_turns(&entries));
     }
 }
 
@@ -209,9 +217,24 @@ fn damaged(f: &Folder) {
         f.refused(f.convert(), &bytes, &why);
     }
     let all = old_slots(&entries);
-    for tail in [&good[..OLD_SLOT], b"x"] {
-        let why = "record 377 is damaged: a log has no more than 376";
+    let more: [u8; OLD_RECORD] = padded(&[0, 1, 0, 0, 0, 0, 0, 0]);
+    for (tail, why) in [
+        (&good[..OLD_SLOT], "record 377 is damaged: checksum wrong, answer=12 "),
+        (b"x", "record 377 is damaged: checksum wrong, answer=1 "),
+        (&old_slot(MOST, &more), "record 377 is damaged: checksum right, answer=12 "),
+    ] {
         f.refused(f.convert(), &[&all, tail].concat(), why);
+    }
+    /* An earlier host had no turns: its byte 7 is a zero. */
+    for turn in [1, 2, 128, 255] {
+        let mut take: [u8; OLD_RECORD] = padded(&BEFORE_REFUSED[0]);
+        take[TURN] = turn;
+        let why = "record 1 is damaged: a zero spoiled, answer=0 ";
+        f.refused(f.convert(), &old_slot(0, &take), why);
+        f.refused(f.convert(), &[&old_slot(0, &take), &good[OLD_SLOT..]].concat(), why);
+        let why = "record 1 is damaged: checksum wrong, answer=0 ";
+        f.refused(f.convert(), &take, why);
+        f.refused(f.convert(), &take[..=TURN], why);
     }
     f.refused(f.convert(), b"text, and no records\n", "record 1 is damaged");
 }
@@ -222,10 +245,12 @@ fn of_the_new_form(f: &Folder) {
     for n in SIZES {
         if n > 0 {
             f.refused(f.convert(), &slots(&longest()[..n]), why);
+            f.refused(f.convert(), &slots_without_turns(&longest_of_turn_1()[..n]), why);
         }
     }
     for length in OLD_SLOT + 1..SLOT {
         f.refused(f.convert(), &slots(&longest()[..1])[..length], why);
+        f.refused(f.convert(), &slots_without_turns(&longest()[..1])[..length], why);
     }
 }
 
@@ -337,7 +362,7 @@ fn faults(f: &Folder) {
 /// Killed at any time, it leaves the whole of NEW or nothing of it, and a second one makes NEW.
 fn kills(f: &Folder, seed: u64) {
     let entries = first(MOST);
-    let (bytes, new) = (old_slots(&entries), slots(&entries));
+    let (bytes, new) = (old_slots(&entries), slots_without_turns(&entries));
     let start = Instant::now();
     f.converted(f.faulty("pieces"), &bytes, &entries, "");
     let most = start.elapsed().as_micros() as usize;
@@ -435,18 +460,21 @@ fn looks_old(index: usize, vote: [u8; 8]) -> [u8; RECORD] {
 
 /// A whole slot of the new form is one, whatever its update.
 fn coincidence(b: &Bench) {
-    let vote = [1, 1, 0, 0, 4, 1, 1, 0];
-    /* The first record of a log is a take, which has no update. So the log refuses this one. */
-    let why = format!("record 1 is damaged: checksum right, {}\n", answer(8));
-    left_alone(b, &slot(0, &looks_old(0, vote)), &why);
-    for of in [0, 1] {
-        let record = looks_old(of, vote);
-        let entry = Entry::from_record(&record).expect("a vote");
-        let entries = [Entry::Take { process: 1, store: 0 }, entry];
-        b.put(&slots(&entries));
-        let (asked, expected) = queries(&log_of(&entries));
-        let ran = b.run(asked.as_bytes());
-        assert_eq!((ran.code, &ran.err[..], ran.out), (Some(0), "", expected));
+    for turn in [0, 1] {
+        let (take, vote) = ([0, 1, 0, 0, 0, 0, 0, turn], [1, 1, 0, 0, 4, 1, 1, turn]);
+        /* The first record of a log is a take, which has no update. So the log refuses this one. */
+        let why = format!("record 1 is damaged: checksum right, {}\n", answer(8));
+        left_alone(b, &slot(0, &looks_old(0, vote)), &why);
+        for of in [0, 1] {
+            let records = [padded(&take), looks_old(of, vote)];
+            let file: Vec<u8> = (0..2).flat_map(|i| slot(i, &records[i])).collect();
+            b.put(&file);
+            let (asked, expected) =
+                queries(&log_of(&records.map(|r| Entry::from_record(&r).expect("an entry"))));
+            let ran = b.run(asked.as_bytes());
+            assert_eq!((ran.code, &ran.err[..], ran.out), (Some(0), "", expected));
+            assert_eq!(b.bytes(), file);
+        }
     }
 }
 

@@ -1,6 +1,6 @@
 //! Hosts that are killed, disks that fill up or fail, two hosts at once.
 
-use crate::host::{answer, line, slots, Bench, Running, SLOT};
+use crate::host::{answer, line, lines, slots, Bench, Running, SLOT};
 use crate::longest::longest;
 use crate::plain_log::{Entry, Log};
 use crate::random::{sensible, Random};
@@ -25,8 +25,7 @@ fn script(r: &mut Random, kept: &[Entry]) -> Script {
     kept.iter().for_each(|e| assert_eq!(log.enter(e), 0));
     let mut script = Script { lines: String::new(), answers: Vec::new(), accepted: Vec::new() };
     for _ in 0..r.below(80) + 1 {
-        let holders: Vec<u8> = (0..8).map(|store| log.holder(store)).collect();
-        let e = sensible(r, &holders.try_into().expect("eight stores"));
+        let e = sensible(r, &log);
         let answer = log.enter(&e);
         script.lines += &(line(&e) + "\n");
         script.answers.push(answer);
@@ -112,14 +111,14 @@ pub fn limited(mut command: Command, bytes: u64) -> Command {
 /// The host answers `fit` entries of five, says why it stops, and a new one goes on from there.
 fn stops_after(b: &Bench, command: Command, fit: usize, there: usize, why: &str) {
     let entries = &longest()[..5];
-    let lines: String = entries.iter().map(|e| line(e) + "\n").collect();
+    let lines = lines(entries);
     b.put(b"");
     let ran = b.run_with(command, lines.as_bytes());
     assert_eq!(ran.out, (answer(0) + "\n").repeat(fit), "{}", ran.err);
     assert!(ran.code == Some(1) && ran.err.ends_with(&format!("{why}\n")), "{}", ran.err);
     assert!(b.bytes().starts_with(&slots(&entries[..fit])));
     let ran = b.run(lines.as_bytes());
-    let rest = (answer(11) + "\n").repeat(there) + &(answer(0) + "\n").repeat(5 - there);
+    let rest = (answer(12) + "\n").repeat(there) + &(answer(0) + "\n").repeat(5 - there);
     assert_eq!((ran.code, ran.out), (Some(0), rest), "{}", ran.err);
     assert_eq!(b.bytes(), slots(entries));
 }
@@ -155,11 +154,10 @@ fn failed_syncs(b: &Bench) {
 /// Reading and writing byte by byte, and interrupted, change nothing.
 fn pieces(b: &Bench) {
     let entries = &longest()[..40];
-    let lines = |n: usize| entries[..n].iter().map(|e| line(e) + "\n").collect::<String>();
     b.put(b"");
-    let ran = b.run_with(b.faulty("pieces"), lines(30).as_bytes());
+    let ran = b.run_with(b.faulty("pieces"), lines(&entries[..30]).as_bytes());
     assert_eq!(ran.out, (answer(0) + "\n").repeat(30), "{}", ran.err);
-    let ran = b.run_with(b.faulty("pieces"), lines(40).as_bytes());
+    let ran = b.run_with(b.faulty("pieces"), lines(entries).as_bytes());
     assert!(ran.out.ends_with(&(answer(0) + "\n").repeat(10)), "{}", ran.err);
     assert_eq!(b.bytes(), slots(entries));
 }
@@ -176,7 +174,7 @@ fn no_output(b: &Bench) {
     let output = host.wait_with_output().expect("the host ends");
     assert_eq!(output.status.code(), Some(1));
     assert_eq!(output.stderr, b"standard output: No space left on device\n");
-    assert_eq!(b.bytes(), slots(&[Entry::Take { process: 1, store: 0 }]));
+    assert_eq!(b.bytes(), slots(&[Entry::Take { process: 1, store: 0, turn: 1 }]));
 }
 
 /// The second host at one file says so and stops; after the first ended, however, there is none.

@@ -1,9 +1,11 @@
 //! Files that are not as a host left them: what was not written to its end is dropped, and any
 //! other damage is named and left as it is.
 
-use crate::host::{answer, checksum, crc32, slot, slots, Bench, FILLED, SLOT};
-use crate::longest::longest;
-use crate::plain_log::{Entry, RECORD};
+use crate::host::{
+    answer, checksum, crc32, slot, slots, slots_without_turns, Bench, FILLED, SLOT, SLOTS,
+};
+use crate::longest::{longest, longest_of_turn_1};
+use crate::plain_log::{Entry, Vote, RECORD, TURN};
 use std::collections::HashSet;
 
 /// The host starts, says that it drops this record, and leaves the file so.
@@ -35,7 +37,7 @@ fn with_tail(entries: &[Entry], tail: &[u8]) -> Vec<u8> {
 /// A last slot that was cut short, within its zeros too, of zeros, or begun and then zeros.
 fn torn(b: &Bench) {
     let entries = longest();
-    for n in [0, 1, 9, 375] {
+    for n in [0, 1, 9, 376, SLOTS - 1] {
         let (before, good) = (&entries[..n], slots(&entries[..n]));
         let next = &slots(&entries[..n + 1])[n * SLOT..];
         for length in 1..SLOT {
@@ -78,13 +80,21 @@ fn cut_and_spoiled(b: &Bench) {
             }
         }
     }
-    /* A take is 0 but for its kind, process and store, and the first record is no vote. */
-    for at in [2].into_iter().chain(4..RECORD) {
+    /* A take is 0 but for its kind, process, store and turn, and the first record is no vote. */
+    for at in [2].into_iter().chain(4..TURN).chain(TURN + 1..RECORD) {
         let mut take = slot(0, &entries[0].to_record());
         take[at] = 1;
         damaged(b, &take[..=at], 1, "checksum wrong, answer=1");
         let vote = slot(0, &entries[vote].to_record());
         damaged(b, &vote[..=at], 1, "checksum wrong");
+    }
+    for turn in [0, 1, 2, 128, 255] {
+        let mut take = slot(0, &entries[0].to_record());
+        take[TURN] = turn;
+        dropped(b, &take[..=TURN], 1, b"");
+        dropped(b, &take[..RECORD], 1, b"");
+        let vote = slot(0, &entries[vote].to_record());
+        damaged(b, &vote[..=TURN], 1, "checksum wrong");
     }
     /* Without a checksum there are only zeros behind. */
     for at in FILLED..SLOT {
@@ -114,10 +124,28 @@ fn more_than_the_last(b: &Bench) {
     }
 }
 
+/// Takes and votes of turn 1 and, at the end, of turn 255.
+fn to_spoil() -> Vec<Entry> {
+    let mut entries = longest_of_turn_1()[..10].to_vec();
+    entries.push(Entry::Take { process: 15, store: 7, turn: 255 });
+    assert_eq!(entries[7], Entry::Take { process: 15, store: 7, turn: 1 });
+    entries.push(Entry::Vote(Vote {
+        process: 15,
+        by: 7,
+        store: 7,
+        tx: 9,
+        list: 0xff,
+        commit: true,
+        turn: 255,
+        update: 0x0123_4567_89ab_cdef,
+    }));
+    entries
+}
+
 /// A byte spoiled, at every byte of every slot; of the last record and its checksum to every value.
 fn spoiled(b: &Bench) {
-    let entries = &longest()[..12];
-    let good = slots(entries);
+    let entries = to_spoil();
+    let good = slots(&entries);
     for at in 0..good.len() {
         let record = at / SLOT + 1;
         let last = record == entries.len() && at % SLOT < FILLED;
@@ -128,6 +156,15 @@ fn spoiled(b: &Bench) {
                 bytes[at] ^= change;
                 damaged(b, &bytes, record, spoiled_at(at % SLOT));
             }
+        }
+    }
+    /* In a file without turns too, a turn that comes up is damage. */
+    let good = slots_without_turns(&longest_of_turn_1()[..9]);
+    for record in 1..=9 {
+        for turn in [1, 2, 128, 255] {
+            let mut bytes = good.clone();
+            bytes[(record - 1) * SLOT + TURN] = turn;
+            damaged(b, &bytes, record, "checksum wrong, answer=");
         }
     }
 }
@@ -166,9 +203,9 @@ fn garbage(b: &Bench) {
 /// the update is 0.
 pub const BEFORE_REFUSED: [[u8; 8]; 3] =
     [[0, 1, 0, 0, 0, 0, 0, 0], [0, 2, 0, 1, 0, 0, 0, 0], [1, 1, 0, 0, 4, 3, 1, 0]];
-pub const REFUSED: [([u8; 8], u32); 9] = [
+pub const REFUSED: [([u8; 8], u32); 11] = [
     ([2, 3, 0, 2, 0, 0, 0, 0], 1),
-    ([0, 3, 0, 2, 0, 0, 0, 1], 1),
+    ([0, 3, 0, 2, 0, 0, 1, 0], 1),
     ([0, 16, 0, 2, 0, 0, 0, 0], 2),
     ([0, 3, 0, 8, 0, 0, 0, 0], 2),
     ([1, 2, 1, 1, 4, 1, 1, 0], 7),
@@ -176,6 +213,15 @@ pub const REFUSED: [([u8; 8], u32); 9] = [
     ([1, 2, 1, 1, 4, 7, 1, 0], 9),
     ([1, 1, 0, 0, 4, 3, 1, 0], 10),
     ([0, 1, 0, 2, 0, 0, 0, 0], 11),
+    ([0, 1, 0, 1, 0, 0, 0, 0], 11),
+    ([0, 1, 0, 0, 0, 0, 0, 0], 12),
+];
+/// The same, where records have turns.
+const REFUSED_WITH_TURNS: [([u8; 8], u32); 4] = [
+    ([0, 1, 0, 2, 0, 0, 0, 2], 11),
+    ([0, 1, 0, 0, 0, 0, 0, 1], 12),
+    ([1, 1, 0, 0, 5, 1, 1, 2], 12),
+    ([1, 2, 1, 1, 4, 3, 1, 255], 12),
 ];
 
 /// The eight bytes, and zeros up to the size of a record.
@@ -186,7 +232,7 @@ pub fn padded<const N: usize>(first: &[u8; 8]) -> [u8; N] {
 /// Whole slots with a record that the log refuses: the record and its refusal are named.
 fn refused(b: &Bench) {
     let slot_of = |i: usize, first: &[u8; 8]| slot(i, &padded(first));
-    for (record, refusal) in &REFUSED {
+    for (record, refusal) in REFUSED.iter().chain(&REFUSED_WITH_TURNS) {
         let mut bytes: Vec<u8> = Vec::new();
         for (i, first) in BEFORE_REFUSED.iter().chain([record]).enumerate() {
             bytes.extend(slot_of(i, first));
@@ -198,18 +244,20 @@ fn refused(b: &Bench) {
     }
 }
 
-/// More than a log can have.
+/// More than the host has room for.
 fn too_many(b: &Bench) {
     let entries = longest();
-    for tail in [&slot(376, &entries[0].to_record())[..], &[0; SLOT], b"x", &[1; 5 * SLOT]] {
-        let bytes = with_tail(&entries, tail);
+    let next = slot(SLOTS, &entries[SLOTS].to_record());
+    for tail in [&next[..], &next[..5], &[0; SLOT], b"x", &[1; 5 * SLOT]] {
+        let bytes = with_tail(&entries[..SLOTS], tail);
         b.put(&bytes);
         let ran = b.run(b"outcome 0\n");
-        if tail == [0; SLOT] {
-            assert!(ran.err.contains("record 377 was not written to its end and is dropped"));
+        if tail == [0; SLOT] || tail.len() == 5 {
+            assert!(ran.err.contains("record 1025 was not written to its end and is dropped"));
         } else {
-            assert!(ran.err.contains("record 377 is damaged: a log has no more than 376"));
-            assert!(ran.code == Some(1) && b.bytes() == bytes);
+            let why = "no room for record 1025; make SLOTS_MOST in slots.h larger than 1024\n";
+            assert!(ran.err.ends_with(why), "{}", ran.err);
+            assert!(ran.code == Some(1) && ran.out.is_empty() && b.bytes() == bytes);
         }
     }
 }
@@ -218,7 +266,7 @@ fn too_many(b: &Bench) {
 /// changes. In no two places has a record the same checksum.
 fn checksums() {
     assert_eq!(crc32(b"123456789"), 0xcbf4_3926);
-    for (index, e) in longest().iter().enumerate() {
+    for (index, e) in longest().iter().enumerate().step_by(11) {
         let record = e.to_record();
         let sum = checksum(index, &record);
         assert!(sum.iter().filter(|&&byte| byte != 0).count() >= 2);
@@ -230,9 +278,9 @@ fn checksums() {
             }
         }
     }
-    for e in longest().iter().step_by(40) {
-        let sums: HashSet<_> = (0..376).map(|index| checksum(index, &e.to_record())).collect();
-        assert_eq!(sums.len(), 376);
+    for e in longest().iter().step_by(400) {
+        let sums: HashSet<_> = (0..SLOTS).map(|index| checksum(index, &e.to_record())).collect();
+        assert_eq!(sums.len(), SLOTS);
     }
 }
 

@@ -1,12 +1,14 @@
 //! Runs of the example host, and the bytes of its file as the comment of slots.h has them.
 
-use crate::plain_log::{Entry, Log, RECORD, STORES, TRANSACTIONS};
+use crate::plain_log::{Entry, Log, RECORD, STORES, TRANSACTIONS, TURN};
 use std::fs;
 use std::io::{BufRead, BufReader, Write};
 use std::path::{Path, PathBuf};
 use std::process::{Child, ChildStdin, ChildStdout, Command, Stdio};
 
 pub const SLOT: usize = 32;
+/// The most slots of a file.
+pub const SLOTS: usize = 1024;
 /// The bytes of a slot before its zeros: the record and its checksum.
 pub const FILLED: usize = RECORD + 4;
 
@@ -133,16 +135,40 @@ pub fn slots(entries: &[Entry]) -> Vec<u8> {
     entries.iter().enumerate().flat_map(|(i, e)| slot(i, &e.to_record())).collect()
 }
 
-/// The entry as a command.
+/// The record that a host wrote with version 2 of the header, which had no turns.
+pub fn without_turn(e: &Entry) -> [u8; RECORD] {
+    let mut record = e.to_record();
+    assert_eq!(record[TURN], 1, "an entry of turn 1");
+    record[TURN] = 0;
+    record
+}
+
+/// The file that such a host has after these entries.
+pub fn slots_without_turns(entries: &[Entry]) -> Vec<u8> {
+    entries.iter().enumerate().flat_map(|(i, e)| slot(i, &without_turn(e))).collect()
+}
+
+/// The entry as a command, without its turn if that is 1.
 pub fn line(e: &Entry) -> String {
-    match e {
-        Entry::Take { process, store } => format!("take {process} {store}"),
+    let (line, turn) = match *e {
+        Entry::Take { process, store, turn } => (format!("take {process} {store}"), turn),
         Entry::Vote(v) => {
             let say = if v.commit { "commit" } else { "abort" };
-            let (process, by, store, tx) = (v.process, v.by, v.store, v.tx);
-            format!("vote {process} {by} {store} {tx} {:02x} {say} {:016x}", v.list, v.update)
+            let (process, by, store, tx, list) = (v.process, v.by, v.store, v.tx, v.list);
+            let update = v.update;
+            (format!("vote {process} {by} {store} {tx} {list:02x} {say} {update:016x}"), v.turn)
         }
+    };
+    if turn == 1 {
+        line
+    } else {
+        format!("{line} {turn}")
     }
+}
+
+/// The entries as commands, each with its LF.
+pub fn lines(entries: &[Entry]) -> String {
+    entries.iter().map(|e| line(e) + "\n").collect()
 }
 
 /// The log after these entries, all accepted.
@@ -186,7 +212,8 @@ pub fn answer(number: u32) -> String {
         8 => "the process does not hold that store",
         9 => "a commit vote with another list is kept",
         10 => "a vote of that store is kept already",
-        11 => "holds or held a store",
+        11 => "the process holds another store",
+        12 => "a wrong turn of the process",
         _ => "unknown",
     };
     format!("answer={number} {meaning}")

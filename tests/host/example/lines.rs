@@ -1,14 +1,14 @@
 //! Lines, good and bad: what they are answered, and that a bad one changes nothing.
 
-use crate::host::{answer, line, log_of, queries, slots, Bench};
-use crate::longest::longest;
+use crate::host::{answer, line, lines, log_of, queries, slots, slots_without_turns, Bench, SLOTS};
+use crate::longest::{longest, longest_of_turn_1};
 use crate::plain_log::{Entry, Vote};
 
 const TAKES: [Entry; 2] =
-    [Entry::Take { process: 1, store: 0 }, Entry::Take { process: 2, store: 1 }];
+    [Entry::Take { process: 1, store: 0, turn: 1 }, Entry::Take { process: 2, store: 1, turn: 1 }];
 
-const USAGE: &str = "error: unknown command; usage: take PROCESS STORE, \
-    vote PROCESS BY STORE TX LIST commit|abort UPDATE, outcome TX, involvement TX STORE, \
+const USAGE: &str = "error: unknown command; usage: take PROCESS STORE [TURN], \
+    vote PROCESS BY STORE TX LIST commit|abort UPDATE [TURN], outcome TX, involvement TX STORE, \
     replay STORE";
 
 /// Each line is given to a host that has TAKES. It must be answered so, and the file must stay.
@@ -34,7 +34,7 @@ fn answers(b: &Bench) {
     b.put(b"");
     let readme = b"take 1 0\nvote 1 0 0 4 01 commit 0000000a\noutcome 4\n";
     assert_eq!(b.run(readme).out, "answer=0 accepted\nanswer=0 accepted\ntx=4 outcome=commit\n");
-    let again = [&answer(11), &answer(10), "tx=4 outcome=commit\n"].join("\n");
+    let again = [&answer(12), &answer(10), "tx=4 outcome=commit\n"].join("\n");
     assert_eq!(b.run(readme).out, again);
     let more = "take 2 1\nvote 2 1 1 5 03 abort 00000000\noutcome 5\noutcome 6\n\
         involvement 5 0\ninvolvement 4 7\ninvolvement 6 0\nreplay 0\nreplay 1";
@@ -61,8 +61,74 @@ fn updates(b: &Bench) {
             b.run(format!("take 1 0\nvote 1 0 0 4 01 commit {digits}\nreplay 0\n").as_bytes());
         let row = format!("store=0 group=1 tx=4 upd={update:016x}\nrows=1\n");
         assert_eq!(ran.out, (answer(0) + "\n").repeat(2) + &row);
-        let vote = Vote { process: 1, by: 0, store: 0, tx: 4, list: 1, commit: true, update };
-        assert_eq!(b.bytes(), slots(&[TAKES[0], Entry::Vote(vote)]));
+        assert_eq!(b.bytes(), slots(&[TAKES[0], vote(1, update)]));
+    }
+}
+
+/// A commit vote of process 1 on tx 4 for store 0.
+fn vote(turn: u8, update: u64) -> Entry {
+    let (process, by, store, tx, list, commit) = (1, 0, 0, 4, 1, true);
+    Entry::Vote(Vote { process, by, store, tx, list, commit, turn, update })
+}
+
+/// A turn that is not given, 0 and 1 give the same record. A machine that comes back takes its
+/// store again and votes in its new turn.
+fn turns(b: &Bench) {
+    let one = [TAKES[0], vote(1, 10)];
+    for turn in ["", " 0", " 1"] {
+        b.put(b"");
+        let ran =
+            b.run(format!("take 1 0{turn}\nvote 1 0 0 4 01 commit 0000000a{turn}\n").as_bytes());
+        assert_eq!(ran.out, (answer(0) + "\n").repeat(2));
+        assert_eq!(b.bytes(), slots(&one));
+    }
+    b.put(b"");
+    let back = [
+        ("take 1 0", 0),
+        ("take 1 0", 12),
+        ("take 1 1", 11),
+        ("take 1 1 255", 11),
+        ("vote 1 0 0 4 01 commit 0000000a 2", 12),
+        ("take 1 0 2", 0),
+        ("take 1 0 2", 12),
+        ("vote 1 0 0 4 01 commit 0000000a", 12),
+        ("vote 1 0 0 4 01 commit 0000000a 0", 12),
+        ("vote 1 0 0 4 01 commit 0000000a 3", 12),
+        ("vote 1 0 0 4 01 commit 0000000a 2", 0),
+        ("vote 1 0 0 4 01 commit 0000000a 3", 10),
+        ("take 1 0 255", 0),
+        ("take 1 0 255", 12),
+    ];
+    let asked: String = back.iter().map(|(line, _)| format!("{line}\n")).collect();
+    let expected: String = back.iter().map(|&(_, number)| answer(number) + "\n").collect();
+    assert_eq!(b.run(asked.as_bytes()).out, expected);
+    let take = |turn| Entry::Take { process: 1, store: 0, turn };
+    assert_eq!(b.bytes(), slots(&[take(1), take(2), vote(2, 10), take(255)]));
+}
+
+/// A file from before records had turns is read as it is, and goes on with turns.
+fn without_turns(b: &Bench) {
+    let entries = longest_of_turn_1();
+    let log = log_of(&entries);
+    let (asked, expected) = queries(&log);
+    let file = slots_without_turns(&entries);
+    b.put(&file);
+    let ran = b.run(asked.as_bytes());
+    assert_eq!((ran.out, &ran.err[..]), (expected, ""));
+    assert!(b.bytes() == file, "the host changed a file without turns");
+    let again: String = entries.iter().map(|e| answer(log.clone().enter(e)) + "\n").collect();
+    assert_eq!(b.run(lines(&entries).as_bytes()).out, again);
+    assert!(b.bytes() == file, "the host changed a file without turns");
+    for (n, more) in [
+        (3, vec![entries[3]]),
+        (9, vec![Entry::Take { process: 1, store: 0, turn: 2 }, vote(2, 10)]),
+        (9, vec![Entry::Take { process: 1, store: 0, turn: 255 }]),
+    ] {
+        b.put(&file[..slots(&entries[..n]).len()]);
+        assert_eq!(b.run(lines(&more).as_bytes()).out, (answer(0) + "\n").repeat(more.len()));
+        let whole = slots(&[&entries[..n], &more[..]].concat());
+        let before = slots_without_turns(&entries[..n]);
+        assert_eq!(b.bytes(), [&before, &whole[before.len()..]].concat());
     }
 }
 
@@ -118,11 +184,13 @@ const NO_SAYS: [&str; 7] = ["Commit", "ABORT", "commi", "commits", "0", "1", "ab
 
 /// Words that are no number, in each place for one.
 fn numbers(b: &Bench) {
-    let vote = "vote 1 0 0 4 01 commit 0000000a";
+    let vote = "vote 1 0 0 4 01 commit 0000000a 1";
     let mut cases = Vec::new();
     for (good, places) in [
         ("take 3 2", 1..3),
+        ("take 3 2 1", 1..4),
         (vote, 1..5),
+        (vote, 8..9),
         ("outcome 4", 1..2),
         ("involvement 4 0", 1..3),
         ("replay 0", 1..2),
@@ -155,6 +223,13 @@ fn limits(b: &Bench) {
         "take 4294967295 2",
         "take 3 8",
         "take 3 256",
+        "take 3 2 256",
+        "take 3 2 257",
+        "take 3 2 4294967295",
+        "take 1 1 256",
+        "vote 1 0 0 4 01 commit 0000000a 256",
+        "vote 1 0 0 4 02 commit 0000000a 257",
+        "vote 1 0 0 4 01 commit 0000000a 4294967295",
         "vote 1 8 0 4 01 commit 0000000a",
         "vote 1 0 256 4 01 commit 0000000a",
         "vote 1 0 0 32 01 commit 0000000a",
@@ -197,25 +272,56 @@ fn words(b: &Bench) {
         "a b c d e f g h i j k l m n o p q r s t u v w x y z",
     ];
     let mut cases: Vec<_> = unknown.iter().map(|line| case(line, USAGE)).collect();
-    for (form, good) in [
-        ("take PROCESS STORE", "take 3 2"),
-        ("vote PROCESS BY STORE TX LIST commit|abort UPDATE", "vote 1 0 0 4 01 commit 0000000a"),
-        ("outcome TX", "outcome 4"),
-        ("involvement TX STORE", "involvement 4 0"),
-        ("replay STORE", "replay 0"),
+    for (form, good, least) in [
+        ("take PROCESS STORE [TURN]", "take 3 2 1", 3),
+        (
+            "vote PROCESS BY STORE TX LIST commit|abort UPDATE [TURN]",
+            "vote 1 0 0 4 01 commit 0000000a 1",
+            8,
+        ),
+        ("outcome TX", "outcome 4", 2),
+        ("involvement TX STORE", "involvement 4 0", 3),
+        ("replay STORE", "replay 0", 2),
     ] {
         let usage = format!("error: usage: {form}");
         let words: Vec<&str> = good.split(' ').collect();
-        for n in 1..words.len() {
+        for n in 1..least {
             cases.push(case(&words[..n].join(" "), &usage));
-            let doubled = [words[..n].join(" "), words[n..].join(" ")].join("  ");
-            cases.push(case(&doubled, &usage));
+        }
+        for n in 1..words.len() {
+            cases.push(case(&doubled(&words, n), &usage));
         }
         for more in [" ", " 0", " 0 0 0 0 0 0 0 0 0 0 0 0", " x", " \r"] {
             cases.push(case(&format!("{good}{more}"), &usage));
         }
     }
+    cases.extend(empty_words());
     unchanged(b, &cases);
+}
+
+/// Two spaces before word n.
+fn doubled(words: &[&str], n: usize) -> String {
+    [words[..n].join(" "), words[n..].join(" ")].join("  ")
+}
+
+/// A space too many in a command without its turn: an empty word, and no usage.
+fn empty_words() -> Vec<(Vec<u8>, String)> {
+    let decimal = "error: '' is no decimal of 0 to 4294967295";
+    let mut cases = Vec::new();
+    for good in ["take 3 2", "vote 1 0 0 4 01 commit 0000000a"] {
+        let words: Vec<&str> = good.split(' ').collect();
+        for n in 1..=words.len() {
+            let why = match n {
+                5 => "error: '' is not 2 lower-case hexadecimal digits",
+                6 => "error: '' is neither commit nor abort",
+                7 => "error: '' is not 16 or 8 lower-case hexadecimal digits",
+                _ => decimal,
+            };
+            let line = if n == words.len() { format!("{good} ") } else { doubled(&words, n) };
+            cases.push(case(&line, why));
+        }
+    }
+    cases
 }
 
 /// Lines of every length around the limit, and long ones: the end of each is a good command, so
@@ -252,30 +358,46 @@ fn last_line(b: &Bench) {
     assert_eq!(b.run(&long).out, "error: a line of more than 100 bytes\n");
 }
 
-/// As many entries as a log accepts; a new host then tells of them what the plain log does.
-fn whole_log(b: &Bench) {
-    let entries = longest();
-    let lines = |entries: &[Entry]| -> String { entries.iter().map(|e| line(e) + "\n").collect() };
+/// These entries one after the other; a new host then tells of them what the plain log does.
+fn whole_log(b: &Bench, entries: &[Entry]) {
     b.put(b"");
-    let ran = b.run(lines(&entries).as_bytes());
+    let ran = b.run(lines(entries).as_bytes());
     assert_eq!(ran.out, (answer(0) + "\n").repeat(entries.len()));
-    assert_eq!(b.bytes(), slots(&entries));
-    let log = log_of(&entries);
+    assert!(b.bytes() == slots(entries), "other records than those answered");
+    let log = log_of(entries);
     let (asked, expected) = queries(&log);
     assert_eq!(b.run(asked.as_bytes()).out, expected);
     let again: String = entries.iter().map(|e| answer(log.clone().enter(e)) + "\n").collect();
-    assert_eq!(b.run(lines(&entries).as_bytes()).out, again);
-    assert_eq!(b.bytes(), slots(&entries));
+    assert_eq!(b.run(lines(entries).as_bytes()).out, again);
+    assert!(b.bytes() == slots(entries), "a refused entry changed the file");
+}
+
+/// A full file: what the log would accept has no place, and all else is as before.
+fn full(b: &Bench) {
+    let entries = longest();
+    let (kept, log) = (&entries[..SLOTS], log_of(&entries[..SLOTS]));
+    b.put(&slots(&kept[..SLOTS - 1]));
+    let (last, next) = (line(&kept[SLOTS - 1]), line(&entries[SLOTS]));
+    let ran = b.run(format!("{last}\n{next}\n{last}\n{next}\n").as_bytes());
+    let answers = [answer(0), answer(6), answer(12), answer(6), String::new()];
+    assert_eq!((ran.out, &ran.err[..]), (answers.join("\n"), ""));
+    let (asked, expected) = queries(&log);
+    assert_eq!(b.run((next + "\n" + &asked).as_bytes()).out, answer(6) + "\n" + &expected);
+    assert!(b.bytes() == slots(kept), "an entry without place changed the file");
 }
 
 pub fn all(b: &Bench) {
     answers(b);
     updates(b);
+    turns(b);
+    without_turns(b);
     numbers(b);
     limits(b);
     words(b);
     lengths(b);
     last_line(b);
-    whole_log(b);
+    whole_log(b, &longest_of_turn_1());
+    whole_log(b, &longest()[..SLOTS]);
+    full(b);
     println!("the example host answers good lines, and refuses bad ones without a change");
 }

@@ -36,16 +36,16 @@ use Rattle.host_lent.proofs.entered.Statement.{statement}
 use Rattle.host_lent.proofs.entered.Tie as tie
 
 -- the log of its parts
-abbrev logOf : List Row → List ℕ → List ℕ → ℕ → List ℕ → Log
-logOf rows holders takers groups remembered =
-    record { rows = rows; holders = holders; takers = takers; groups = groups; remembered = remembered }
+abbrev logOf : List Row → List ℕ → List ℕ → List ℕ → List ℕ → ℕ → List ℕ → Log
+logOf rows holders turns takers latest groups remembered =
+    record { rows = rows; holders = holders; turns = turns; takers = takers; latest = latest; groups = groups; remembered = remembered }
 
 -- what stands beside the log
 abbrev Inv-loop : tie.InvT-loop
-Inv-loop lent count answer₀ rows₀ holders₀ takers₀ groups₀ remembered₀ summaries₀ last₀ running₀ at₀ left₀ answer rows holders takers groups remembered summaries last running at left =
+Inv-loop lent count answer₀ rows₀ holders₀ turns₀ takers₀ latest₀ groups₀ remembered₀ summaries₀ last₀ running₀ at₀ left₀ answer rows holders turns takers latest groups remembered summaries last running at left =
     (answer ≡ accepted)
     × (at + left * recordSize ≤ length lent)
-    × (logAfter (logOf rows₀ holders₀ takers₀ groups₀ remembered₀) (recordsIn lent count) ≡ logAfter (logOf rows holders takers groups remembered) (recordsIn (drop at lent) left))
+    × (logAfter (logOf rows₀ holders₀ turns₀ takers₀ latest₀ groups₀ remembered₀) (recordsIn lent count) ≡ logAfter (logOf rows holders turns takers latest groups remembered) (recordsIn (drop at lent) left))
     × (length rows ≡ transactions)
     × (running ≡ runningSet rows)
     × AllOf summaries rows
@@ -53,12 +53,12 @@ Inv-loop lent count answer₀ rows₀ holders₀ takers₀ groups₀ remembered�
     × (last ≡ cond (eqb groups 0) 0 (getD remembered (groups - 1) 0))
 
 abbrev μ-loop : tie.MeasureT-loop
-μ-loop lent count answer₀ rows₀ holders₀ takers₀ groups₀ remembered₀ summaries₀ last₀ running₀ at₀ left₀ answer rows holders takers groups remembered summaries last running at left =
+μ-loop lent count answer₀ rows₀ holders₀ turns₀ takers₀ latest₀ groups₀ remembered₀ summaries₀ last₀ running₀ at₀ left₀ answer rows holders turns takers latest groups remembered summaries last running at left =
     left
 
 -- the log of the turn, and the records
 abbrev log-of : tie.At-loop Inv-loop μ-loop → Log
-log-of c = logOf (c .loop .rows) (c .loop .holders) (c .loop .takers) (c .loop .groups) (c .loop .remembered)
+log-of c = logOf (c .loop .rows) (c .loop .holders) (c .loop .turns) (c .loop .takers) (c .loop .latest) (c .loop .groups) (c .loop .remembered)
 
 abbrev bytes-of : tie.At-loop Inv-loop μ-loop → List ℕ
 bytes-of c = c .before .before .before .args .lent .now
@@ -110,8 +110,8 @@ taken-so c h =
     record-accepted (log c) (bytes-of (c .before .before .before .before .before)) (c .before .before .before .before .before .loop .at) (entered (log c) (read-so c) h) (c .before .before .before .before .before .loop .left) (omega (arith, c .before .before .before .before .loop-test .taken)) refl
 
 -- the answer to a take
-take-so : (c : tie.After-take-refusal Inv-loop μ-loop) → c .take-refusal .result ≡ refusalOf (log (c .before .before .before .before)) (entry (c .before .before .before .before))
-take-so c = c .take-refusal .ensures ∙ answer-take (partsOf (log (c .before .before .before .before)) (entry (c .before .before .before .before))) (entry (c .before .before .before .before)) (inside (c .before .before .before .before)) (c .before .if1 .taken)
+take-so : (c : tie.After-take-refusal Inv-loop μ-loop) → c .take-refusal .result ≡ refusalOf (log (c .before .before .before .before .before)) (entry (c .before .before .before .before .before))
+take-so c = c .take-refusal .ensures ∙ answer-take (partsOf (log (c .before .before .before .before .before)) (entry (c .before .before .before .before .before))) (entry (c .before .before .before .before .before)) (inside (c .before .before .before .before .before)) (c .before .before .if1 .taken)
 
 -- a vote's transaction, and the summary of its row
 tx-inside : (c : tie.Else1 Inv-loop μ-loop) → entry (c .before .before .before) .tx < transactions
@@ -182,49 +182,61 @@ sub-left c = omega arith
 cast-store : tie.Need-cast-store Inv-loop μ-loop
 cast-store c = search needs
 
+cast-process : tie.Need-cast-process Inv-loop μ-loop
+cast-process c = search needs
+
 mul-take-refusal : tie.Need-mul-take-refusal Inv-loop μ-loop
 mul-take-refusal c = search needs
 
 array-read-take-refusal : tie.Need-array-read-take-refusal Inv-loop μ-loop
-array-read-take-refusal c = inside-store (entry (c .before .before .before)) (inside (c .before .before .before))
+array-read-take-refusal c = inside-store (entry (c .before .before .before .before)) (inside (c .before .before .before .before))
+
+array-read-take-refusal-2 : tie.Need-array-read-take-refusal-2 Inv-loop μ-loop
+array-read-take-refusal-2 c = omega (arith, inside-process (entry (c .before .before .before .before)) (inside (c .before .before .before .before)))
 
 take-refusal-requires : tie.Need-take-refusal-requires Inv-loop μ-loop
 take-refusal-requires c κs = search needs
 
 array-write-holders : tie.Need-array-write-holders Inv-loop μ-loop
-array-write-holders c = inside-store (entry (c .before .before .before .before .before)) (inside (c .before .before .before .before .before))
+array-write-holders c = inside-store (entry (c .before .before .before .before .before .before)) (inside (c .before .before .before .before .before .before))
+
+array-write-turns : tie.Need-array-write-turns Inv-loop μ-loop
+array-write-turns c = inside-store (entry (c .before .before .before .before .before .before)) (inside (c .before .before .before .before .before .before))
 
 mul-takers : tie.Need-mul-takers Inv-loop μ-loop
 mul-takers c = search needs
 
 array-read-takers : tie.Need-array-read-takers Inv-loop μ-loop
-array-read-takers c = inside-store (entry (c .before .before .before .before .before)) (inside (c .before .before .before .before .before))
+array-read-takers c = inside-store (entry (c .before .before .before .before .before .before)) (inside (c .before .before .before .before .before .before))
 
 cast-takers : tie.Need-cast-takers Inv-loop μ-loop
 cast-takers c = search needs
 
 shl-takers : tie.Need-shl-takers Inv-loop μ-loop
-shl-takers c = omega (arith, inside-process (entry (c .before .before .before .before .before .before)) (inside (c .before .before .before .before .before .before)))
+shl-takers c = omega (arith, inside-process (entry (c .before .before .before .before .before .before .before)) (inside (c .before .before .before .before .before .before .before)))
 
 mul-takers-2 : tie.Need-mul-takers-2 Inv-loop μ-loop
 mul-takers-2 c = search needs
 
 array-write-takers : tie.Need-array-write-takers Inv-loop μ-loop
-array-write-takers c = inside-store (entry (c .before .before .before .before .before .before)) (inside (c .before .before .before .before .before .before))
+array-write-takers c = inside-store (entry (c .before .before .before .before .before .before .before)) (inside (c .before .before .before .before .before .before .before))
+
+array-write-latest : tie.Need-array-write-latest Inv-loop μ-loop
+array-write-latest c = omega (arith, inside-process (entry (c .before .before .before .before .before .before .before)) (inside (c .before .before .before .before .before .before .before)))
 
 loop-less : tie.Need-loop-less Inv-loop μ-loop
-loop-less c = omega (arith, c .before .before .before .before .before .before .before .before .before .before .loop-test .taken)
+loop-less c = omega (arith, c .before .before .before .before .before .before .before .before .before .before .before .loop-test .taken)
 
 loop-again : tie.Need-loop-again Inv-loop μ-loop
 loop-again c =
-    let inv = c .before .before .before .before .before .before .before .before .before .before .before .loop .inv in
-    let l = log (c .before .before .before .before .before .before) in
-    let e = entry (c .before .before .before .before .before .before) in (
+    let inv = c .before .before .before .before .before .before .before .before .before .before .before .before .loop .inv in
+    let l = log (c .before .before .before .before .before .before .before) in
+    let e = entry (c .before .before .before .before .before .before .before) in (
       inv .0,
-      omega (arith, c .before .before .before .before .before .before .before .before .before .before .loop-test .taken, inv .1),
+      omega (arith, c .before .before .before .before .before .before .before .before .before .before .before .loop-test .taken, inv .1),
       inv .2
-          ∙ taken-so (c .before .before .before .before .before .before)
-          (take-stored l e (c .before .before .before .if1 .taken) (omega (arith, inside-process e (inside (c .before .before .before .before .before .before)))) (sym (take-so (c .before .before)) ∙ c .before .if2 .left)),
+          ∙ taken-so (c .before .before .before .before .before .before .before)
+          (take-stored l e (c .before .before .before .before .if1 .taken) (omega (arith, inside-process e (inside (c .before .before .before .before .before .before .before)))) (sym (take-so (c .before .before)) ∙ c .before .if2 .left)),
       inv .3,
       inv .4,
       inv .5,
@@ -241,11 +253,14 @@ mul-old c = omega (arith, tx-inside (c .before))
 array-copy-out-old : tie.Need-array-copy-out-old Inv-loop μ-loop
 array-copy-out-old c = tx-inside (c .before)
 
-cast-parts : tie.Need-cast-parts Inv-loop μ-loop
-cast-parts c = search needs
+cast-by : tie.Need-cast-by Inv-loop μ-loop
+cast-by c = search needs
 
 array-read-parts : tie.Need-array-read-parts Inv-loop μ-loop
 array-read-parts c = inside-vote (entry (c .before .before .before .before .before .before)) (inside (c .before .before .before .before .before .before)) (c .before .before .before .if1 .left) .by
+
+array-read-parts-2 : tie.Need-array-read-parts-2 Inv-loop μ-loop
+array-read-parts-2 c = inside-vote (entry (c .before .before .before .before .before .before)) (inside (c .before .before .before .before .before .before)) (c .before .before .before .if1 .left) .by
 
 parts-requires : tie.Need-parts-requires Inv-loop μ-loop
 parts-requires c κs = search needs
@@ -393,7 +408,7 @@ returns-2 c =
     ∙ whole s)
 
 returns-3 : tie.Need-returns-3 Inv-loop μ-loop
-returns-3 c = parts (refused-so (c .before .before .before .before .before) (enter-answered (log (c .before .before .before .before .before)) (entry (c .before .before .before .before .before)) (take-so (c .before)) (c .if2 .taken)) (c .if2 .taken))
+returns-3 c = parts (refused-so (c .before .before .before .before .before .before) (enter-answered (log (c .before .before .before .before .before .before)) (entry (c .before .before .before .before .before .before)) (take-so (c .before)) (c .if2 .taken)) (c .if2 .taken))
 
 returns-4 : tie.Need-returns-4 Inv-loop μ-loop
 returns-4 c =
@@ -418,23 +433,28 @@ entered-spec =
     refusal-in-requires
     sub-left
     cast-store
+    cast-process
     mul-take-refusal
     array-read-take-refusal
+    array-read-take-refusal-2
     take-refusal-requires
     array-write-holders
+    array-write-turns
     mul-takers
     array-read-takers
     cast-takers
     shl-takers
     mul-takers-2
     array-write-takers
+    array-write-latest
     loop-less
     loop-again
     cast-tx
     mul-old
     array-copy-out-old
-    cast-parts
+    cast-by
     array-read-parts
+    array-read-parts-2
     parts-requires
     decide-requires
     keeping-requires

@@ -1,24 +1,23 @@
 use borrow.Author.Needs.{needs}
-use Rattle.host_records.proofs.RecordLaws.{no-record, numbers-read, read-as-numbers, zero-is-set}
+use Rattle.host_records.proofs.RecordLaws.{no-record, numbers-read, read-as-numbers}
 use Rattle.host_records.proofs.read.Statement.{statement}
 use Rattle.host_records.proofs.read.Tie as tie
 
-returns-3 : tie.Need-returns-3
-returns-3 c =
+returns-2 : tie.Need-returns-2
+returns-2 c =
     let bytes = c .before .before .before .before .before .before .before .before .before .before .before .before .before .before .before .before .before .before .before .before .before .args .bytes .now in
-    read-as-numbers bytes (search needs) (search needs) (c .read .ensures)
-    (numbers-read bytes (search needs) (search needs) (search needs) (search needs) (search needs) (search needs) (search needs) (c .before .from-low-first .ensures))
+    read-as-numbers bytes (search needs) (c .read .ensures)
+    (numbers-read bytes (search needs) (search needs) (search needs) (search needs) (search needs) (search needs) (search needs) (search needs) (c .before .from-low-first .ensures))
 
 pub read-spec : {M : Type 1} → statement M
 read-spec =
     tie.close
     (tie.spec
     (λ c. search no-record)
-    (λ c. search needs)
-    (λ c. search zero-is-set)
     (λ c. search needs) (λ c κs. search needs) (λ c. search needs) (λ c κs. search needs)
     (λ c. search needs) (λ c κs. search needs) (λ c. search needs) (λ c κs. search needs)
     (λ c. search needs) (λ c κs. search needs) (λ c. search needs) (λ c κs. search needs)
-    (λ c. search needs) (λ c κs. search needs) (λ c. search needs) (λ c. search needs)
-    (λ c. search needs) (λ c κs. search needs) (λ c κs. search needs)
-    returns-3)
+    (λ c. search needs) (λ c κs. search needs) (λ c. search needs) (λ c κs. search needs)
+    (λ c. search needs) (λ c. search needs) (λ c. search needs) (λ c κs. search needs)
+    (λ c κs. search needs)
+    returns-2)

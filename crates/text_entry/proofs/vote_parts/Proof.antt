@@ -10,18 +10,21 @@ use Rattle.text_entry.proofs.vote_parts.Tie as tie
 returns : tie.Need-returns
 returns c =
     are-parts (voteKind .fields) _ _ (
-      c .before .before .before .before .before .before .before .before .before .before .before .before .before .decimal .ensures ∙ ap (λ (p : Part). capped (readField proc p)) (c .before .before .before .before .before .before .before .before .before .before .before .before .before .before .before .named .ensures),
+      c .before .before .before .before .before .before .before .before .before .before .before .before .before .before .decimal .ensures ∙ ap (λ (p : Part). capped (readField proc p)) (c .before .before .before .before .before .before .before .before .before .before .before .before .before .before .before .before .named .ensures),
       (
-        c .before .before .before .before .before .before .before .before .before .before .before .decimal2 .ensures,
+        c .before .before .before .before .before .before .before .before .before .before .before .before .before .turned .ensures,
         (
-          c .before .before .before .before .before .before .before .before .before .decimal3 .ensures,
+          c .before .before .before .before .before .before .before .before .before .before .before .decimal2 .ensures,
           (
-            c .before .before .before .before .before .before .before .decimal4 .ensures,
+            c .before .before .before .before .before .before .before .before .before .decimal3 .ensures,
             (
-              c .before .before .before .before .list-digits .ensures ∙ ap (valueAfter (list .form)) (c .before .before .before .before .before .keyed .ensures),
+              c .before .before .before .before .before .before .before .decimal4 .ensures,
               (
-                c .before .before .before .said .ensures,
-                (c .update-digits .ensures ∙ ap (valueAfter updateForm) (c .before .keyed2 .ensures), tt),
+                c .before .before .before .before .list-digits .ensures ∙ ap (valueAfter (list .form)) (c .before .before .before .before .before .keyed .ensures),
+                (
+                  c .before .before .before .said .ensures,
+                  (c .update-digits .ensures ∙ ap (valueAfter updateForm) (c .before .keyed2 .ensures), tt),
+                ),
               ),
             ),
           ),
@@ -34,8 +37,8 @@ vote-parts-spec =
     tie.close
     (tie.spec
     (λ c. search needs) (λ c κs. search needs) (λ c. search needs) (λ c κs. search needs)
-    (λ c. search needs) (λ c κs. search needs) (λ c. search needs) (λ c κs. search needs)
-    (λ c. search needs) (λ c κs. search needs) (λ c. search needs) (λ c κs. search needs)
-    (λ c κs. search needs) (λ c κs. search needs) (λ c. search needs) (λ c κs. search needs)
-    (λ c κs. search needs)
+    (λ c κs. search needs) (λ c. search needs) (λ c κs. search needs) (λ c. search needs)
+    (λ c κs. search needs) (λ c. search needs) (λ c κs. search needs) (λ c. search needs)
+    (λ c κs. search needs) (λ c κs. search needs) (λ c κs. search needs) (λ c. search needs)
+    (λ c κs. search needs) (λ c κs. search needs)
     returns)

@@ -10,7 +10,7 @@ read-kind-spec =
     (tie.spec
     (λ c κs. search needs) (λ c κs. search needs) (λ c κs. search needs) (λ c κs. search needs)
     (λ c κs. search needs) (λ c κs. search needs) (λ c κs. search needs) (λ c κs. search needs)
-    (λ c κs. search needs) (λ c κs. search needs)
+    (λ c κs. search needs) (λ c κs. search needs) (λ c κs. search needs)
     (λ c. let a = c .before .before .before .args in as-kind (a .kind) 0 (a .line .now) (c .read-deliver .ensures) (omega arith))
     (λ c. let a = c .before .before .before .args in as-kind (a .kind) 1 (a .line .now) (c .read-take .ensures) (omega arith))
     (λ c. let a = c .before .before .before .args in as-kind (a .kind) 2 (a .line .now) (c .read-vote .ensures) (omega arith))
@@ -20,4 +20,5 @@ read-kind-spec =
     (λ c. let a = c .before .before .before .args in as-kind (a .kind) 6 (a .line .now) (c .read-tell .ensures) (omega arith))
     (λ c. let a = c .before .before .before .args in as-kind (a .kind) 7 (a .line .now) (c .read-restore .ensures) (omega arith))
     (λ c. let a = c .before .before .before .args in as-kind (a .kind) 8 (a .line .now) (c .read-follow .ensures) (omega arith))
-    (λ c. let a = c .before .before .before .args in as-kind (a .kind) 9 (a .line .now) (c .read-crash .ensures) (last-kind 9 (a .kind) (c .before .match .rest) (c .before .before .before .pre))))
+    (λ c. let a = c .before .before .before .args in as-kind (a .kind) 9 (a .line .now) (c .read-back .ensures) (omega arith))
+    (λ c. let a = c .before .before .before .args in as-kind (a .kind) 10 (a .line .now) (c .read-crash .ensures) (last-kind 10 (a .kind) (c .before .match .rest) (c .before .before .before .pre))))

@@ -26,7 +26,7 @@ chain : (c : tie.After-ends) → Follows (sentVote .fields) (after (nameText sen
 chain c =
     let s = c .before .before .before .before .before .args .line .now in
     let v = as-parts (voteKind .fields) (after (nameText voteKind) (part 0 s)) _ (c .before .before .before .vote-parts .ensures) in
-    (v .0, (v .1 .0, (v .1 .1 .0, (v .1 .1 .1 .0, (v .1 .1 .1 .1 .0, (v .1 .1 .1 .1 .1 .0, (v .1 .1 .1 .1 .1 .1 .0, (c .before .decimal .ensures, tt))))))))
+    (v .0, (v .1 .0, (v .1 .1 .0, (v .1 .1 .1 .0, (v .1 .1 .1 .1 .0, (v .1 .1 .1 .1 .1 .0, (v .1 .1 .1 .1 .1 .1 .0, (v .1 .1 .1 .1 .1 .1 .1 .0, (c .before .decimal .ensures, tt)))))))))
 
 returns : tie.Need-returns
 returns c =

@@ -21,23 +21,26 @@ returns-2 c = read-beyond (c .before .before .before .before .args .self) (reada
 cast-t7 : tie.Need-cast-t7
 cast-t7 c = record { fits = bytes (c .before .before) .process }
 
-cast-t8 : tie.Need-cast-t8
-cast-t8 c = record { fits = bytes (c .before .before .before) .by }
-
-cast-t9 : tie.Need-cast-t9
-cast-t9 c = record { fits = bytes (c .before .before .before .before) .store }
+cast-turn-meant : tie.Need-cast-turn-meant
+cast-turn-meant c = record { fits = bytes (c .before .before .before) .turn }
 
 cast-t10 : tie.Need-cast-t10
-cast-t10 c = record { fits = bytes (c .before .before .before .before .before) .tx }
+cast-t10 c = record { fits = bytes (c .before .before .before .before .before) .by }
 
 cast-t11 : tie.Need-cast-t11
-cast-t11 c = record { fits = bytes (c .before .before .before .before .before .before) .list }
+cast-t11 c = record { fits = bytes (c .before .before .before .before .before .before) .store }
+
+cast-t12 : tie.Need-cast-t12
+cast-t12 c = record { fits = bytes (c .before .before .before .before .before .before .before) .tx }
+
+cast-t13 : tie.Need-cast-t13
+cast-t13 c = record { fits = bytes (c .before .before .before .before .before .before .before .before) .list }
 
 returns-3 : tie.Need-returns-3
-returns-3 c = read-outside (c .before .before .before .before .before .before .before .before .before .before .before .before .before .args .self) (readable (c .before .before .before .before .before .before .before .before .before .before .before)) (sym (c .before .outside .ensures) ∙ c .if3 .taken)
+returns-3 c = read-outside (c .before .before .before .before .before .before .before .before .before .before .before .before .before .before .before .args .self) (readable (c .before .before .before .before .before .before .before .before .before .before .before .before .before)) (c .before .before .before .before .before .before .before .turn-meant .ensures) (sym (c .before .outside .ensures) ∙ c .if3 .taken)
 
 returns-4 : tie.Need-returns-4
-returns-4 c = read-entry (c .before .before .before .before .before .before .before .before .before .before .before .before .before .args .self) (readable (c .before .before .before .before .before .before .before .before .before .before .before)) (sym (c .before .outside .ensures) ∙ c .if3 .left)
+returns-4 c = read-entry (c .before .before .before .before .before .before .before .before .before .before .before .before .before .before .before .args .self) (readable (c .before .before .before .before .before .before .before .before .before .before .before .before .before)) (c .before .before .before .before .before .before .before .turn-meant .ensures) (sym (c .before .outside .ensures) ∙ c .if3 .left)
 
 pub read-spec : {M : Type 1} → statement M
 read-spec =
@@ -49,10 +52,12 @@ read-spec =
     returns-2
     (λ c. search needs)
     cast-t7
-    cast-t8
-    cast-t9
+    cast-turn-meant
+    (λ c κs. search needs)
     cast-t10
     cast-t11
+    cast-t12
+    cast-t13
     (λ c. search needs) (λ c κs. search needs)
     returns-3
     returns-4)

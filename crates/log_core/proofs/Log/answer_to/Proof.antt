@@ -1,26 +1,36 @@
 use borrow.Author.Needs.{needs}
-use mathlib.Core.Path.{ap, sym, _∙_}
+use Prim.Native.Nat.{_<_}
+use mathlib.Core.Bool.{false}
+use mathlib.Core.Path.{_≡_, ap, sym, _∙_}
 use native.Mathlib.Omega.{arith}
-use Rattle.log_entry.proofs.InsideLaws.{inside-store}
+use Rattle.log_entry.specs.Entry.{outside}
+use Rattle.log_entry.specs.Limits.{transactions}
+use Rattle.log_entry.proofs.InsideLaws.{inside-process, inside-store}
 use Rattle.log_core.specs.declared.Entered.{Entered}
 use Rattle.log_core.proofs.EnterLaws.{answer-at, enter-outside, place-inside}
 use Rattle.log_core.proofs.Log.answer_to.Statement.{statement}
 use Rattle.log_core.proofs.Log.answer_to.Tie as tie
 
+inside : (c : tie.Else1) → outside (c .before .before .args .e) ≡ false
+inside c = sym (c .before .outside .ensures) ∙ c .if1 .left
+
 returns : tie.Need-returns
 returns c = ap (λ (t : Entered). t .answer) (enter-outside (c .before .before .args .t1) (c .before .before .args .e) (sym (c .before .outside .ensures) ∙ c .if1 .taken))
 
-mul-t8 : tie.Need-mul-t8
-mul-t8 c = omega (arith, place-inside (c .before .before .before .before .args .e) (sym (c .before .before .before .outside .ensures) ∙ c .before .before .if1 .left) (c .row-place .ensures))
+row-inside : (c : tie.After-row-place) → c .row-place .result < transactions
+row-inside c = place-inside (c .before .before .before .before .before .args .e) (inside (c .before .before .before)) (c .row-place .ensures)
 
-element-copy-out-t11 : tie.Need-element-copy-out-t11
-element-copy-out-t11 c = place-inside (c .before .before .before .before .args .e) (sym (c .before .before .before .outside .ensures) ∙ c .before .before .if1 .left) (c .row-place .ensures)
+mul-t9 : tie.Need-mul-t9
+mul-t9 c = omega (arith, row-inside c)
 
-element-copy-out-t16 : tie.Need-element-copy-out-t16
-element-copy-out-t16 c = inside-store (c .before .before .before .before .before .before .args .e) (sym (c .before .before .before .before .before .outside .ensures) ∙ c .before .before .before .before .if1 .left)
+element-copy-out-t18 : tie.Need-element-copy-out-t18
+element-copy-out-t18 c = inside-store (c .before .before .before .before .before .before .before .before .args .e) (inside (c .before .before .before .before .before .before))
+
+element-copy-out-t21 : tie.Need-element-copy-out-t21
+element-copy-out-t21 c = omega (arith, inside-process (c .before .before .before .before .before .before .before .before .before .args .e) (inside (c .before .before .before .before .before .before .before)))
 
 returns-2 : tie.Need-returns-2
-returns-2 c = c .refusal .ensures ∙ answer-at (c .before .before .before .before .before .before .before .before .args .t1) (c .before .before .before .before .before .before .before .before .args .e) (c .before .before .before .before .row-place .ensures)
+returns-2 c = let a = c .before .before .before .before .before .before .before .before .before .before .before .args in c .refusal .ensures ∙ answer-at (a .t1) (a .e) (c .before .before .before .before .before .before .row-place .ensures)
 
 pub answer-to-spec : {M : Type 1} → statement M
 answer-to-spec =
@@ -28,10 +38,11 @@ answer-to-spec =
     (tie.spec
     (λ c κs. search needs)
     returns
-    (λ c. search needs) (λ c κs. search needs)
-    mul-t8
-    element-copy-out-t11
+    (λ c. search needs) (λ c. search needs) (λ c κs. search needs)
+    mul-t9
+    row-inside
     (λ c. search needs)
-    element-copy-out-t16
+    element-copy-out-t18
+    element-copy-out-t21
     (λ c κs. search needs)
     returns-2)

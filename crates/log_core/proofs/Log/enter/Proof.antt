@@ -1,44 +1,60 @@
 use borrow.Author.Needs.{needs}
-use mathlib.Core.Bool.{Bool, cond, false, true}
-use mathlib.Core.Path.{_≡_, refl, sym, _∙_}
+use mathlib.Core.Bool.{false}
+use mathlib.Core.Path.{_≡_, sym, _∙_}
 use native.Mathlib.Omega.{arith}
 use Prim.Native.Nat.{_<_}
-use Rattle.log_entry.specs.declared.Entry.{Entry}
 use Rattle.log_entry.specs.Entry.{outside}
 use Rattle.log_entry.specs.Limits.{transactions}
-use Rattle.log_entry.proofs.InsideLaws.{inside-store, inside-vote}
+use Rattle.log_entry.proofs.InsideLaws.{inside-process, inside-store}
 use Rattle.log_core.proofs.DecideLaws.{begins-group}
 use Rattle.log_core.proofs.EnterLaws.{enter-outside, enter-refused, enter-stored, partsAt, place-inside, remembered-last}
 use Rattle.log_core.proofs.Log.enter.Statement.{statement}
 use Rattle.log_core.proofs.Log.enter.Tie as tie
 
+inside : (c : tie.Else1) → outside (c .before .before .args .e) ≡ false
+inside c = sym (c .before .outside .ensures) ∙ c .if1 .left
+
 returns : tie.Need-returns
 returns c = enter-outside (c .before .before .args .t1) (c .before .before .args .e) (sym (c .before .outside .ensures) ∙ c .if1 .taken)
 
-mul-t11 : tie.Need-mul-t11
-mul-t11 c = omega (arith, place-inside (c .before .before .before .before .before .args .e) (sym (c .before .before .before .before .outside .ensures) ∙ c .before .before .before .if1 .left) (c .before .row-place .ensures))
+row-inside : (c : tie.After-row-place) → c .row-place .result < transactions
+row-inside c = place-inside (c .before .before .before .before .before .args .e) (inside (c .before .before .before)) (c .row-place .ensures)
 
-element-copy-out-t14 : tie.Need-element-copy-out-t14
-element-copy-out-t14 c = place-inside (c .before .before .before .before .before .args .e) (sym (c .before .before .before .before .outside .ensures) ∙ c .before .before .before .if1 .left) (c .before .row-place .ensures)
+mul-t12 : tie.Need-mul-t12
+mul-t12 c = omega (arith, row-inside (c .before))
 
-element-copy-out-t19 : tie.Need-element-copy-out-t19
-element-copy-out-t19 c = inside-store (c .before .before .before .before .before .before .before .args .e) (sym (c .before .before .before .before .before .before .outside .ensures) ∙ c .before .before .before .before .before .if1 .left)
+element-copy-out-t15 : tie.Need-element-copy-out-t15
+element-copy-out-t15 c = row-inside (c .before)
+
+element-copy-out-t21 : tie.Need-element-copy-out-t21
+element-copy-out-t21 c = inside-store (c .before .before .before .before .before .before .before .before .before .args .e) (inside (c .before .before .before .before .before .before .before))
+
+element-copy-out-t24 : tie.Need-element-copy-out-t24
+element-copy-out-t24 c = omega (arith, inside-process (c .before .before .before .before .before .before .before .before .before .before .args .e) (inside (c .before .before .before .before .before .before .before .before)))
 
 returns-2 : tie.Need-returns-2
 returns-2 c =
-    enter-refused (c .before .before .before .before .before .before .before .before .before .before .before .before .args .t1) (c .before .before .before .before .before .before .before .before .before .before .before .before .args .e) (c .before .before .before .before .before .before .before .before .row-place .result) (c .before .before .before .remembered-in .result) (c .before .before .before .before .before .before .before .before .row-place .ensures)
-    (remembered-last (c .before .before .before .before .before .before .before .before .before .before .before .before .args .t1) (c .before .before .before .remembered-in .ensures)) (c .before .before .decide .result) (c .before .before .decide .ensures) (c .if2 .taken)
+    let a = c .before .before .before .before .before .before .before .before .before .before .before .before .before .before .before .args in
+    let r = c .before .before .before .remembered-in in
+    let p = c .before .before .before .before .before .before .before .before .before .before .row-place in
+    let d = c .before .before .decide in
+    enter-refused (a .t1) (a .e) (p .result) (r .result) (p .ensures) (remembered-last (a .t1) (r .ensures)) (d .result) (d .ensures) (c .if2 .taken)
 
 stored-requires : tie.Need-stored-requires
-stored-requires c κs = (
-  sym (c .before .before .before .before .before .before .before .before .before .before .before .outside .ensures) ∙ c .before .before .before .before .before .before .before .before .before .before .if1 .left,
-  begins-group (partsAt (c .before .before .before .before .before .before .before .before .before .before .before .before .args .t1) (c .before .before .before .before .before .before .before .before .before .before .before .before .args .e) (c .before .before .before .before .before .before .before .before .row-place .result) (c .before .before .before .remembered-in .result)) (c .before .before .before .before .before .before .before .before .before .before .before .before .args .e) (c .before .before .decide .result) (c .before .before .decide .ensures),
-)
+stored-requires c κs =
+    let a = c .before .before .before .before .before .before .before .before .before .before .before .before .before .before .before .args in
+    let r = c .before .before .before .remembered-in in
+    let p = c .before .before .before .before .before .before .before .before .before .before .row-place in
+    let d = c .before .before .decide in
+    (inside (c .before .before .before .before .before .before .before .before .before .before .before .before .before), begins-group (partsAt (a .t1) (a .e) (p .result) (r .result)) (a .e) (d .result) (d .ensures))
 
 returns-3 : tie.Need-returns-3
 returns-3 c =
-    enter-stored (c .before .before .before .before .before .before .before .before .before .before .before .before .before .args .t1) (c .before .before .before .before .before .before .before .before .before .before .before .before .before .args .e) (c .before .before .before .before .before .before .before .before .before .row-place .result) (c .before .before .before .before .remembered-in .result) (c .before .before .before .before .before .before .before .before .before .row-place .ensures)
-    (remembered-last (c .before .before .before .before .before .before .before .before .before .before .before .before .before .args .t1) (c .before .before .before .before .remembered-in .ensures)) (c .before .before .before .decide .result) (c .before .before .before .decide .ensures) (c .before .if2 .left) (c .stored .ensures)
+    let a = c .before .before .before .before .before .before .before .before .before .before .before .before .before .before .before .before .args in
+    let r = c .before .before .before .before .remembered-in in
+    let p = c .before .before .before .before .before .before .before .before .before .before .before .row-place in
+    let d = c .before .before .before .decide in
+    enter-stored (a .t1) (a .e) (p .result) (r .result) (p .ensures) (remembered-last (a .t1) (r .ensures)) (d .result) (d .ensures) (c .before .if2 .left) (c .stored .ensures)
 
 pub enter-spec : {M : Type 1} → statement M
 enter-spec =
@@ -46,11 +62,12 @@ enter-spec =
     (tie.spec
     (λ c κs. search needs)
     returns
-    (λ c. search needs) (λ c κs. search needs)
-    mul-t11
-    element-copy-out-t14
+    (λ c. search needs) (λ c. search needs) (λ c κs. search needs)
+    mul-t12
+    element-copy-out-t15
     (λ c. search needs)
-    element-copy-out-t19
+    element-copy-out-t21
+    element-copy-out-t24
     (λ c κs. search needs) (λ c κs. search needs)
     returns-2
     stored-requires

@@ -9,29 +9,40 @@ use Rattle.log_core.proofs.Log.stored.Tie as tie
 cast-store : tie.Need-cast-store
 cast-store c = search needs
 
+cast-process : tie.Need-cast-process
+cast-process c = search needs
+
 element-write-self : tie.Need-element-write-self
-element-write-self c = inside-store (c .before .before .args .e) (c .before .before .pre .0)
+element-write-self c = inside-store (c .before .before .before .args .e) (c .before .before .before .pre .0)
+
+element-write-self-2 : tie.Need-element-write-self-2
+element-write-self-2 c = inside-store (c .before .before .before .args .e) (c .before .before .before .pre .0)
+
+element-write-self-3 : tie.Need-element-write-self-3
+element-write-self-3 c = omega (arith, inside-process (c .before .before .before .args .e) (c .before .before .before .pre .0))
 
 mul-self : tie.Need-mul-self
 mul-self c = search needs
 
 element-copy-out-self : tie.Need-element-copy-out-self
-element-copy-out-self c = inside-store (c .before .before .args .e) (c .before .before .pre .0)
+element-copy-out-self c = inside-store (c .before .before .before .args .e) (c .before .before .before .pre .0)
 
 cast-self : tie.Need-cast-self
 cast-self c = search needs
 
 shl-self : tie.Need-shl-self
-shl-self c = omega (arith, inside-process (c .before .before .before .before .args .e) (c .before .before .before .before .pre .0))
+shl-self c = omega (arith, inside-process (c .before .before .before .before .before .args .e) (c .before .before .before .before .before .pre .0))
 
 mul-self-2 : tie.Need-mul-self-2
 mul-self-2 c = search needs
 
-element-write-self-2 : tie.Need-element-write-self-2
-element-write-self-2 c = inside-store (c .before .before .before .before .args .e) (c .before .before .before .before .pre .0)
+element-write-self-4 : tie.Need-element-write-self-4
+element-write-self-4 c = inside-store (c .before .before .before .before .before .args .e) (c .before .before .before .before .before .pre .0)
 
 returns : tie.Need-returns
-returns c = holder-stored (c .before .before .before .before .args .t1) (c .before .before .before .before .args .e) (c .before .before .before .before .args .f) (c .before .before .if1 .taken) (omega (arith, inside-process (c .before .before .before .before .args .e) (c .before .before .before .before .pre .0)))
+returns c =
+    let a = c .before .before .before .before .before .args in
+    holder-stored (a .t1) (a .e) (a .f) (c .before .before .before .if1 .taken) (omega (arith, inside-process (c .before .before .before .before .before .args .e) (c .before .before .before .before .before .pre .0)))
 
 cast-tx : tie.Need-cast-tx
 cast-tx c = search needs
@@ -72,8 +83,8 @@ cast-self-2 c = search needs
 mul-self-3 : tie.Need-mul-self-3
 mul-self-3 c = search needs
 
-element-write-self-3 : tie.Need-element-write-self-3
-element-write-self-3 c = let g = c .before .before .before .before .before .before .before .before .before .pre .1 (not-false _ (c .before .before .if2 .left)) in omega (arith, g .0, g .1)
+element-write-self-5 : tie.Need-element-write-self-5
+element-write-self-5 c = let g = c .before .before .before .before .before .before .before .before .before .pre .1 (not-false _ (c .before .before .if2 .left)) in omega (arith, g .0, g .1)
 
 returns-3 : tie.Need-returns-3
 returns-3 c = stored-group (c .before .before .before .before .before .before .before .before .before .args .t1) (c .before .before .before .before .before .before .before .before .before .args .e) (c .before .before .before .before .before .before .before .before .before .args .f) (c .before .before .before .before .before .before .before .if1 .left) (c .before .before .before .before .keeping .ensures) (not-false _ (c .before .before .if2 .left)) (c .before .running-set .result) (c .before .running-set .ensures)
@@ -83,13 +94,16 @@ stored-spec =
     tie.close
     (tie.spec
     cast-store
+    cast-process
     element-write-self
+    element-write-self-2
+    element-write-self-3
     mul-self
     element-copy-out-self
     cast-self
     shl-self
     mul-self-2
-    element-write-self-2
+    element-write-self-4
     returns
     cast-tx
     mul-old
@@ -104,5 +118,5 @@ stored-spec =
     sub-i
     cast-self-2
     mul-self-3
-    element-write-self-3
+    element-write-self-5
     returns-3)

@@ -19,12 +19,15 @@ returns-2 c =
     c .take-refusal .ensures ∙ answer-take (a .self) (a .e) (inside (c .before .before .before)) (c .before .if2 .taken)
 
 array-read-vote-refusal : tie.Need-array-read-vote-refusal
-array-read-vote-refusal c = inside-vote (c .before .before .before .before .before .args .e) (inside (c .before .before .before)) (c .before .if2 .left) .by
+array-read-vote-refusal c = inside-vote (c .before .before .before .before .before .before .args .e) (inside (c .before .before .before .before)) (c .before .before .if2 .left) .by
+
+array-read-vote-refusal-2 : tie.Need-array-read-vote-refusal-2
+array-read-vote-refusal-2 c = inside-vote (c .before .before .before .before .before .before .args .e) (inside (c .before .before .before .before)) (c .before .before .if2 .left) .by
 
 returns-3 : tie.Need-returns-3
 returns-3 c =
-    let a = c .before .before .before .before .before .before .args in
-    c .vote-refusal .ensures ∙ answer-vote (a .self) (a .e) (inside (c .before .before .before .before)) (c .before .before .if2 .left)
+    let a = c .before .before .before .before .before .before .before .args in
+    c .vote-refusal .ensures ∙ answer-vote (a .self) (a .e) (inside (c .before .before .before .before .before)) (c .before .before .before .if2 .left)
 
 pub refusal-spec : {M : Type 1} → statement M
 refusal-spec =
@@ -36,5 +39,6 @@ refusal-spec =
     returns-2
     (λ c. search needs)
     array-read-vote-refusal
+    array-read-vote-refusal-2
     (λ c κs. search needs)
     returns-3)

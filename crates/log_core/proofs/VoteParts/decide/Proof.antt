@@ -18,7 +18,7 @@ use Rattle.log_core.proofs.VoteParts.decide.Tie as tie
 
 -- the answer, on the row of any parts of which these are
 answered : (c : tie.After-refusal) (p : Parts) → c .before .before .args .self ≡ votePartsOf p (c .before .before .args .e)
-    → c .refusal .result ≡ voteRefusal (p .row) (c .before .before .args .self .holder) (c .before .before .args .e)
+    → c .refusal .result ≡ voteRefusal (p .row) (c .before .before .args .self .holder) (c .before .before .args .self .turn) (c .before .before .args .e)
 answered c p so = c .refusal .ensures (p .row) (ap (λ (v : VoteParts). v .tally) so) (ap (λ (v : VoteParts). v .clash) so)
 
 -- and the outcome with the vote

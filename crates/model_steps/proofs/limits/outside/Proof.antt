@@ -40,6 +40,10 @@ returns-9 : tie.Need-returns-9
 unfolding outsideStep
 returns-9 c = c .no-party .ensures ∙ ap (outsideStep (c .before .before .before .before .args .acceptors)) (sym (c .before .before .s9 .given .1))
 
+returns-10 : tie.Need-returns-10
+unfolding outsideStep
+returns-10 c = c .no-back .ensures ∙ ap (outsideStep (c .before .before .before .before .args .acceptors)) (sym (c .before .before .s10 .given .1))
+
 pub outside-spec : {M : Type 1} → statement M
 outside-spec =
     tie.close
@@ -48,5 +52,5 @@ outside-spec =
     (λ c. search needs) (λ c κs. search needs) (λ c. search needs) (λ c κs. search needs)
     (λ c. search needs) (λ c. search needs) (λ c κs. search needs) (λ c. search needs)
     (λ c κs. search needs) (λ c. search needs) (λ c κs. search needs) (λ c. search needs)
-    (λ c κs. search needs) returns returns-2 returns-3 returns-4 returns-5 returns-6 returns-7
-    returns-8 returns-9)
+    (λ c κs. search needs) (λ c. search needs) (λ c κs. search needs) returns returns-2 returns-3 returns-4 returns-5 returns-6 returns-7
+    returns-8 returns-9 returns-10)

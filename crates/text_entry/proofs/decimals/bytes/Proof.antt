@@ -1,5 +1,4 @@
-use mathlib.Core.Bool.{not, or-assoc, or-false}
-use mathlib.Core.Path.{ap}
+use mathlib.Core.Bool.{or-assoc, or-false}
 use Rattle.text_entry.proofs.decimals.bytes.Statement.{statement}
 use Rattle.text_entry.proofs.decimals.bytes.Tie as tie
 

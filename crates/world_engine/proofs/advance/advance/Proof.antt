@@ -15,7 +15,7 @@ use Rattle.model_protocol.specs.Send.{copyOf, sendToAll}
 use Rattle.model_protocol.specs.Step.{putBack, replayIn}
 use Rattle.world_engine.specs.Commands.{answersTo, worldAfter}
 use Rattle.model_steps.specs.Commands.{commandsIn}
-use Rattle.world_engine.proofs.AdvanceLaws.{Lengths, There, answers-stored, commands-done, copies-next, copies-none, count-fits, delivered-is, first-copy, followedIn, follows-it, follows-none, givenIn, gives-it, gives-none, log-fed, message-small, next-copy, none-fed, not-asked, number-left, command-taken, parts-are, places-there, put-lengths, replay-is, said-is, sent-lengths, stored-turn, takenIn, takes-it, takes-none, world-lengths, world-turn}
+use Rattle.world_engine.proofs.AdvanceLaws.{Lengths, There, anew-both, anew-none, anewIn, answers-stored, commands-done, copies-next, copies-none, count-fits, delivered-is, first-copy, followedIn, follows-it, follows-none, givenIn, gives-it, gives-none, log-fed, message-small, next-copy, none-fed, not-asked, number-left, command-taken, parts-are, places-there, put-lengths, replay-is, said-is, sent-lengths, stored-turn, takenIn, takes-it, takes-none, world-lengths, world-turn}
 use Rattle.world_engine.proofs.advance.advance.Statement.{statement}
 use Rattle.world_engine.proofs.advance.advance.Tie as tie
 
@@ -75,7 +75,8 @@ abbrev placed : Planned → Placed
 placed c = c .before .before .before .before .before .before .before .before .before
 
 -- the change, from the places behind it: where the process took the replay, where it took the
--- follow, where the replay was given, where the log was fed, and at the end of a turn
+-- follow, where it started anew, where the replay was given, where the log was fed, and at the end
+-- of a turn
 abbrev planned2 : tie.Joined2 Inv-loop2 μ-loop2 Inv-loop μ-loop → Planned
 planned2 c = c .before .before .before .before .before
 
@@ -83,20 +84,26 @@ abbrev planned3 : tie.Joined3 Inv-loop2 μ-loop2 Inv-loop μ-loop → Planned
 planned3 c = planned2 (c .before)
 
 abbrev planned4 : tie.Joined4 Inv-loop2 μ-loop2 Inv-loop μ-loop → Planned
-planned4 c = planned3 (c .before .before)
+planned4 c = planned3 (c .before)
 
 abbrev planned5 : tie.Joined5 Inv-loop2 μ-loop2 Inv-loop μ-loop → Planned
-planned5 c = planned4 (c .before .before .before)
+planned5 c = planned4 (c .before .before)
 
-abbrev ended : tie.Else6 Inv-loop2 μ-loop2 Inv-loop μ-loop → Planned
-ended c = planned5 (c .before .before .before)
+abbrev planned6 : tie.Joined6 Inv-loop2 μ-loop2 Inv-loop μ-loop → Planned
+planned6 c = planned5 (c .before .before .before)
 
--- the world at the first four of these
+abbrev ended : tie.Else7 Inv-loop2 μ-loop2 Inv-loop μ-loop → Planned
+ended c = planned6 (c .before .before .before)
+
+-- the world at the first five of these
 abbrev Taken : Planned → World
 Taken c = takenIn (worldOf (placed c)) (placed c .places .result) (replayOf (placed c)) (c .change .result)
 
 abbrev Followed : Planned → World
 Followed c = followedIn (worldOf (placed c)) (placed c .places .result) (replayOf (placed c)) (c .change .result)
+
+abbrev Anew : Planned → World
+Anew c = anewIn (worldOf (placed c)) (placed c .places .result) (replayOf (placed c)) (c .change .result)
 
 abbrev Given : Planned → World
 Given c = givenIn (worldOf (placed c)) (placed c .places .result) (replayOf (placed c)) (c .change .result)
@@ -243,11 +250,41 @@ followed-is c =
     (λ t. t .1 ∙ follows-none w at (replayOf b) ch _ before (t .0 .left))
     (c .if3 .came)
 
+none-requires : tie.Need-none-requires Inv-loop2 μ-loop2 Inv-loop μ-loop
+none-requires c κs = search needs
+
+mul-t79 : tie.Need-mul-t79 Inv-loop2 μ-loop2 Inv-loop μ-loop
+mul-t79 c = let h = here (placed (planned3 (c .before .before))) .2 in omega (arith, h)
+
+element-set-from-w-2 : tie.Need-element-set-from-w-2 Inv-loop2 μ-loop2 Inv-loop μ-loop
+element-set-from-w-2 c = here (placed (planned3 (c .before .before))) .2
+
+no-follows-requires : tie.Need-no-follows-requires Inv-loop2 μ-loop2 Inv-loop μ-loop
+no-follows-requires c κs = search needs
+
+mul-t79-2 : tie.Need-mul-t79-2 Inv-loop2 μ-loop2 Inv-loop μ-loop
+mul-t79-2 c = let h = here (placed (planned3 (c .before .before .before))) .2 in omega (arith, h)
+
+element-set-from-w-3 : tie.Need-element-set-from-w-3 Inv-loop2 μ-loop2 Inv-loop μ-loop
+element-set-from-w-3 c = here (placed (planned3 (c .before .before .before))) .2
+
+anew-is : (c : tie.Joined4 Inv-loop2 μ-loop2 Inv-loop μ-loop) → c .if4 .w ≡ Anew (planned4 c)
+anew-is c =
+    let b = placed (planned4 c) in
+    let w = worldOf b in
+    let at = b .places .result in
+    let ch = planned4 c .change .result in
+    let before = followed-is (c .before) in
+    ⊎-elim
+    (λ t. t .3 ∙ anew-both w at (replayOf b) ch _ before _ _ (t .0 .taken) (t .1 .ensures) (t .2 .ensures))
+    (λ t. t .1 ∙ anew-none w at (replayOf b) ch _ before (t .0 .left))
+    (c .if4 .came)
+
 -- the message with which a replay goes has a number
-number : (c : tie.Then4 Inv-loop2 μ-loop2 Inv-loop μ-loop) → c .before .before .if3 .w .sent < messages
+number : (c : tie.Then5 Inv-loop2 μ-loop2 Inv-loop μ-loop) → c .before .before .if4 .w .sent < messages
 number c =
-    let n = number-left _ _ _ (planned3 (c .before .before) .change .ensures) (c .if4 .taken) in
-    subst (λ (v : World). v .sent < messages) (sym (followed-is (c .before .before))) n
+    let n = number-left _ _ _ (planned4 (c .before .before) .change .ensures) (c .if5 .taken) in
+    subst (λ (v : World). v .sent < messages) (sym (anew-is (c .before .before))) n
 
 cast-next : tie.Need-cast-next Inv-loop2 μ-loop2 Inv-loop μ-loop
 cast-next c = let h = number c in omega (arith, h)
@@ -256,66 +293,66 @@ mul-log-2 : tie.Need-mul-log-2 Inv-loop2 μ-loop2 Inv-loop μ-loop
 mul-log-2 c = omega arith
 
 element-copy-out-log-2 : tie.Need-element-copy-out-log-2 Inv-loop2 μ-loop2 Inv-loop μ-loop
-element-copy-out-log-2 c = here (placed (planned3 (c .before .before))) .0
+element-copy-out-log-2 c = here (placed (planned4 (c .before .before))) .0
 
 replay-requires : tie.Need-replay-requires Inv-loop2 μ-loop2 Inv-loop μ-loop
 replay-requires c κs = search needs
 
-mul-t79 : tie.Need-mul-t79 Inv-loop2 μ-loop2 Inv-loop μ-loop
-mul-t79 c = let h = number (c .before .before) in omega (arith, h)
+mul-t86 : tie.Need-mul-t86 Inv-loop2 μ-loop2 Inv-loop μ-loop
+mul-t86 c = let h = number (c .before .before) in omega (arith, h)
 
-element-set-from-w-2 : tie.Need-element-set-from-w-2 Inv-loop2 μ-loop2 Inv-loop μ-loop
-element-set-from-w-2 c = let h = number (c .before .before) in omega (arith, h)
+element-set-from-w-4 : tie.Need-element-set-from-w-4 Inv-loop2 μ-loop2 Inv-loop μ-loop
+element-set-from-w-4 c = let h = number (c .before .before) in omega (arith, h)
 
-given-is : (c : tie.Joined4 Inv-loop2 μ-loop2 Inv-loop μ-loop) → c .if4 .w ≡ Given (planned4 c)
+given-is : (c : tie.Joined5 Inv-loop2 μ-loop2 Inv-loop μ-loop) → c .if5 .w ≡ Given (planned5 c)
 given-is c =
-    let b = placed (planned4 c) in
+    let b = placed (planned5 c) in
     let w = worldOf b in
     let at = b .places .result in
-    let ch = planned4 c .change .result in
-    let before = followed-is (c .before .before) in
+    let ch = planned5 c .change .result in
+    let before = anew-is (c .before .before) in
     ⊎-elim
     (λ t. t .3 ∙ gives-it w at (replayOf b) ch _ before _ _ (long b) (here b) (t .0 .taken) (t .2 .ensures))
     (λ t. t .1 ∙ gives-none w at (replayOf b) ch _ before (t .0 .left))
-    (c .if4 .came)
+    (c .if5 .came)
 
 mul-log-3 : tie.Need-mul-log-3 Inv-loop2 μ-loop2 Inv-loop μ-loop
 mul-log-3 c = omega arith
 
 element-copy-out-log-3 : tie.Need-element-copy-out-log-3 Inv-loop2 μ-loop2 Inv-loop μ-loop
-element-copy-out-log-3 c = here (placed (planned4 (c .before .before .before))) .0
+element-copy-out-log-3 c = here (placed (planned5 (c .before .before .before))) .0
 
 fed-requires : tie.Need-fed-requires Inv-loop2 μ-loop2 Inv-loop μ-loop
 fed-requires c κs = search needs
 
-mul-t86 : tie.Need-mul-t86 Inv-loop2 μ-loop2 Inv-loop μ-loop
-mul-t86 c = let h = here (placed (planned4 (c .before .before .before .before .before))) .0 in omega (arith, h)
+mul-t93 : tie.Need-mul-t93 Inv-loop2 μ-loop2 Inv-loop μ-loop
+mul-t93 c = let h = here (placed (planned5 (c .before .before .before .before .before))) .0 in omega (arith, h)
 
-element-set-from-w-3 : tie.Need-element-set-from-w-3 Inv-loop2 μ-loop2 Inv-loop μ-loop
-element-set-from-w-3 c = here (placed (planned4 (c .before .before .before .before .before))) .0
+element-set-from-w-5 : tie.Need-element-set-from-w-5 Inv-loop2 μ-loop2 Inv-loop μ-loop
+element-set-from-w-5 c = here (placed (planned5 (c .before .before .before .before .before))) .0
 
-stored-is : (c : tie.Joined5 Inv-loop2 μ-loop2 Inv-loop μ-loop) → c .if5 .w ≡ Stored (planned5 c)
+stored-is : (c : tie.Joined6 Inv-loop2 μ-loop2 Inv-loop μ-loop) → c .if6 .w ≡ Stored (planned6 c)
 stored-is c =
-    let b = placed (planned5 c) in
+    let b = placed (planned6 c) in
     let w = worldOf b in
     let at = b .places .result in
-    let ch = planned5 c .change .result in
+    let ch = planned6 c .change .result in
     let before = given-is (c .before .before .before) in
     ⊎-elim
     (λ t. t .3 ∙ log-fed w at (replayOf b) ch _ before _ _ (long b) (here b) (t .2 .ensures))
     (λ t. t .1 ∙ none-fed w at (replayOf b) ch _ before (t .0 .left))
-    (c .if5 .came)
+    (c .if6 .came)
 
 loop2-holds : tie.Need-loop2-holds Inv-loop2 μ-loop2 Inv-loop μ-loop
 loop2-holds c =
-    let b = placed (planned5 c) in
-    let ch = planned5 c .change .result in
+    let b = placed (planned6 c) in
+    let ch = planned6 c .change .result in
     let is = stored-is c in (
       omega arith,
       copies-none _ _,
       omega arith,
       first-copy (ch .message),
-      subst (λ (v : World). ch .count ≤ messages - v .sent) (sym is) (count-fits _ _ _ (planned5 c .change .ensures)),
+      subst (λ (v : World). ch .count ≤ messages - v .sent) (sym is) (count-fits _ _ _ (planned6 c .change .ensures)),
       subst Lengths (sym is) (put-lengths (worldOf b) (b .places .result) (replayOf b) ch (long b)),
     )
 
@@ -396,7 +433,7 @@ loop-again c =
     (parts-are (l .w) (long p) at _ _ _ _ (here p))
     refl
     (ended c .change .ensures)
-    (omega (arith, z .inv .0, c .if6 .left))
+    (omega (arith, z .inv .0, c .if7 .left))
     (z .inv .1 ∙ ap (λ (v : World). sendToAll v (z .i) (copyOf (ch .message))) (stored-is (c .before .before .before)))
     in (
       omega (arith, k),
@@ -427,7 +464,8 @@ advance-spec =
     mul-coordinator-2 element-set-from-coordinator mul-slot element-set-from-slot mul-process
     element-set-from-process mul-replay element-copy-out-replay mul-replay-2 element-set-from-replay
     mul-kept element-copy-out-kept with-follow-requires mul-t72 element-set-from-w
-    cast-next mul-log-2 element-copy-out-log-2 replay-requires mul-t79 element-set-from-w-2 mul-log-3
-    element-copy-out-log-3 fed-requires mul-t86 element-set-from-w-3 loop2-holds cast-m mul-m
+    none-requires mul-t79 element-set-from-w-2 no-follows-requires mul-t79-2 element-set-from-w-3
+    cast-next mul-log-2 element-copy-out-log-2 replay-requires mul-t86 element-set-from-w-4 mul-log-3
+    element-copy-out-log-3 fed-requires mul-t93 element-set-from-w-5 loop2-holds cast-m mul-m
     element-set-from-m add-w add-i loop2-less loop2-again cast-answers element-write-answers add-k
     loop-less loop-again returns)

@@ -32,6 +32,9 @@ returns-8 c = c .follow .ensures ∙ ap (λ (s : Step). planOf (c .before .befor
 returns-9 : tie.Need-returns-9
 returns-9 c = c .crash .ensures ∙ ap (λ (s : Step). planOf (c .before .before .before .before .args .p) s) (sym (c .before .before .s9 .given .1))
 
+returns-10 : tie.Need-returns-10
+returns-10 c = c .back .ensures ∙ ap (λ (s : Step). planOf (c .before .before .before .before .args .p) s) (sym (c .before .before .s10 .given .1))
+
 pub plan-spec : {M : Type 1} → statement M
 plan-spec =
     tie.close
@@ -40,5 +43,5 @@ plan-spec =
     (λ c. search needs) (λ c κs. search needs) (λ c. search needs) (λ c κs. search needs)
     (λ c. search needs) (λ c κs. search needs) (λ c. search needs) (λ c κs. search needs)
     (λ c. search needs) (λ c κs. search needs) (λ c. search needs) (λ c κs. search needs)
-    (λ c. search needs) (λ c κs. search needs) returns returns-2 returns-3 returns-4 returns-5
-    returns-6 returns-7 returns-8 returns-9)
+    (λ c. search needs) (λ c κs. search needs) (λ c. search needs) (λ c κs. search needs) returns returns-2 returns-3 returns-4 returns-5
+    returns-6 returns-7 returns-8 returns-9 returns-10)

@@ -1,8 +1,8 @@
 use borrow.Author.Needs.{needs}
 use mathlib.Core.Path.{ap, sym, _∙_}
+use Rattle.log_entry.specs.Limits.{processPlaces}
 use Rattle.model_steps.specs.declared.Role.{Role}
 use Rattle.model_steps.specs.Limits.{coordinators, mostAcceptors}
-use Rattle.model_protocol.specs.Limits.{processPlaces}
 use Rattle.model_protocol.specs.World.{isDown}
 use Rattle.world_messages.proofs.PartLaws.{acceptors-length, coordinators-length, party-there, processes-length}
 use Rattle.world_messages.proofs.parties.is_down.Statement.{statement}

@@ -41,6 +41,10 @@ returns-9 : tie.Need-returns-9
 unfolding placesOf
 returns-9 c = c .only-coordinator7 .ensures ∙ ap (λ (s : Step). placesOf s (c .before .before .before .args .m)) (sym (c .before .enum-told3 .given .1))
 
+returns-10 : tie.Need-returns-10
+unfolding placesOf
+returns-10 c = c .only-process2 .ensures ∙ ap (λ (s : Step). placesOf s (c .before .before .before .before .args .m)) (sym (c .before .before .s7 .given .1))
+
 pub places-spec : {M : Type 1} → statement M
 places-spec =
     tie.close
@@ -49,5 +53,5 @@ places-spec =
     (λ c. search needs) (λ c κs. search needs) (λ c. search needs) (λ c κs. search needs)
     (λ c. search needs) (λ c κs. search needs) (λ c. search needs) (λ c κs. search needs)
     (λ c. search needs) (λ c κs. search needs) (λ c. search needs) (λ c κs. search needs)
-    (λ c. search needs) (λ c κs. search needs) returns returns-2 returns-3 returns-4 returns-5
-    returns-6 returns-7 returns-8 returns-9)
+    (λ c. search needs) (λ c κs. search needs) (λ c. search needs) (λ c κs. search needs) returns returns-2 returns-3 returns-4 returns-5
+    returns-6 returns-7 returns-8 returns-9 returns-10)
