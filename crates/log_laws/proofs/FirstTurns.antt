@@ -87,7 +87,7 @@ module _ (l : Log) (e : Entry) (w : Wf l) (early : Early l) (first : e .turn ≡
   took-first p s h = omega (arith, early p, w .holding .some-turn p s h)
 
   -- who holds a store holds it in turn 1, so a vote of the holder has the holder's turn
-  in-turn : outside e ≡ false → holdsNot l e ≡ false → otherTurn l e ≡ false
+  pub in-turn : outside e ≡ false → holdsNot l e ≡ false → otherTurn l e ≡ false
   in-turn o h =
       let holds : holderOf l (e .by) ≡ e .process = eqb-true (holderOf l (e .by)) (e .process) (not-false _ h) in
       let n = process-from-1 e o in

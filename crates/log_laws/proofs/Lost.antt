@@ -9,7 +9,7 @@ use Rattle.log_core.proofs.EnterLaws.{answer-is}
 use Rattle.log_core.specs.declared.Log.{Log}
 use Rattle.log_core.specs.Enter.{enter, feed}
 use Rattle.log_core.specs.Log.{emptyLog, latestOf}
-use Rattle.log_laws.specs.Holders.{HoldsAtMostOneStore, HoldsInLastTurn, LostStoreNeverAgain, NoEarlierTurnKept}
+use Rattle.log_laws.specs.Holders.{HoldsAtMostOneStore, HoldsInLastTurn, LastTurnNeverFalls, LostStoreNeverAgain, NoEarlierTurnKept}
 use Rattle.log_laws.specs.Reached.{reached}
 use Rattle.log_laws.proofs.Accepted.{process-from-1, vote-ok, voter-holds, voter-turn}
 use Rattle.log_laws.proofs.Feed.{feed-append, later, wf-reached}
@@ -24,6 +24,10 @@ one-store es p s t n h k = wf-reached es .holding .one-store p s t (from-1 p n) 
 
 pub last-turn : HoldsInLastTurn
 last-turn es p s n h = wf-reached es .holding .last-turn p s (from-1 p n) h
+
+pub never-falls : LastTurnNeverFalls
+never-falls es more p =
+    later (λ (l : Log). latestOf (reached es) p ≤ latestOf l p) (λ l e w k. omega (arith, k, latest-enter l e p (w .sized))) es more (omega arith)
 
 pub never-again : LostStoreNeverAgain
 never-again es more after p t s n h lost =

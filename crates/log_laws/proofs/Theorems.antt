@@ -1,11 +1,11 @@
 -- The theorems about the definitions of the commit log; specs/ has what each claims.
 use Rattle.log_laws.specs.Answers.{RefusedEntryChangesNothing, TakeAnswerExactly, VoteAnswerExactly}
-use Rattle.log_laws.specs.Base.{BaseCasesHold, BaseReadsNoTurn, OnlyRefusalsDiffer, TakesWithoutTurns, WithoutTurns}
+use Rattle.log_laws.specs.Base.{BaseCasesHold, BaseReadsNoTurn, OnlyRefusalsDiffer, TakesWithoutTurns, VotesWithoutTurns, WithoutTurns}
 use Rattle.log_laws.specs.Cases.{CasesHold}
 use Rattle.log_laws.specs.Changes.{TakeChangesOnly, VoteChangesOnly}
 use Rattle.log_laws.specs.Conditions.{ClashExactly, HeldBeforeExactly, HoldsAnotherExactly, HoldsNotExactly, IllFormedExactly, LatestExactly, OtherTurnExactly, OutsideExactly, StaleExactly}
 use Rattle.log_laws.specs.Groups.{BegunByCommit, FirstCommitBegins, GroupAtCommit, GroupIffCommitted, GroupNeverChanges, GroupsWithoutGaps, JoinsIfRunningWhenBegun, LastGroupWasBegun, RememberedNeverChanges, GroupRemembersRunning}
-use Rattle.log_laws.specs.Holders.{AcceptedTakeHolds, HoldsAtMostOneStore, HoldsInLastTurn, LostStoreNeverAgain, NoEarlierTurnKept}
+use Rattle.log_laws.specs.Holders.{AcceptedTakeHolds, HoldsAtMostOneStore, HoldsInLastTurn, LastTurnNeverFalls, LostStoreNeverAgain, NoEarlierTurnKept}
 use Rattle.log_laws.specs.Involvement.{InvolvementExactly}
 use Rattle.log_laws.specs.Replays.{ReplayListsExactly, ReplayListsOnce, ReplayOrdered}
 use Rattle.log_laws.specs.TakenOver.{AwaitedExactly, LostStoreVotesNoMore, ReplayedOrAwaited, RowStaysCommitted}
@@ -20,7 +20,7 @@ use Rattle.log_laws.proofs.GroupClaims.{at-commit, by-commit, first-beg
 use Rattle.log_laws.proofs.InvolvementClaims.{involvement-by-votes}
 use Rattle.log_laws.proofs.LastGroup.{was-begun}
 use Rattle.log_laws.proofs.LastTakes
-use Rattle.log_laws.proofs.Lost.{last-turn, never-again, no-earlier, one-store}
+use Rattle.log_laws.proofs.Lost.{last-turn, never-again, never-falls, no-earlier, one-store}
 use Rattle.log_laws.proofs.OutcomeClaims.{abort-iff, running-by-votes}
 use Rattle.log_laws.proofs.Remembered.{remembered-stays, remembers-running}
 use Rattle.log_laws.proofs.ReplayClaims.{lists-exactly, lists-once, ordered}
@@ -67,6 +67,9 @@ holds-at-most-one-store = one-store
 
 pub holds-in-last-turn : HoldsInLastTurn
 holds-in-last-turn = last-turn
+
+pub last-turn-never-falls : LastTurnNeverFalls
+last-turn-never-falls = never-falls
 
 pub no-earlier-turn-kept : NoEarlierTurnKept
 no-earlier-turn-kept = no-earlier
@@ -184,3 +187,6 @@ without-turns = WithoutTurns.without-turns
 
 pub takes-without-turns : TakesWithoutTurns
 takes-without-turns = WithoutTurns.takes-without-turns
+
+pub votes-without-turns : VotesWithoutTurns
+votes-without-turns = WithoutTurns.votes-without-turns

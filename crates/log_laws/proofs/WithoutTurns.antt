@@ -17,18 +17,17 @@ use Rattle.log_core.proofs.EnterLaws.{answer-is, refusalOf, stored-holder}
 use Rattle.log_core.specs.Decide.{effectOf, partsOf}
 use Rattle.log_core.specs.Enter.{enter, entered, feed, stored}
 use Rattle.log_core.specs.Log.{emptyLog, groupOf, heldBefore, holderOf, involvementOf, outcomeOf}
-use Rattle.log_core.specs.Refusal as take-refusals
 use Rattle.log_core.specs.Replay.{replayOf}
 use Rattle.log_laws.specs.Answers.{stale}
-use Rattle.log_laws.specs.Base.{AllFirst, BaseReadsNoTurn, OnlyRefusalsDiffer, TakeAgrees, TakesWithoutTurns, WithoutTurns, baseAnswer, baseEnter, baseFeed, baseOutside, baseReached, baseRefusal, effectBy}
+use Rattle.log_laws.specs.Base.{AllFirst, BaseReadsNoTurn, OnlyRefusalsDiffer, TakeAgrees, TakesWithoutTurns, VotesWithoutTurns, WithoutTurns, baseAnswer, baseEnter, baseFeed, baseOutside, baseReached, baseRefusal, effectBy}
 use Rattle.log_laws.specs.Conditions.{Took}
 use Rattle.log_laws.specs.Reached.{reached}
 use Rattle.log_laws.proofs.Accepted.{process-from-1}
-use Rattle.log_laws.proofs.AnswerClaims.{take-exactly}
+use Rattle.log_laws.proofs.AnswerClaims.{take-exactly, vote-exactly}
 use Rattle.log_laws.proofs.ConditionClaims.{another-by-holders, outside-by-limits}
 use Rattle.log_laws.proofs.EmptyRows.{replicate-cases}
 use Rattle.log_laws.proofs.Feed.{wf-reached}
-use Rattle.log_laws.proofs.FirstTurns.{Early, accepts-same, same-test, stale-same, takes-agree, votes-same}
+use Rattle.log_laws.proofs.FirstTurns.{Early, accepts-same, in-turn, same-test, stale-same, takes-agree, votes-same}
 use Rattle.log_laws.proofs.Places.{set-either}
 use Rattle.log_laws.proofs.Steps.{Holders, holder-cases}
 use Rattle.log_laws.proofs.TakenBefore.{held-exactly}
@@ -155,3 +154,21 @@ takes-without-turns es e first take t limits = (
 
     was : stale (reached es) e ≡ heldBefore (reached es) (e .process) (e .store)
     was = stale-same (reached es) e w (early-feed emptyLog es early-empty first) t
+
+pub votes-without-turns : VotesWithoutTurns
+votes-without-turns es e first vote t = (
+  λ h. let n = vote-exactly l e vote .is-0 .0 h in (n .0, (n .1 .0, (n .1 .1 .0, (n .1 .1 .1 .0, (n .1 .1 .1 .1 .0, tt))))),
+  λ n. vote-exactly l e vote .is-0 .1 (
+    n .0,
+    (n .1 .0, (n .1 .1 .0, (n .1 .1 .1 .0, (n .1 .1 .1 .1 .0, (in-turn l e w early t (n .0) (n .1 .1 .0), tt))))),
+  ),
+)
+  where
+    l : Log
+    l = reached es
+
+    w : Wf (reached es)
+    w = wf-reached es
+
+    early : Early (reached es)
+    early = early-feed emptyLog es early-empty first

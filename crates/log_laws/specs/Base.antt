@@ -10,7 +10,7 @@ use lib.Dec.{eqb, leb}
 use lib.ListN.{getD}
 use Rattle.log_entry.specs.declared.Entry.{Entry}
 use Rattle.log_entry.specs.Bits.{has}
-use Rattle.log_entry.specs.Entry.{illFormed, noProcess}
+use Rattle.log_entry.specs.Entry.{illFormed, noProcess, outside}
 use Rattle.log_entry.specs.Limits.{lists, stores, transactions, updates}
 use Rattle.log_entry.specs.Refusal.{Check, accepted, check, firstRefusal}
 use Rattle.log_votes.specs.declared.Row.{Row}
@@ -25,6 +25,7 @@ use Rattle.log_core.specs.Decide.{commits, effectOf, groupAfter, joins, partsOf
 use Rattle.log_core.specs.Enter.{enter, entered}
 use Rattle.log_core.specs.Log.{emptyLog, groupOf, holderOf, involvementOf, outcomeOf, rowOf}
 use Rattle.log_core.specs.Replay.{replayOf}
+use Rattle.log_laws.specs.Answers.{None, clash, holdsNot, kept}
 use Rattle.log_laws.specs.Cases.{Case, case, casesWith, said}
 use Rattle.log_laws.specs.Conditions.{InLimits, Took}
 use Rattle.log_laws.specs.Reached.{reached}
@@ -161,3 +162,9 @@ TakesWithoutTurns =
     (es : List Entry) (e : Entry) → AllFirst es → e .take ≡ true → e .turn ≡ 1 → InLimits e
     → (enter (reached es) e .answer ≡ accepted)
     ↔ (((s : ℕ) → holderOf (reached es) s ≢ e .process) × ((t : ℕ) → Took es (e .process) t (e .store) → ⊥))
+
+-- And of a vote: it is accepted exactly if 2 and 7 to 10 do not apply. So 12 refuses none.
+abbrev pub VotesWithoutTurns : Type 0
+VotesWithoutTurns =
+    (es : List Entry) (e : Entry) → AllFirst es → e .take ≡ false → e .turn ≡ 1
+    → let l = reached es in (enter l e .answer ≡ accepted) ↔ None (outside e ∷ illFormed e ∷ holdsNot l e ∷ clash l e ∷ kept l e ∷ [])

@@ -36,6 +36,10 @@ abbrev pub HoldsInLastTurn : Type 0
 HoldsInLastTurn =
     (es : List Entry) (process s : ℕ) → 1 ≤ process → holderOf (reached es) s ≡ process → turnOf (reached es) s ≡ latestOf (reached es) process
 
+-- the turns of a process's accepted takes never fall
+abbrev pub LastTurnNeverFalls : Type 0
+LastTurnNeverFalls = (es more : List Entry) (process : ℕ) → latestOf (reached es) process ≤ latestOf (reached (es ++ more)) process
+
 -- a process that held a store in a turn, and by a later log does not hold it in that turn, never
 -- holds it in that turn after that
 abbrev pub LostStoreNeverAgain : Type 0
