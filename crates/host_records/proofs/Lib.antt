@@ -1,3 +1,4 @@
+pub mod Cases
 pub mod LowFirst
 pub mod NumbersLaws
 pub mod ReadLaws

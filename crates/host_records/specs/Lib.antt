@@ -1,3 +1,4 @@
+pub mod Cases
 pub mod Claims
 pub mod Numbers
 pub mod Record
