@@ -3,3 +3,4 @@ pub mod Lengths
 pub mod Texts
 pub mod Theorems
 pub mod PrintedLaws
+pub mod WithoutTurns

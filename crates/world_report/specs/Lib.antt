@@ -1,3 +1,4 @@
+pub mod Claims
 pub mod Coordinators
 pub mod Longest
 pub mod Processes
