@@ -22,7 +22,6 @@ use Rattle.log_laws.specs.Reached.{reached}
 use Rattle.log_laws.proofs.OutcomeClaims.{is-open}
 use Rattle.log_laws.proofs.Replicated.{holders-length}
 use Rattle.log_laws.proofs.Theorems.{holds-at-most-one-store, running-exactly}
-use Rattle.model_steps.specs.declared.Step.{Step}
 use Rattle.model_steps.specs.declared.Step.the-variants.{Follow}
 use Rattle.model_steps.specs.Limits.{coordinators, messages, noCoordinator, outsideStep}
 use Rattle.model_protocol.specs.declared.World.{World}
@@ -32,6 +31,7 @@ use Rattle.model_protocol.specs.World.{coordinatorOf, freshWorld, logOf}
 use Rattle.model_protocol.proofs.Unchanged.{answer-is-refusal}
 use Rattle.model_agreement.specs.FollowRefused.{FollowRefusedExactly, Followable, OtherwiseFine}
 use Rattle.model_agreement.specs.Plain.{allEntries, plainLog}
+use Rattle.model_agreement.proofs.Barred.{barred-exactly}
 use Rattle.model_agreement.proofs.Plain.{held-holder}
 use Rattle.model_agreement.proofs.Theorem.{demand-3}
 
@@ -136,25 +136,9 @@ module _ (w : World) (c p tx : ℕ) (o : OtherwiseFine w c p tx) where
       (le-ltb (messages - w .sent) 1 (omega (arith, o .number-left)))
       ∙ ap (λ (k : ℕ). cond (isOpen (outcomeOf (logOf w k) tx) || leb stores (votingStore (logOf w k) p tx)) notMet accepted) place
 
--- 5 is another number than 0
-chosen : (b : Bool) → cond b notMet accepted ≡ accepted → b ≡ false
-chosen true e = absurd (omega (arith, e))
-chosen false e = refl
-
-chosen-5 : (b : Bool) → cond b notMet accepted ≡ notMet → b ≡ true
-chosen-5 true e = refl
-chosen-5 false e = absurd (omega (arith, e))
-
 pub follow-refused-exactly : FollowRefusedExactly
 unfolding plainLog
-follow-refused-exactly steps c p tx o =
-    record {
-      is-0 = (λ e. can (chosen barred′ (sym answer ∙ e)), λ f. answer ∙ ap (λ b. cond b notMet accepted) (cannot f));
-      is-5 = (
-        λ e f. opposed (chosen-5 barred′ (sym answer ∙ e)) (cannot f),
-        λ n. answer ∙ five barred′ refl n,
-      );
-    }
+follow-refused-exactly steps c p tx o = let r = barred-exactly barred′ _ answer can cannot in record { is-0 = r .0; is-5 = r .1 }
   where
     w : World
     w = run freshWorld steps
@@ -179,7 +163,3 @@ follow-refused-exactly steps c p tx o =
 
     answer : stepOf w (Follow c p tx) .answer ≡ cond barred′ notMet accepted
     answer = answer-is-refusal w (Follow c p tx) ∙ refusal-is w c p tx o
-
-    five : (b : Bool) → barred′ ≡ b → (Followable (logOf w c) p tx → ⊥) → cond b notMet accepted ≡ notMet
-    five true e n = refl
-    five false e n = absurd (n (can e))

@@ -17,6 +17,7 @@ pub mod AllInvariants
 pub mod Collected
 pub mod TakenOver
 pub mod Theorem
+pub mod Barred
 pub mod FollowRefused
 pub mod Limits
 pub mod Cases

@@ -2,7 +2,7 @@
 -- or where the store has no kept commit vote on it." Said of the log, after every list of steps.
 use Prim.Native.Nat.{ℕ, _<_}
 use mathlib.Core.Path.{_≡_}
-use mathlib.Core.Bool.{true, false}
+use mathlib.Core.Bool.{false}
 use mathlib.Core.List.{List}
 use mathlib.Core.Logic.{_↔_, _≢_}
 use Rattle.log_entry.specs.Refusal.{accepted, notMet}
