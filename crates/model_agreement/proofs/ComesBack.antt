@@ -4,7 +4,7 @@ use Prim.Native.Nat.{ℕ, _%_, _≤_}
 use mathlib.Core.Path.{_≡_, refl, sym, ap, _∙_}
 use mathlib.Core.Bool.{Bool, true, false, _||_, not, cond}
 use mathlib.Core.List.{List, [], _∷_}
-use mathlib.Core.Logic.{_↔_}
+use mathlib.Core.Logic.{_↔_, _⊎_, inl, inr}
 use native.Mathlib.Nat.{mod-eq-of-lt}
 use native.Mathlib.Omega.{arith}
 use borrow.Author.Tests.{eqb-false, lt-leb, leb-false, ne-eqb}
@@ -84,6 +84,10 @@ back-refused-exactly steps p t = go (outsideBack p t) refl
     w′ : World
     w′ = run freshWorld steps
 
+    five-or-none : {a : ℕ} (b : Bool) → a ≡ cond b notMet accepted → (a ≡ notMet) ⊎ (a ≡ accepted)
+    five-or-none true is = inl is
+    five-or-none false is = inr is
+
     not-2 : (b : Bool) → cond b notMet accepted ≡ outsideLimits → ⊥
     not-2 true e = omega (arith, e)
     not-2 false e = omega (arith, e)
@@ -92,6 +96,7 @@ back-refused-exactly steps p t = go (outsideBack p t) refl
     go true out =
         let is = answer-outside w′ p t out in
         record {
+          no-other = inl is;
           is-2 = (λ e. out, λ e. is);
           is-5 = (λ e. absurd (omega (arith, is, e)), λ c. absurd (opposed out (c .0)));
           is-0 = (λ e. absurd (omega (arith, is, e)), λ c. absurd (opposed out (c .0)));
@@ -99,6 +104,7 @@ back-refused-exactly steps p t = go (outsideBack p t) refl
     go false within =
         let r = answer-is steps p t within in
         record {
+          no-other = inr (five-or-none (barred w′ p t) (answer-within w′ p t within));
           is-2 = (λ e. absurd (not-2 (barred w′ p t) (sym (answer-within w′ p t within) ∙ e)), λ e. absurd (opposed e within));
           is-5 = (λ e. (within, r .1 .0 e), λ c. r .1 .1 (c .1));
           is-0 = (λ e. (within, r .0 .0 e), λ c. r .0 .1 (c .1));

@@ -6,7 +6,7 @@ use Prim.Native.Nat.{ℕ, _<_}
 use mathlib.Core.Path.{_≡_}
 use mathlib.Core.Bool.{Bool, true, false, _||_}
 use mathlib.Core.List.{List}
-use mathlib.Core.Logic.{_↔_, _≢_}
+use mathlib.Core.Logic.{_↔_, _⊎_, _≢_}
 use Rattle.log_entry.specs.declared.Entry.{Entry}
 use Rattle.log_entry.specs.Entry.{noProcess, noTurn, outside}
 use Rattle.log_entry.specs.Refusal.{accepted, notMet, outsideLimits}
@@ -28,8 +28,9 @@ MayComeBack h process turn = (acceptors h ≢ 0) × (turnNow process h < turn)
 abbrev pub outsideBack : ℕ → ℕ → Bool
 outsideBack process turn = noProcess process || noTurn turn
 
--- the answer is 2, 5 or 0, whoever is down, and however many numbers are left
+-- the answer is 2, 5 or 0, whoever is down, and however many numbers are left: never 3 or 6
 pub record BackAnswers (w : World) (h : List Event) (process turn : ℕ) : Type 0 where
+  pub no-other : let a = stepOf w (Back process turn) .answer in (a ≡ outsideLimits) ⊎ ((a ≡ notMet) ⊎ (a ≡ accepted))
   pub is-2 : (stepOf w (Back process turn) .answer ≡ outsideLimits) ↔ (outsideBack process turn ≡ true)
   pub is-5 : (stepOf w (Back process turn) .answer ≡ notMet) ↔ ((outsideBack process turn ≡ false) × (MayComeBack h process turn → ⊥))
   pub is-0 : (stepOf w (Back process turn) .answer ≡ accepted) ↔ ((outsideBack process turn ≡ false) × MayComeBack h process turn)
