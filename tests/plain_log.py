@@ -97,10 +97,12 @@ class Log:
         return "open"
 
     def involvement(self, tx, store):
+        """Where a commit vote is kept, its list alone says yes or no."""
         votes = self.votes(tx)
-        if any(store in v.stores for v in votes):
-            return "yes"
-        return "no" if any(v.commit for v in votes) else "unknown"
+        for v in votes:
+            if v.commit:
+                return "yes" if store in v.stores else "no"
+        return "yes" if any(store in v.stores for v in votes) else "unknown"
 
     def running(self):
         """The transactions that run."""

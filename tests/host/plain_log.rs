@@ -303,12 +303,12 @@ impl Log {
 
     /// 0 no, 1 yes, 2 unknown.
     pub fn involvement(&self, tx: u8, store: u8) -> u8 {
-        let row = &self.votes[tx as usize];
-        if row.iter().flatten().any(|v| has(v.list, store)) {
-            return 1;
+        let votes = || self.votes[tx as usize].iter().flatten();
+        if let Some(v) = votes().find(|v| v.commit) {
+            return has(v.list, store) as u8;
         }
-        if row.iter().flatten().any(|v| v.commit) {
-            return 0;
+        if votes().any(|v| has(v.list, store)) {
+            return 1;
         }
         2
     }

@@ -9,14 +9,14 @@ use Rattle.log_votes.specs.Involvement.{involvementOfVotes}
 use Rattle.log_core.specs.Log.{emptyLog}
 use Rattle.log_core.specs.Refusal.{wrongTurn}
 use Rattle.log_votes.specs.Outcome.{outcomeOfVotes, running}
-use Rattle.log_votes.specs.Scan.{allFrom, anyFrom, setOf}
-use Rattle.log_laws.specs.Base.{BaseCasesHold, baseAnswersTo, baseEnter, baseFeed, baseOutside, baseRefusal}
+use Rattle.log_votes.specs.Scan.{allFrom, anyFrom, firstOf, setOf}
+use Rattle.log_laws.specs.Base.{BaseCasesHold, baseAnswersTo, baseEnter, baseFeed, baseInvolvementOf, baseOutside, baseRefusal}
 use Rattle.log_laws.specs.Cases.{CasesHold, casesWith}
 
 pub table-holds : CasesHold
-unfolding casesWith answersTo feed enter entered stored effectOf refusal firstRefusal wrongTurn outside illFormed remembered setOf running outcomeOfVotes involvementOfVotes anyFrom allFrom emptyLog
+unfolding casesWith answersTo feed enter entered stored effectOf refusal firstRefusal wrongTurn outside illFormed remembered setOf running outcomeOfVotes involvementOfVotes anyFrom allFrom firstOf emptyLog
 table-holds = refl
 
 pub base-table-holds : BaseCasesHold
-unfolding casesWith baseAnswersTo baseFeed baseEnter entered stored baseRefusal firstRefusal baseOutside illFormed remembered setOf running outcomeOfVotes involvementOfVotes anyFrom allFrom emptyLog
+unfolding casesWith baseAnswersTo baseFeed baseEnter entered stored baseRefusal firstRefusal baseOutside illFormed remembered setOf running outcomeOfVotes baseInvolvementOf anyFrom allFrom emptyLog
 base-table-holds = refl

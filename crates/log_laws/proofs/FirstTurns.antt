@@ -18,7 +18,8 @@ use Rattle.log_core.proofs.EnterLaws.{refusalOf}
 use Rattle.log_core.specs.Log.{heldBefore, holderOf, latestOf, rowOf, turnOf}
 use Rattle.log_core.specs.Refusal as take-refusals
 use Rattle.log_laws.specs.Answers.{None, another, clash, holdsNot, kept, otherTurn, stale}
-use Rattle.log_laws.specs.Base.{TakeAgrees, baseAnswer, baseOutside, baseRefusal, baseTakeChecks, baseVoteChecks, holdsSome, isHolder}
+use Rattle.log_laws.specs.Base.{baseAnswer, baseOutside, baseRefusal, baseTakeChecks, baseVoteChecks, holdsSome, isHolder}
+use Rattle.log_laws.specs.WithoutTurns.{TakeAgrees}
 use Rattle.log_laws.proofs.Accepted.{process-from-1, take-refusal, vote-refusal}
 use Rattle.log_laws.proofs.Answers.{conditions}
 use Rattle.log_laws.proofs.Scans.{any-here, found}

@@ -1,49 +1,82 @@
 -- Involvement, by the kept votes.
 use Prim.Native.Nat.{ℕ}
-use mathlib.Core.Path.{_≡_, refl, ap}
-use mathlib.Core.Bool.{Bool, true, false, cond, true≢false, false≢true}
-use mathlib.Core.Logic.{_↔_}
+use mathlib.Core.Path.{_≡_, refl, sym, ap, ap₂, _∙_}
+use mathlib.Core.Bool.{Bool, true, false, _&&_, cond, true≢false, false≢true}
+use mathlib.Core.List.{_++_}
+use mathlib.Core.Logic.{_⊎_, _≢_, inl, inr, ⊎-elim}
 use Rattle.log_entry.specs.Bits.{has}
 use Rattle.log_votes.specs.declared.Involvement.{Involvement}
 use Rattle.log_votes.specs.declared.Involvement.the-variants.{No, Unknown, Yes}
+use Rattle.log_votes.specs.declared.Vote.{Vote}
 use Rattle.log_core.specs.declared.Log.{Log}
-use Rattle.log_votes.specs.Involvement.{anyCommit, anyListing, involvementOfVotes, isListing}
-use Rattle.log_votes.specs.Row.{noVote}
-use Rattle.log_core.specs.Log.{rowOf, voteAt}
+use Rattle.log_votes.specs.Involvement.{anyListing, involvementOfVotes, isListing}
 use Rattle.log_votes.specs.Outcome.{isCommit}
-use Rattle.log_laws.specs.Involvement.{InvolvementExactly, SomeCommitKept, SomeVoteLists}
+use Rattle.log_votes.specs.Row.{noVote}
+use Rattle.log_votes.specs.Scan.{anyFrom}
+use Rattle.log_core.specs.Log.{involvementOf, rowOf, voteAt}
+use Rattle.log_laws.specs.Involvement.{AbortLists, InvolvementExactly, InvolvementStays, Involved, SomeCommitKept}
+use Rattle.log_laws.specs.Reached.{reached}
+use Rattle.log_laws.specs.Votes.{KeptCommit, Listed}
 use Rattle.log_laws.proofs.Outcomes.{kept-in}
-use Rattle.log_laws.proofs.Scans.{any-here, found}
-use Rattle.log_entry.proofs.Tests.{and-left, and-right, both, is-false, opposed}
+use Rattle.log_laws.proofs.Scans.{any-here, first-missing, first-passes, found}
+use Rattle.log_laws.proofs.Stays.{commit-stays, one-list-named, vote-stays}
+use Rattle.log_entry.proofs.Tests.{and-left, and-right, both, either, is-false, opposed}
 
--- ---- the two tests, by the kept votes
+-- all kept commit votes of tx name one list
+abbrev pub OneList : Log → ℕ → Type 0
+OneList l tx = (s t : ℕ) → KeptCommit l tx s → KeptCommit l tx t → voteAt l tx s .participants ≡ voteAt l tx t .participants
+
+-- ---- the scans, by the kept votes
 
 module _ (l : Log) (tx : ℕ) where
-  lists : (store : ℕ) → anyListing store (rowOf l tx .votes) ≡ true → SomeVoteLists l tx store
+  pub lists : (store : ℕ) → anyListing store (rowOf l tx .votes) ≡ true → (s : ℕ) × Listed l tx s store
   lists store h =
       let r = found (isListing store) noVote (rowOf l tx .votes) h in
       let v = voteAt l tx (r .0) in
       (r .0, (and-left (v .kept) (has (v .participants) store) (r .2), and-right (v .kept) (has (v .participants) store) (r .2)))
 
-  listed : (store : ℕ) → SomeVoteLists l tx store → anyListing store (rowOf l tx .votes) ≡ true
-  listed store t =
-      let v = voteAt l tx (t .0) in
-      any-here (isListing store) noVote (rowOf l tx .votes) (t .0) (kept-in (rowOf l tx .votes) (t .0) (t .1 .0))
-      (both (v .kept) (has (v .participants) store) (t .1 .0) (t .1 .1))
+  pub listed : (store s : ℕ) → Listed l tx s store → anyListing store (rowOf l tx .votes) ≡ true
+  listed store s t =
+      let v = voteAt l tx s in
+      any-here (isListing store) noVote (rowOf l tx .votes) s (kept-in (rowOf l tx .votes) s (t .0)) (both (v .kept) (has (v .participants) store) (t .0) (t .1))
 
-  commits : anyCommit (rowOf l tx .votes) ≡ true → SomeCommitKept l tx
-  commits h =
-      let r = found isCommit noVote (rowOf l tx .votes) h in
-      let v = voteAt l tx (r .0) in
-      (r .0, (and-left (v .kept) (v .commit) (r .2), and-right (v .kept) (v .commit) (r .2)))
+  commits-at : (s : ℕ) → isCommit s (voteAt l tx s) ≡ true → KeptCommit l tx s
+  commits-at s h = let v = voteAt l tx s in (and-left (v .kept) (v .commit) h, and-right (v .kept) (v .commit) h)
 
-  committed : SomeCommitKept l tx → anyCommit (rowOf l tx .votes) ≡ true
+  pub commits : anyFrom isCommit 0 (rowOf l tx .votes) ≡ true → SomeCommitKept l tx
+  commits h = let r = found isCommit noVote (rowOf l tx .votes) h in (r .0, commits-at (r .0) (r .2))
+
+  pub committed : SomeCommitKept l tx → anyFrom isCommit 0 (rowOf l tx .votes) ≡ true
   committed t =
       let v = voteAt l tx (t .0) in
-      any-here isCommit noVote (rowOf l tx .votes) (t .0) (kept-in (rowOf l tx .votes) (t .0) (t .1 .0))
-      (both (v .kept) (v .commit) (t .1 .0) (t .1 .1))
+      any-here isCommit noVote (rowOf l tx .votes) (t .0) (kept-in (rowOf l tx .votes) (t .0) (t .1 .0)) (both (v .kept) (v .commit) (t .1 .0) (t .1 .1))
 
--- ---- which of the three, by the two tests
+  pub commit-or-none : SomeCommitKept l tx ⊎ (SomeCommitKept l tx → ⊥)
+  commit-or-none = ⊎-elim (λ h. inl (commits h)) (λ h. inr (λ t. opposed (committed t) h)) (either (anyFrom isCommit 0 (rowOf l tx .votes)))
+
+  -- ---- the answer where a commit vote is kept, and where none is
+
+  by-vote : ℕ → Vote → Involvement
+  by-vote store v = cond (v .kept) (cond (has (v .participants) store) Yes No) (cond (anyListing store (rowOf l tx .votes)) Yes Unknown)
+
+  pub by-commit : OneList l tx → (store s : ℕ) → KeptCommit l tx s → involvementOf l tx store ≡ cond (has (voteAt l tx s .participants) store) Yes No
+  unfolding involvementOfVotes by-vote
+  by-commit one store s k =
+      let first = first-passes (λ (v : Vote). v .kept && v .commit) noVote (rowOf l tx .votes) s (kept-in (rowOf l tx .votes) s (k .0)) (both (voteAt l tx s .kept) (voteAt l tx s .commit) (k .0) (k .1)) in
+      let c : KeptCommit l tx (first .0) = commits-at (first .0) (first .2) in
+      ap (by-vote store) (first .1)
+      ∙ ap₂ (λ (kept : Bool) (list : ℕ). cond kept (cond (has list store) Yes No) (cond (anyListing store (rowOf l tx .votes)) Yes Unknown)) (c .0) (one (first .0) s c k)
+
+  pub without-commit : (store : ℕ) → (SomeCommitKept l tx → ⊥) → involvementOf l tx store ≡ cond (anyListing store (rowOf l tx .votes)) Yes Unknown
+  unfolding involvementOfVotes by-vote
+  without-commit store none =
+      ap (by-vote store) (first-missing (λ (v : Vote). v .kept && v .commit) noVote (rowOf l tx .votes) (λ s b h. none (s, commits-at s h)))
+
+  -- then a kept vote is an abort
+  pub abort-lists : (store s : ℕ) → (KeptCommit l tx s → ⊥) → Listed l tx s store → AbortLists l tx store
+  abort-lists store s none t = (s, (t .0, is-false (voteAt l tx s .commit) (λ c. none (t .0, c))), t .1)
+
+-- ---- which of the three
 
 abbrev isYes : Involvement → Bool
 isYes No = false
@@ -55,38 +88,71 @@ isNo No = true
 isNo Yes = false
 isNo Unknown = false
 
-yes-by : (a c : Bool) → (cond a Yes (cond c No Unknown) ≡ Yes) ↔ (a ≡ true)
-yes-by true c = (λ e. refl, λ e. refl)
-yes-by false true = (λ e. ap isYes e, λ e. absurd (false≢true e))
-yes-by false false = (λ e. ap isYes e, λ e. absurd (false≢true e))
+yes-by : (b : Bool) (other : Involvement) → isYes other ≡ false → cond b Yes other ≡ Yes → b ≡ true
+yes-by true other n e = refl
+yes-by false other n e = absurd (opposed (ap isYes e) n)
 
-no-by : (a c : Bool) → (cond a Yes (cond c No Unknown) ≡ No) ↔ ((a ≡ false) × (c ≡ true))
-no-by true c = (λ e. absurd (false≢true (ap isNo e)), λ e. absurd (true≢false (e .0)))
-no-by false true = (λ e. (refl, refl), λ e. refl)
-no-by false false = (λ e. absurd (false≢true (ap isNo e)), λ e. absurd (false≢true (e .1)))
+other-by : (b : Bool) (other : Involvement) → isYes other ≡ false → cond b Yes other ≡ other → b ≡ false
+other-by true other n e = absurd (opposed (ap isYes (sym e)) n)
+other-by false other n e = refl
 
-unknown-by : (a c : Bool) → (cond a Yes (cond c No Unknown) ≡ Unknown) ↔ ((a ≡ false) × (c ≡ false))
-unknown-by true c = (λ e. absurd (true≢false (ap isYes e)), λ e. absurd (true≢false (e .0)))
-unknown-by false true = (λ e. absurd (true≢false (ap isNo e)), λ e. absurd (true≢false (e .1)))
-unknown-by false false = (λ e. (refl, refl), λ e. refl)
+never : (b : Bool) (other third : Involvement) → isYes third ≡ false → isNo other ≢ isNo third → cond b Yes other ≡ third → ⊥
+never true other third n d e = opposed (ap isYes (sym e)) n
+never false other third n d e = d (ap isNo e)
+
+-- ---- the claims
+
+module _ (l : Log) (tx store : ℕ) (one : OneList l tx) where
+  with-commit : SomeCommitKept l tx → Involved l tx store
+  with-commit c = record {
+    by-list = by-commit l tx one store;
+    is-yes = (
+      λ e. inl (c .0, c .1, yes-by (has list store) No refl (sym answer ∙ e)),
+      ⊎-elim (λ t. by-commit l tx one store (t .0) (t .1) ∙ ap (λ (b : Bool). cond b Yes No) (t .2)) (λ t. absurd (t .0 c)),
+    );
+    is-no = (
+      λ e. (c .0, c .1, other-by (has list store) No refl (sym answer ∙ e)),
+      λ t. by-commit l tx one store (t .0) (t .1) ∙ ap (λ (b : Bool). cond b Yes No) (t .2),
+    );
+    is-unknown = (λ e. absurd (never (has list store) No Unknown refl true≢false (sym answer ∙ e)), λ t. absurd (t .0 c));
+  }
+    where
+      list : ℕ
+      list = voteAt l tx (c .0) .participants
+
+      answer : involvementOf l tx store ≡ cond (has list store) Yes No
+      answer = by-commit l tx one store (c .0) (c .1)
+
+  with-none : (SomeCommitKept l tx → ⊥) → Involved l tx store
+  with-none none = record {
+    by-list = λ s k. absurd (none (s, k));
+    is-yes = (
+      λ e. let t = lists l tx store (yes-by any Unknown refl (sym answer ∙ e)) in inr (none, abort-lists l tx store (t .0) (λ k. none (t .0, k)) (t .1)),
+      ⊎-elim (λ t. absurd (none (t .0, t .1))) (λ t. answer ∙ ap (λ (b : Bool). cond b Yes Unknown) (by-abort (t .1))),
+    );
+    is-no = (λ e. absurd (never any Unknown No refl false≢true (sym answer ∙ e)), λ t. absurd (none (t .0, t .1)));
+    is-unknown = (
+      λ e. (none, λ t. opposed (by-abort t) (other-by any Unknown refl (sym answer ∙ e))),
+      λ t. answer ∙ ap (λ (b : Bool). cond b Yes Unknown) (is-false any (λ h. let r = lists l tx store h in t .1 (abort-lists l tx store (r .0) (λ k. none (r .0, k)) (r .1)))),
+    );
+  }
+    where
+      any : Bool
+      any = anyListing store (rowOf l tx .votes)
+
+      answer : involvementOf l tx store ≡ cond any Yes Unknown
+      answer = without-commit l tx store none
+
+      by-abort : AbortLists l tx store → any ≡ true
+      by-abort t = listed l tx store (t .0) (t .1 .0, t .2)
 
 pub involvement-by-votes : InvolvementExactly
-unfolding involvementOfVotes
-involvement-by-votes l tx store =
-    record {
-      is-yes = (λ e. lists l tx store (yes-by a c .0 e), λ t. yes-by a c .1 (listed l tx store t));
-      is-no = (
-        λ e. let r = no-by a c .0 e in (λ t. opposed (listed l tx store t) (r .0), commits l tx (r .1)),
-        λ t. no-by a c .1 (is-false a (λ e. t .0 (lists l tx store e)), committed l tx (t .1)),
-      );
-      is-unknown = (
-        λ e. let r = unknown-by a c .0 e in (λ t. opposed (listed l tx store t) (r .0), λ t. opposed (committed l tx t) (r .1)),
-        λ t. unknown-by a c .1 (is-false a (λ e. t .0 (lists l tx store e)), is-false c (λ e. t .1 (commits l tx e))),
-      );
-    }
-  where
-    a : Bool
-    a = anyListing store (rowOf l tx .votes)
+involvement-by-votes es tx store =
+    let one = one-list-named es tx in
+    ⊎-elim (with-commit (reached es) tx store one) (with-none (reached es) tx store one) (commit-or-none (reached es) tx)
 
-    c : Bool
-    c = anyCommit (rowOf l tx .votes)
+pub answer-stays : InvolvementStays
+answer-stays es more tx store c =
+    by-commit (reached (es ++ more)) tx (one-list-named (es ++ more) tx) store (c .0) (commit-stays es more tx (c .0) (c .1))
+    ∙ ap (λ (v : Vote). cond (has (v .participants) store) Yes No) (vote-stays es more tx (c .0) (c .1 .0))
+    ∙ sym (by-commit (reached es) tx (one-list-named es tx) store (c .0) (c .1))

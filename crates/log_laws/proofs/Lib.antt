@@ -13,6 +13,7 @@ pub mod GroupClaims
 pub mod GroupSteps
 pub mod Grouping
 pub mod Holding
+pub mod InvolvementChanges
 pub mod InvolvementClaims
 pub mod LastGroup
 pub mod LastTakes

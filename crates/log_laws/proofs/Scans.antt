@@ -1,11 +1,11 @@
 -- What a scan's answer tells of the elements, and the other way round.
 use Prim.Native.Nat.{ℕ, zero, suc, _+_, _<_}
-use mathlib.Core.Path.{_≡_, refl, subst}
-use mathlib.Core.Bool.{Bool, true, false, _||_, false≢true}
+use mathlib.Core.Path.{_≡_, refl, subst, ap, _∙_}
+use mathlib.Core.Bool.{Bool, true, false, _||_, cond, false≢true}
 use mathlib.Core.List.{List, [], _∷_}
 use native.Mathlib.Omega.{arith}
 use lib.ListN.{getD, length}
-use Rattle.log_votes.specs.Scan.{anyFrom, allFrom}
+use Rattle.log_votes.specs.Scan.{allFrom, anyFrom, firstOf}
 use Rattle.log_entry.proofs.Tests.{and-left, and-right, both, is-false, opposed, or-left, or-right}
 
 module _ {A : Type 0} (f : ℕ → A → Bool) (d : A) where
@@ -80,3 +80,24 @@ module _ {A : Type 0} (f : ℕ → A → Bool) (d : A) where
 
   pub all-here : (xs : List A) → ((k : ℕ) → k < length xs → f k (getD xs k d) ≡ true) → allFrom f 0 xs ≡ true
   all-here xs h = all-from 0 xs (λ k b. from-front k (getD xs k d) (h k b))
+
+module _ {A : Type 0} (f : A → Bool) (d : A) where
+  -- some element passes, so the first does
+  pub first-passes : (xs : List A) (k : ℕ) → k < length xs → f (getD xs k d) ≡ true
+      → (j : ℕ) × (firstOf f d xs ≡ getD xs j d) × (f (getD xs j d) ≡ true)
+  unfolding firstOf
+  first-passes [] k h e = absurd (let z : ⊥ = omega arith in z)
+  first-passes (x ∷ xs) zero h e = (0, ap (λ (b : Bool). cond b x (firstOf f d xs)) e, e)
+  first-passes (x ∷ xs) (suc k) h e = split (f x) refl (first-passes xs k (omega arith) e)
+    where
+      split : (t : Bool) → f x ≡ t → ((j : ℕ) × (firstOf f d xs ≡ getD xs j d) × (f (getD xs j d) ≡ true))
+          → (j : ℕ) × (cond (f x) x (firstOf f d xs) ≡ getD (x ∷ xs) j d) × (f (getD (x ∷ xs) j d) ≡ true)
+      split true p rest = (0, ap (λ (b : Bool). cond b x (firstOf f d xs)) p, p)
+      split false p rest = (suc (rest .0), ap (λ (b : Bool). cond b x (firstOf f d xs)) p ∙ rest .1, rest .2)
+
+  pub first-missing : (xs : List A) → ((k : ℕ) → k < length xs → f (getD xs k d) ≡ true → ⊥) → firstOf f d xs ≡ d
+  unfolding firstOf
+  first-missing [] none = refl
+  first-missing (x ∷ xs) none =
+      ap (λ (b : Bool). cond b x (firstOf f d xs)) (is-false (f x) (none 0 (omega arith)))
+      ∙ first-missing xs (λ k h. none (suc k) (omega arith))

@@ -2,7 +2,7 @@
 use Prim.Native.Nat.{ℕ}
 use mathlib.Core.Path.{_≡_, refl, sym, ap, _∙_}
 use mathlib.Core.Bool.{true, not}
-use mathlib.Core.List.{List}
+use mathlib.Core.List.{List, _++_}
 use mathlib.Core.Logic.{_≢_}
 use Rattle.log_entry.specs.declared.Entry.{Entry}
 use Rattle.log_core.specs.declared.Log.{Log}
@@ -16,7 +16,7 @@ use Rattle.log_core.specs.Log.{emptyLog, rowOf, voteAt, outcomeOf}
 use Rattle.log_votes.specs.Outcome.{isAbort, isCommitted, outcomeOfVotes}
 use Rattle.log_votes.specs.Row.{voteOfStore}
 use Rattle.log_laws.specs.Reached.{reached}
-use Rattle.log_laws.specs.Votes.{CommitVotesNameOneList, CommittedKeepsNoVote, CommittedRowStays, KeptVoteStays, OutcomeNeverChanges}
+use Rattle.log_laws.specs.Votes.{CommitVotesNameOneList, CommittedKeepsNoVote, CommittedRowStays, KeptCommit, KeptVoteStays, OutcomeNeverChanges}
 use Rattle.log_laws.proofs.Accepted.{vote-ok}
 use Rattle.log_laws.proofs.Feed.{feed-append, later, wf-reached}
 use Rattle.log_laws.proofs.Outcomes.{aborted-by, aborted-of}
@@ -26,10 +26,10 @@ use Rattle.log_entry.proofs.Tests.{and-left, both, opposed}
 use Rattle.log_laws.proofs.WellFormed.{Wf, feed-keeps}
 
 -- this vote is kept there
-abbrev Stands : ℕ → ℕ → Vote → Log → Type 0
+abbrev pub Stands : ℕ → ℕ → Vote → Log → Type 0
 Stands tx s v l = (v .kept ≡ true) × (voteAt l tx s ≡ v)
 
-stands-enter : (tx s : ℕ) (v : Vote) (l : Log) (e : Entry) → Wf l → Stands tx s v l → Stands tx s v (enter l e .log)
+pub stands-enter : (tx s : ℕ) (v : Vote) (l : Log) (e : Entry) → Wf l → Stands tx s v l → Stands tx s v (enter l e .log)
 stands-enter tx s v l e w h = (
   h .0,
   row-cases (λ (r : Row). voteOfStore s r ≡ v) l e tx (h .1)
@@ -40,6 +40,11 @@ stands-enter tx s v l e w h = (
 
 pub vote-stays : KeptVoteStays
 vote-stays es more tx s k = later (Stands tx s (voteAt (reached es) tx s)) (stands-enter tx s (voteAt (reached es) tx s)) es more (k, refl) .1
+
+pub commit-stays : (es more : List Entry) (tx s : ℕ) → KeptCommit (reached es) tx s → KeptCommit (reached (es ++ more)) tx s
+commit-stays es more tx s k =
+    let stays = vote-stays es more tx s (k .0) in
+    (ap (λ (v : Vote). v .kept) stays ∙ k .0, ap (λ (v : Vote). v .commit) stays ∙ k .1)
 
 -- this row is committed
 abbrev Settled : ℕ → Row → Log → Type 0

@@ -1,15 +1,16 @@
 -- The theorems about the definitions of the commit log; specs/ has what each claims.
 use Rattle.log_laws.specs.Answers.{RefusedEntryChangesNothing, TakeAnswerExactly, VoteAnswerExactly}
-use Rattle.log_laws.specs.Base.{BaseCasesHold, BaseReadsNoTurn, OnlyRefusalsDiffer, TakesWithoutTurns, VotesWithoutTurns, WithoutTurns}
+use Rattle.log_laws.specs.Base.{BaseCasesHold, BaseReadsNoTurn, OnlyRefusalsDiffer}
 use Rattle.log_laws.specs.Cases.{CasesHold}
 use Rattle.log_laws.specs.Changes.{TakeChangesOnly, VoteChangesOnly}
 use Rattle.log_laws.specs.Conditions.{ClashExactly, HeldBeforeExactly, HoldsAnotherExactly, HoldsNotExactly, IllFormedExactly, LatestExactly, OtherTurnExactly, OutsideExactly, StaleExactly}
 use Rattle.log_laws.specs.Groups.{BegunByCommit, FirstCommitBegins, GroupAtCommit, GroupIffCommitted, GroupNeverChanges, GroupsWithoutGaps, JoinsIfRunningWhenBegun, LastGroupWasBegun, RememberedNeverChanges, GroupRemembersRunning}
 use Rattle.log_laws.specs.Holders.{AcceptedTakeHolds, HoldsAtMostOneStore, HoldsInLastTurn, LastTurnNeverFalls, LostStoreNeverAgain, NoEarlierTurnKept}
-use Rattle.log_laws.specs.Involvement.{InvolvementExactly}
+use Rattle.log_laws.specs.Involvement.{ChangedAreAborted, GuessedBefore, InvolvementChangesExactly, InvolvementExactly, InvolvementStays}
 use Rattle.log_laws.specs.Replays.{ReplayListsExactly, ReplayListsOnce, ReplayOrdered}
 use Rattle.log_laws.specs.TakenOver.{AwaitedExactly, LostStoreVotesNoMore, ReplayedOrAwaited, RowStaysCommitted}
 use Rattle.log_laws.specs.Votes.{AcceptedVoteIsKept, CommitVotesNameOneList, CommittedKeepsNoVote, CommittedRowStays, KeptVoteStays, OutcomeAbortIff, OutcomeCommitIff, OutcomeNeverChanges, RunningExactly}
+use Rattle.log_laws.specs.WithoutTurns.{TakesWithoutTurns, VotesWithoutTurns, WithoutTurns}
 use Rattle.log_laws.proofs.AcceptedClaims.{take-holds, vote-is-kept}
 use Rattle.log_laws.proofs.AnswerClaims.{refused-same, take-exactly, vote-exactly}
 use Rattle.log_laws.proofs.CaseTable.{base-table-holds, table-holds}
@@ -17,7 +18,8 @@ use Rattle.log_laws.proofs.ChangeClaims.{only-holder, only-vote}
 use Rattle.log_laws.proofs.CommitIff.{commit-iff}
 use Rattle.log_laws.proofs.ConditionClaims.{another-by-holders, clash-by-lists, holds-not-by-holder, ill-formed-by-values, other-turn-by-turn, outside-by-limits, stale-by-takes}
 use Rattle.log_laws.proofs.GroupClaims.{at-commit, by-commit, first-begins, iff-committed, joins-if-running, never-changes, without-gaps}
-use Rattle.log_laws.proofs.InvolvementClaims.{involvement-by-votes}
+use Rattle.log_laws.proofs.InvolvementChanges.{changed-aborted, changes-exactly, guessed-earlier}
+use Rattle.log_laws.proofs.InvolvementClaims.{answer-stays, involvement-by-votes}
 use Rattle.log_laws.proofs.LastGroup.{was-begun}
 use Rattle.log_laws.proofs.LastTakes
 use Rattle.log_laws.proofs.Lost.{last-turn, never-again, never-falls, no-earlier, one-store}
@@ -58,6 +60,18 @@ commit-votes-name-one-list = one-list-named
 
 pub involvement-exactly : InvolvementExactly
 involvement-exactly = involvement-by-votes
+
+pub involvement-stays : InvolvementStays
+involvement-stays = answer-stays
+
+pub involvement-changes-exactly : InvolvementChangesExactly
+involvement-changes-exactly = changes-exactly
+
+pub changed-are-aborted : ChangedAreAborted
+changed-are-aborted = changed-aborted
+
+pub guessed-before : GuessedBefore
+guessed-before = guessed-earlier
 
 pub accepted-take-holds : AcceptedTakeHolds
 accepted-take-holds = take-holds

@@ -1,6 +1,6 @@
 -- Entries of turn 1 alone: the log is that of document 01.
 use Prim.Native.Nat.{ℕ, _≤_}
-use mathlib.Core.Path.{_≡_, refl, sym, ap, ap₂, subst₂, _∙_}
+use mathlib.Core.Path.{_≡_, refl, sym, ap, ap₂, subst, subst₂, _∙_}
 use mathlib.Core.Bool.{Bool, true, false, cond}
 use mathlib.Core.List.{List, [], _∷_}
 use mathlib.Core.Logic.{_↔_}
@@ -19,15 +19,18 @@ use Rattle.log_core.specs.Enter.{enter, entered, feed, stored}
 use Rattle.log_core.specs.Log.{emptyLog, groupOf, heldBefore, holderOf, involvementOf, outcomeOf}
 use Rattle.log_core.specs.Replay.{replayOf}
 use Rattle.log_laws.specs.Answers.{stale}
-use Rattle.log_laws.specs.Base.{AllFirst, BaseReadsNoTurn, OnlyRefusalsDiffer, TakeAgrees, TakesWithoutTurns, VotesWithoutTurns, WithoutTurns, baseAnswer, baseEnter, baseFeed, baseOutside, baseReached, baseRefusal, effectBy}
+use Rattle.log_laws.specs.Base.{BaseReadsNoTurn, OnlyRefusalsDiffer, baseAnswer, baseEnter, baseFeed, baseInvolvementOf, baseOutside, baseReached, baseRefusal, effectBy}
 use Rattle.log_laws.specs.Conditions.{Took}
+use Rattle.log_laws.specs.Involvement.{ChangesExactly}
 use Rattle.log_laws.specs.Reached.{reached}
+use Rattle.log_laws.specs.WithoutTurns.{AllFirst, TakeAgrees, TakesWithoutTurns, VotesWithoutTurns, WithoutTurns}
 use Rattle.log_laws.proofs.Accepted.{process-from-1}
 use Rattle.log_laws.proofs.AnswerClaims.{take-exactly, vote-exactly}
 use Rattle.log_laws.proofs.ConditionClaims.{another-by-holders, outside-by-limits}
 use Rattle.log_laws.proofs.EmptyRows.{replicate-cases}
 use Rattle.log_laws.proofs.Feed.{wf-reached}
 use Rattle.log_laws.proofs.FirstTurns.{Early, accepts-same, in-turn, same-test, stale-same, takes-agree, votes-same}
+use Rattle.log_laws.proofs.InvolvementChanges.{changes-exactly}
 use Rattle.log_laws.proofs.Places.{set-either}
 use Rattle.log_laws.proofs.Steps.{Holders, holder-cases}
 use Rattle.log_laws.proofs.TakenBefore.{held-exactly}
@@ -103,7 +106,7 @@ without-turns es first = record {
   same = same;
   outcome = λ tx. ap (λ (l : Log). outcomeOf l tx) same;
   group = λ tx. ap (λ (l : Log). groupOf l tx) same;
-  involvement = λ tx store. ap (λ (l : Log). involvementOf l tx store) same;
+  involvement = λ tx store. subst (λ (l : Log). ChangesExactly (reached es) tx store (baseInvolvementOf l tx store) (involvementOf (reached es) tx store)) same (changes-exactly es tx store);
   holder = λ store. ap (λ (l : Log). holderOf l store) same;
   replay = λ store. ap (λ (l : Log). replayOf l store) same;
   accepts = λ e t. subst₂ (λ (m n : ℕ). (m ≡ accepted) ↔ (n ≡ accepted)) (now e) (base e) (accepts-same (reached es) e w early t);

@@ -1,19 +1,21 @@
--- Document 02: "A log without turns accepts just what it did." The log of document 01 stands here
--- for comparison. Its refusals are written from that document, and read no turn. What is accepted
--- is stored as `log_core` does it, so only the refusals differ.
+-- The log of document 01, for comparison. Its refusals are written from that document, and read no
+-- turn. So is who is involved. What is accepted is stored as `log_core` does it.
 use Prim.Native.Nat.{ℕ}
 use mathlib.Core.Path.{_≡_}
-use mathlib.Core.Bool.{Bool, true, false, _&&_, _||_, not, cond}
+use mathlib.Core.Bool.{Bool, _&&_, _||_, not, cond}
 use mathlib.Core.List.{List, [], _∷_, map}
-use mathlib.Core.Logic.{_↔_, _⊎_, _≢_}
 use lib.Dec.{eqb, leb}
 use lib.ListN.{getD}
 use Rattle.log_entry.specs.declared.Entry.{Entry}
 use Rattle.log_entry.specs.Bits.{has}
-use Rattle.log_entry.specs.Entry.{illFormed, noProcess, outside}
+use Rattle.log_entry.specs.Entry.{illFormed, noProcess}
 use Rattle.log_entry.specs.Limits.{lists, stores, transactions, updates}
 use Rattle.log_entry.specs.Refusal.{Check, accepted, check, firstRefusal}
+use Rattle.log_votes.specs.declared.Involvement.{Involvement}
+use Rattle.log_votes.specs.declared.Involvement.the-variants.{No, Unknown, Yes}
 use Rattle.log_votes.specs.declared.Row.{Row}
+use Rattle.log_votes.specs.Involvement.{anyListing}
+use Rattle.log_votes.specs.Outcome.{isCommit}
 use Rattle.log_votes.specs.Refusal.{anyClash}
 use Rattle.log_votes.specs.Row.{voteOfStore}
 use Rattle.log_votes.specs.Scan.{anyFrom}
@@ -22,15 +24,9 @@ use Rattle.log_core.specs.declared.Entered.{Entered}
 use Rattle.log_core.specs.declared.Log.{Log}
 use Rattle.log_core.specs.declared.Parts.{Parts}
 use Rattle.log_core.specs.Decide.{commits, effectOf, groupAfter, joins, partsOf, refusal, runsOn}
-use Rattle.log_core.specs.Enter.{enter, entered}
-use Rattle.log_core.specs.Log.{emptyLog, groupOf, holderOf, involvementOf, outcomeOf, rowOf}
-use Rattle.log_core.specs.Replay.{replayOf}
-use Rattle.log_laws.specs.Answers.{None, clash, holdsNot, kept}
-use Rattle.log_laws.specs.Cases.{Case, case, casesWith, said}
-use Rattle.log_laws.specs.Conditions.{InLimits, Took}
-use Rattle.log_laws.specs.Reached.{reached}
-
--- ---- the log of document 01
+use Rattle.log_core.specs.Enter.{entered}
+use Rattle.log_core.specs.Log.{emptyLog, rowOf}
+use Rattle.log_laws.specs.Cases.{Case, case, casesWith, saidBy}
 
 -- 2: "a number outside its limits"; a take has a process and a store, a vote all. Updates are as
 -- wide as document 02 makes them.
@@ -115,56 +111,23 @@ unfoldable pub baseAnswersTo : Log → List Entry → List ℕ
 baseAnswersTo l [] = []
 baseAnswersTo l (e ∷ es) = baseEnter l e .answer ∷ baseAnswersTo (baseEnter l e .log) es
 
+-- "Involvement: yes if the store is in the list of any kept vote of that tx; else no if a commit
+-- vote is kept; else unknown."
+unfoldable pub baseInvolvementOf : Log → ℕ → ℕ → Involvement
+baseInvolvementOf l tx store =
+    let votes = rowOf l tx .votes in
+    cond (anyListing store votes) Yes (cond (anyFrom isCommit 0 votes) No Unknown)
+
 -- the row with the answers and results of the base
 abbrev pub asInBase : Case → Case
 asInBase c =
     case (c .took) (c .entries) (baseAnswersTo (baseReached (c .took)) (c .entries))
-    (map (said (baseFeed (baseReached (c .took)) (c .entries))) (c .results))
+    (map (saidBy baseInvolvementOf (baseFeed (baseReached (c .took)) (c .entries))) (c .results))
 
--- document 01's own table holds of it; there the last answer of P10 is 11
+-- document 01's own table holds of it; there store 3 is involved in P4, and the last answer of P10
+-- is 11
+abbrev pub baseCases : List Case
+baseCases = casesWith Yes 11
+
 abbrev pub BaseCasesHold : Type 0
-BaseCasesHold = map asInBase (casesWith 11) ≡ casesWith 11
-
--- ---- a log without turns
-
--- "A line without it means turn 1"
-abbrev pub AllFirst : List Entry → Type 0
-AllFirst [] = Unit {0}
-AllFirst (e ∷ es) = (e .turn ≡ 1) × AllFirst es
-
--- a take is accepted by both, or refused 2 by both, or refused 11 by the base and 11 or 12 now
-pub record TakeAgrees (now base : ℕ) : Type 0 where
-  pub is-0 : (now ≡ 0) ↔ (base ≡ 0)
-  pub is-2 : (now ≡ 2) ↔ (base ≡ 2)
-  pub is-11 : ((now ≡ 11) ⊎ (now ≡ 12)) ↔ (base ≡ 11)
-
--- After these entries the log is that of the base, and so is all that it says. A further entry is
--- accepted by both or by neither.
-pub record AsInBase (es : List Entry) : Type 0 where
-  pub same : reached es ≡ baseReached es
-  pub outcome : (tx : ℕ) → outcomeOf (reached es) tx ≡ outcomeOf (baseReached es) tx
-  pub group : (tx : ℕ) → groupOf (reached es) tx ≡ groupOf (baseReached es) tx
-  pub involvement : (tx store : ℕ) → involvementOf (reached es) tx store ≡ involvementOf (baseReached es) tx store
-  pub holder : (store : ℕ) → holderOf (reached es) store ≡ holderOf (baseReached es) store
-  pub replay : (store : ℕ) → replayOf (reached es) store ≡ replayOf (baseReached es) store
-  pub accepts : (e : Entry) → e .turn ≡ 1 → (enter (reached es) e .answer ≡ accepted) ↔ (baseEnter (baseReached es) e .answer ≡ accepted)
-  pub votes : (e : Entry) → e .turn ≡ 1 → e .take ≡ false → enter (reached es) e .answer ≡ baseEnter (baseReached es) e .answer
-  pub takes : (e : Entry) → e .turn ≡ 1 → e .take ≡ true → TakeAgrees (enter (reached es) e .answer) (baseEnter (baseReached es) e .answer)
-
--- "A log without turns accepts just what it did."
-abbrev pub WithoutTurns : Type 0
-WithoutTurns = (es : List Entry) → AllFirst es → AsInBase es
-
--- The same of a take from the history alone: it is accepted exactly if its process holds no store,
--- and never took this one.
-abbrev pub TakesWithoutTurns : Type 0
-TakesWithoutTurns =
-    (es : List Entry) (e : Entry) → AllFirst es → e .take ≡ true → e .turn ≡ 1 → InLimits e
-    → (enter (reached es) e .answer ≡ accepted)
-    ↔ (((s : ℕ) → holderOf (reached es) s ≢ e .process) × ((t : ℕ) → Took es (e .process) t (e .store) → ⊥))
-
--- And of a vote: it is accepted exactly if 2 and 7 to 10 do not apply. So 12 refuses none.
-abbrev pub VotesWithoutTurns : Type 0
-VotesWithoutTurns =
-    (es : List Entry) (e : Entry) → AllFirst es → e .take ≡ false → e .turn ≡ 1
-    → let l = reached es in (enter l e .answer ≡ accepted) ↔ None (outside e ∷ illFormed e ∷ holdsNot l e ∷ clash l e ∷ kept l e ∷ [])
+BaseCasesHold = map asInBase baseCases ≡ baseCases

@@ -51,20 +51,21 @@ abort store tx list = voteEntry (suc store) 1 store store tx list false 0
 abbrev pub case : List Entry → List Entry → List ℕ → List Result → Case
 case took entries answers results = record { took = took; entries = entries; answers = answers; results = results }
 
--- the last answer of P10 is given: it is 11 in document 01
-unfoldable pub casesWith : ℕ → List Case
-casesWith last =
+-- Two cells are given, since document 02 changes them: whether store 3 is involved in P4, and the
+-- last answer of P10.
+unfoldable pub casesWith : Involvement → ℕ → List Case
+casesWith third last =
     -- P1: none: tx 0 open, store 0 unknown
     case takes [] [] (outcome 0 Open ∷ involvement 0 0 Unknown ∷ [])
     -- P2: commit, list 01: commit, group 1
     ∷ case takes (commit 0 0 0x01 ∷ []) (0 ∷ []) (outcome 0 Commit ∷ group 0 1 ∷ [])
     -- P3: one commit of list 03: open
     ∷ case takes (commit 0 0 0x03 ∷ []) (0 ∷ []) (outcome 0 Open ∷ [])
-    -- P4: abort by store 3, list 08; commit by 0, list 03: abort; store 3 yes, 5 no
+    -- P4: abort by store 3, list 08; commit by 0, list 03: abort; store 3, 5 no
     ∷ case takes
     (abort 3 0 0x08 ∷ commit 0 0 0x03 ∷ [])
     (0 ∷ 0 ∷ [])
-    (outcome 0 Abort ∷ involvement 0 3 Yes ∷ involvement 0 5 No ∷ [])
+    (outcome 0 Abort ∷ involvement 0 3 third ∷ involvement 0 5 No ∷ [])
     -- P5: commit, list 03; commit by 1, list 07: 9
     ∷ case takes (commit 0 0 0x03 ∷ commit 1 0 0x07 ∷ []) (0 ∷ 9 ∷ []) []
     -- P6: list 03 committed; abort by 1, list 03: 10
@@ -94,21 +95,21 @@ casesWith last =
     []
     ∷ []
 
--- document 02: "the last answer of P10 becomes 12"
+-- document 02: "In case P4 store 3 becomes no"; "the last answer of P10 becomes 12"
 abbrev pub cases : List Case
-cases = casesWith 12
+cases = casesWith No 12
 
--- the same question, with the log's answer
-abbrev pub said : Log → Result → Result
-said l (outcome tx o) = outcome tx (outcomeOf l tx)
-said l (group tx g) = group tx (groupOf l tx)
-said l (involvement tx store i) = involvement tx store (involvementOf l tx store)
+-- the same question, with the log's answer; who is involved is told by the function given
+abbrev pub saidBy : (Log → ℕ → ℕ → Involvement) → Log → Result → Result
+saidBy involved l (outcome tx o) = outcome tx (outcomeOf l tx)
+saidBy involved l (group tx g) = group tx (groupOf l tx)
+saidBy involved l (involvement tx store i) = involvement tx store (involved l tx store)
 
 -- the row with the answers and results that the definitions give
 abbrev pub asDefined : Case → Case
 asDefined c =
     case (c .took) (c .entries) (answersTo (reached (c .took)) (c .entries))
-    (map (said (feed (reached (c .took)) (c .entries))) (c .results))
+    (map (saidBy involvementOf (feed (reached (c .took)) (c .entries))) (c .results))
 
 -- the definitions give the table
 abbrev pub CasesHold : Type 0

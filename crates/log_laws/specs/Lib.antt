@@ -10,3 +10,4 @@ pub mod Reached
 pub mod Replays
 pub mod TakenOver
 pub mod Votes
+pub mod WithoutTurns

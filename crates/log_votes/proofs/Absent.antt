@@ -14,7 +14,7 @@ use Rattle.log_votes.specs.declared.Row.{Row}
 use Rattle.log_votes.specs.Involvement.{involvementOfVotes}
 use Rattle.log_votes.specs.Outcome.{outcomeOfVotes}
 use Rattle.log_votes.specs.Row.{noVote}
-use Rattle.log_votes.specs.Scan.{anyFrom}
+use Rattle.log_votes.specs.Scan.{anyFrom, firstOf}
 use Rattle.log_votes.proofs.Lengths.{votes-length}
 use Rattle.log_votes.proofs.Row.{the-type as row-type}
 
@@ -26,5 +26,5 @@ unfolding outcomeOfVotes anyFrom
 open-without-votes = refl
 
 pub unknown-without-votes : (store : ℕ) → Unknown ≡ involvementOfVotes store []
-unfolding involvementOfVotes anyFrom
+unfolding involvementOfVotes anyFrom firstOf
 unknown-without-votes store = refl

@@ -7,7 +7,7 @@ use native.Mathlib.Numerals.{add-one}
 use native.Mathlib.Omega.{arith}
 use lib.ListN.{drop, drop-of-length-le, getD, length, set}
 use lib.Seq.{drop-cons}
-use Rattle.log_votes.specs.Scan.{allFrom, anyFrom}
+use Rattle.log_votes.specs.Scan.{allFrom, anyFrom, firstOf}
 
 module _ {A : Type 0} (f : ℕ → A → Bool) (xs : List A) (d : A) (i : ℕ) where
   pub any-hit : i < length xs → f i (getD xs i d) ≡ true → anyFrom f i (drop i xs) ≡ true
@@ -33,6 +33,19 @@ module _ {A : Type 0} (f : ℕ → A → Bool) (xs : List A) (d : A) (i : ℕ) w
   pub all-end : length xs ≤ i → allFrom f i (drop i xs) ≡ true
   unfolding allFrom
   all-end h = rw (drop-of-length-le xs h)
+
+module _ {A : Type 0} (f : A → Bool) (xs : List A) (d : A) (i : ℕ) where
+  pub first-hit : i < length xs → f (getD xs i d) ≡ true → firstOf f d (drop i xs) ≡ getD xs i d
+  unfolding firstOf
+  first-hit h e = rw (drop-cons xs i d h, e)
+
+  pub first-miss : i < length xs → f (getD xs i d) ≡ false → firstOf f d (drop i xs) ≡ firstOf f d (drop (i + 1) xs)
+  unfolding firstOf
+  first-miss h e = rw (drop-cons xs i d h, e, add-one i)
+
+  pub first-end : length xs ≤ i → firstOf f d (drop i xs) ≡ d
+  unfolding firstOf
+  first-end h = rw (drop-of-length-le xs h)
 
 -- an element that passes the test at any index is found where it was stored
 pub any-set : {A : Type 0} (f : ℕ → A → Bool) (x : A) → ((i : ℕ) → f i x ≡ true) → (xs : List A) (k i : ℕ) → k < length xs → anyFrom f i (set xs k x) ≡ true

@@ -17,3 +17,8 @@ allFrom f i (x ∷ xs) = f i x && allFrom f (suc i) xs
 unfoldable pub setOf : {A : Type 0} → (A → Bool) → List A → ℕ
 setOf f [] = 0
 setOf f (x ∷ xs) = cond (f x) 1 0 + 2 * setOf f xs
+
+-- the first element that passes the test, d if none does
+unfoldable pub firstOf : {A : Type 0} → (A → Bool) → A → List A → A
+firstOf f d [] = d
+firstOf f d (x ∷ xs) = cond (f x) x (firstOf f d xs)
