@@ -110,6 +110,8 @@ struct Seen {
     own: [[usize; ANSWERS]; 4],
     outcomes: [usize; 3],
     involvements: [usize; 3],
+    /// Answers of no about a store that a kept abort lists.
+    outweighed: usize,
     /// Replays without and with rows, and the most rows of one.
     rows: [usize; 3],
     /// Rows by the halves of their update that are not 0: none, the low, the high, both.
@@ -155,6 +157,13 @@ impl Seen {
         }
     }
 
+    fn note_involvement(&mut self, log: &Log, tx: u32, store: u32, involved: u8) {
+        self.involvements[involved as usize] += 1;
+        let mut kept = (0..STORES as u8).filter_map(|s| log.kept(tx as u8, s));
+        let listed = kept.any(|v| v.list >> store & 1 == 1);
+        self.outweighed += (involved == 0 && listed) as usize;
+    }
+
     fn note_replay(&mut self, out: &[u8]) {
         let rows = out[0] as usize;
         self.rows[(rows > 0) as usize] += 1;
@@ -191,6 +200,7 @@ impl Seen {
         );
         let [no, yes, unknown] = self.involvements;
         println!("involvements no {no}, yes {yes}, unknown {unknown}");
+        println!("involvements no, though an abort lists the store: {}", self.outweighed);
         let [none, some, most] = self.rows;
         println!("replays of no row {none}, of rows {some}, most rows {most}");
         let [zero, low, high, both] = self.halves;
@@ -198,7 +208,7 @@ impl Seen {
         let [accepted, take, abort] = [0, 1, 7].map(|answer| self.high_alone[answer]);
         println!("new updates of a high half alone: accepted {accepted}, 1: {take}, 7: {abort}");
         let seen = [&self.outcomes[..], &self.involvements, &self.halves].concat();
-        let must = [accepted, take, abort, self.zeros];
+        let must = [accepted, take, abort, self.zeros, self.outweighed];
         whole &= seen.iter().chain(&must).all(|&n| n > 0) && most > 8;
         println!("calls with a lent turn of 0, answered 0: {}", self.zeros);
         whole & self.print_turns()
@@ -295,7 +305,10 @@ fn one(r: &mut Random, histories: &[History], seen: &mut Seen) {
         seen.zeros += lent.clone().any(|record| record[TURN] == 0) as usize;
         match call {
             1 => seen.outcomes[out[0] as usize] += 1,
-            2 => seen.involvements[out[0] as usize] += 1,
+            2 => {
+                let log = log_behind(&c.records, count).expect("the log");
+                seen.note_involvement(&log, tx, store, out[0]);
+            }
             3 => seen.note_replay(&out),
             _ => {}
         }

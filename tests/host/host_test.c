@@ -446,6 +446,40 @@ static void test_involvement(void)
 	free(out);
 }
 
+/* P4: an abort of store 3 names it alone, then a commit vote of store 0 names 0 and 1. The list of
+   the commit vote alone says who is involved. */
+static void test_involvement_by_two_lists(void)
+{
+	enum {
+		NO = RELEASE_LOG_INVOLVED_NO,
+		YES = RELEASE_LOG_INVOLVED_YES,
+		UNKNOWN = RELEASE_LOG_INVOLVED_UNKNOWN
+	};
+	static const struct numbers calls[4] = {
+		{{0, 4, 0, 3, 0, 0x00, 0, 1}, 0},
+		{{0, 1, 0, 0, 0, 0x00, 0, 1}, 0},
+		{{1, 4, 3, 3, 0, 0x08, 0, 1}, 0},
+		{{1, 1, 0, 0, 0, 0x03, 1, 1}, 0},
+	};
+	/* by the abort alone, and with the commit vote */
+	static const uint8_t wanted[2][8] = {
+		{UNKNOWN, UNKNOWN, UNKNOWN, YES, UNKNOWN, UNKNOWN, UNKNOWN, UNKNOWN},
+		{YES, YES, NO, NO, NO, NO, NO, NO},
+	};
+	size_t len = 4 * RELEASE_LOG_RECORD_SIZE;
+	uint8_t *records = malloc(len), *out = lent("x", 1);
+	for (size_t n = 0; n < 4; n++) {
+		expect("two lists", add(records, len, n, &calls[n]), RELEASE_LOG_OK);
+		for (uint32_t store = 0; n >= 2 && store < 8; store++) {
+			expect("two lists", release_log_involvement(records, len, n + 1, 0, store, out, 1),
+			    RELEASE_LOG_OK);
+			expect("two lists", out[0], wanted[n - 2][store]);
+		}
+	}
+	free(records);
+	free(out);
+}
+
 static void test_replay(void)
 {
 	static const uint8_t value[11] = {1, 1, 4, 0x0d, 0x0c, 0x0b, 0x0a, 0x04, 0x03, 0x02, 0x01};
@@ -525,6 +559,7 @@ int main(void)
 	test_old_records();
 	test_outcome();
 	test_involvement();
+	test_involvement_by_two_lists();
 	test_replay();
 	test_stack();
 	if (failures == 0)
