@@ -30,10 +30,18 @@
  *   1 then, and a lent record stays as it is. So a host whose machines never
  *   come back gives 0 or 1 throughout.
  *
+ * Hosts of version 3
+ *   One value is another than in version 3: what release_log_involvement writes
+ *   of a store that a kept abort vote lists and the kept commit votes do not.
+ *   It was RELEASE_LOG_INVOLVED_YES, and is RELEASE_LOG_INVOLVED_NO. The outcome
+ *   of such a transaction is abort. Records, calls and all other values and
+ *   answers are those of version 3. So nothing is to be converted, and version
+ *   3 reads what this version wrote.
+ *
  * Records of version 2
  *   In version 2 of this header byte 7 was 0, which means turn 1. So a buffer
- *   of version 2 is a buffer of this version and says the same. Nothing is to
- *   be converted. The other way round it is refused: version 2 answers
+ *   of version 2 is a buffer of this version, with the same entries. Nothing is
+ *   to be converted. The other way round it is refused: version 2 answers
  *   RELEASE_LOG_UNREADABLE where byte 7 is not 0.
  *   A host that gives every entry turn 1 has the same entries accepted as
  *   before. One answer is another: the process holds that store now, or held it
@@ -95,7 +103,7 @@ extern "C" {
  * or a value is another, or a call answers otherwise. MINOR changes if
  * something is added.
  */
-#define RELEASE_LOG_VERSION_MAJOR 3
+#define RELEASE_LOG_VERSION_MAJOR 4
 #define RELEASE_LOG_VERSION_MINOR 0
 
 /* The answer of a call: RELEASE_LOG_OK, or the refusal. */
@@ -146,7 +154,8 @@ enum {
 	RELEASE_LOG_OUTCOME_ABORT = 2
 };
 
-/* The byte that release_log_involvement writes. */
+/* The byte that release_log_involvement writes. NO is written only where a
+   commit vote is kept, and UNKNOWN only where none is. */
 enum {
 	RELEASE_LOG_INVOLVED_NO = 0,
 	RELEASE_LOG_INVOLVED_YES = 1,
@@ -231,7 +240,15 @@ uint32_t release_log_outcome(const uint8_t *records, size_t records_len,
     size_t count, uint32_t tx, uint8_t *out, size_t out_len);
 
 /*
- * Whether a store is involved in a transaction.
+ * Whether a store is involved in a transaction. Where a commit vote of the
+ * transaction is kept, its list alone says so: yes if the store is in it, else
+ * no. (All kept commit votes of a transaction have one list.) Where none is
+ * kept, it is yes if the store is in the list of a kept abort vote, else
+ * unknown.
+ *
+ * An abort vote may name stores by guess. So a yes or an unknown may change
+ * with a later record, until a commit vote is kept. From then on the answer
+ * stays, and a no is final.
  *
  * Takes the record buffer, its length and count, the transaction and the
  * store, and the buffer for the value with its length.
