@@ -6,7 +6,6 @@ use mathlib.Core.List.{_++_}
 use mathlib.Core.Logic.{⊎-elim}
 use Rattle.log_entry.specs.declared.Entry.{Entry}
 use Rattle.log_entry.specs.Bits.{has}
-use Rattle.log_votes.specs.declared.Involvement.{Involvement}
 use Rattle.log_votes.specs.declared.Involvement.the-variants.{No, Unknown, Yes}
 use Rattle.log_votes.specs.declared.Row.{Row}
 use Rattle.log_votes.specs.declared.Vote.{Vote}
@@ -19,7 +18,7 @@ use Rattle.log_votes.specs.Scan.{anyFrom}
 use Rattle.log_core.specs.Enter.{enter}
 use Rattle.log_core.specs.Log.{involvementOf, rowOf, voteAt}
 use Rattle.log_laws.specs.Base.{baseInvolvementOf}
-use Rattle.log_laws.specs.Involvement.{AbortLists, ChangedAreAborted, ChangesExactly, GuessedBefore, InvolvementChangesExactly, SomeCommitKept, WrongGuess}
+use Rattle.log_laws.specs.Involvement.{AbortLists, ChangedAreAborted, GuessedBefore, InvolvementChangesExactly, SomeCommitKept, WrongGuess}
 use Rattle.log_laws.specs.Reached.{reached}
 use Rattle.log_laws.specs.Votes.{KeptCommit, Listed}
 use Rattle.log_laws.proofs.Accepted.{VoteOk}

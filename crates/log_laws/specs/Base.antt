@@ -1,5 +1,5 @@
--- The log of document 01, for comparison. Its refusals are written from that document, and read no
--- turn. So is who is involved. What is accepted is stored as `log_core` does it.
+-- The log of document 01, for comparison. Its refusals, and who is involved, are written from that
+-- document; no turn is read. What is accepted is stored as `log_core` does it.
 use Prim.Native.Nat.{ℕ}
 use mathlib.Core.Path.{_≡_}
 use mathlib.Core.Bool.{Bool, _&&_, _||_, not, cond}

@@ -7,7 +7,7 @@ use mathlib.Core.List.{List, [], _∷_, map}
 use Rattle.log_entry.specs.declared.Entry.{Entry}
 use Rattle.log_entry.specs.Entry.{takeEntry, voteEntry}
 use Rattle.log_votes.specs.declared.Involvement.{Involvement}
-use Rattle.log_votes.specs.declared.Involvement.the-variants.{No, Yes, Unknown}
+use Rattle.log_votes.specs.declared.Involvement.the-variants.{No, Unknown}
 use Rattle.log_core.specs.declared.Log.{Log}
 use Rattle.log_votes.specs.declared.Outcome.{Outcome}
 use Rattle.log_votes.specs.declared.Outcome.the-variants.{Open, Commit, Abort}
@@ -54,18 +54,18 @@ case took entries answers results = record { took = took; entries = entries; ans
 -- Two cells are given, since document 02 changes them: whether store 3 is involved in P4, and the
 -- last answer of P10.
 unfoldable pub casesWith : Involvement → ℕ → List Case
-casesWith third last =
+casesWith store3 last =
     -- P1: none: tx 0 open, store 0 unknown
     case takes [] [] (outcome 0 Open ∷ involvement 0 0 Unknown ∷ [])
     -- P2: commit, list 01: commit, group 1
     ∷ case takes (commit 0 0 0x01 ∷ []) (0 ∷ []) (outcome 0 Commit ∷ group 0 1 ∷ [])
     -- P3: one commit of list 03: open
     ∷ case takes (commit 0 0 0x03 ∷ []) (0 ∷ []) (outcome 0 Open ∷ [])
-    -- P4: abort by store 3, list 08; commit by 0, list 03: abort; store 3, 5 no
+    -- P4: abort by store 3, list 08; commit by 0, list 03: abort; store 3 as given, 5 no
     ∷ case takes
     (abort 3 0 0x08 ∷ commit 0 0 0x03 ∷ [])
     (0 ∷ 0 ∷ [])
-    (outcome 0 Abort ∷ involvement 0 3 third ∷ involvement 0 5 No ∷ [])
+    (outcome 0 Abort ∷ involvement 0 3 store3 ∷ involvement 0 5 No ∷ [])
     -- P5: commit, list 03; commit by 1, list 07: 9
     ∷ case takes (commit 0 0 0x03 ∷ commit 1 0 0x07 ∷ []) (0 ∷ 9 ∷ []) []
     -- P6: list 03 committed; abort by 1, list 03: 10

@@ -70,7 +70,7 @@ InvolvementChangesExactly =
 abbrev pub ChangedAreAborted : Type 0
 ChangedAreAborted = (l : Log) (tx store : ℕ) → WrongGuess l tx store → outcomeOf l tx ≡ Abort
 
--- the guess comes before the list: once a commit vote is kept, no other answer comes to change
+-- the guess comes before the list: once a commit vote is kept, no further answer comes to change
 abbrev pub GuessedBefore : Type 0
 GuessedBefore =
     (es more : List Entry) (tx store : ℕ) → SomeCommitKept (reached es) tx
