@@ -40,6 +40,7 @@ impl Row {
         false
     }
 
+    // Where a commit vote is kept, its list alone says yes or no.
     pub fn involvement(self, store: u8) -> Involvement
         ensures { λ r. ⌜ r ≡ involvementOfVotes store (self .votes) ⌝ }
     {
