@@ -2,7 +2,7 @@
 use Prim.Native.Nat.{ℕ}
 use mathlib.Core.Path.{_≡_, refl, sym, ap, ap₂, _∙_}
 use mathlib.Core.Bool.{Bool, true, false, cond}
-use mathlib.Core.List.{_++_}
+use mathlib.Core.List.{List, _++_}
 use mathlib.Core.Logic.{⊎-elim}
 use Rattle.log_entry.specs.declared.Entry.{Entry}
 use Rattle.log_entry.specs.Bits.{has}
@@ -24,7 +24,7 @@ use Rattle.log_laws.specs.Votes.{KeptCommit, Listed}
 use Rattle.log_laws.proofs.Accepted.{VoteOk}
 use Rattle.log_laws.proofs.ConditionClaims.{clash-by-lists}
 use Rattle.log_laws.proofs.Feed.{later}
-use Rattle.log_laws.proofs.InvolvementClaims.{OneList, abort-lists, by-commit, commit-or-none, commits, committed, involvement-by-votes, listed, lists, without-commit}
+use Rattle.log_laws.proofs.InvolvementClaims.{abort-lists, by-commit, commit-or-none, commits, committed, involvement-by-votes, listed, lists, without-commit}
 use Rattle.log_laws.proofs.OutcomeClaims.{abort-iff}
 use Rattle.log_laws.proofs.Rows.{kept-cases}
 use Rattle.log_laws.proofs.Stays.{Stands, commit-stays, one-list-named, stands-enter, vote-stays}
@@ -43,42 +43,45 @@ module _ (l : Log) (tx store : ℕ) where
   base-yes : (s : ℕ) → Listed l tx s store → baseInvolvementOf l tx store ≡ Yes
   base-yes s t = base-by true _ (listed l tx store s t) refl
 
-  -- ---- no other answer changes
+-- ---- no other answer changes
 
-  module _ (one : OneList l tx) (right : WrongGuess l tx store → ⊥) where
-    -- a store outside the commit list is in no list
-    in-no-list : (s : ℕ) → KeptCommit l tx s → has (voteAt l tx s .participants) store ≡ false → anyListing store (rowOf l tx .votes) ≡ false
-    in-no-list s k out = is-false (anyListing store (rowOf l tx .votes)) (λ h.
-        let t = lists l tx store h in
-        right (
-          (s, k, out),
-          abort-lists l tx store (t .0)
-              (λ c. opposed (t .1 .1) (ap (λ (list : ℕ). has list store) (one (t .0) s c k) ∙ out)) (t .1),
-        ))
+module _ (es : List Entry) (tx store : ℕ) (right : WrongGuess (reached es) tx store → ⊥) where
+  abbrev l : Log
+  l = reached es
 
-    same-with-commit : SomeCommitKept l tx → involvementOf l tx store ≡ baseInvolvementOf l tx store
-    same-with-commit c =
-        let list = voteAt l tx (c .0) .participants in
-        let answer : (b : Bool) → has list store ≡ b → involvementOf l tx store ≡ cond b Yes No = λ b is. by-commit l tx one store (c .0) (c .1) ∙ ap (λ (x : Bool). cond x Yes No) is in
-        ⊎-elim
-        (λ (is : has list store ≡ true). answer true is ∙ sym (base-yes (c .0) (c .1 .0, is)))
-        (λ is. answer false is ∙ sym (base-by false true (in-no-list (c .0) (c .1) is) (committed l tx c)))
-        (either (has list store))
+  -- a store outside the commit list is in no list
+  in-no-list : (s : ℕ) → KeptCommit l tx s → has (voteAt l tx s .participants) store ≡ false → anyListing store (rowOf l tx .votes) ≡ false
+  in-no-list s k out = is-false (anyListing store (rowOf l tx .votes)) (λ h.
+      let t = lists l tx store h in
+      right (
+        (s, k, out),
+        abort-lists l tx store (t .0)
+            (λ c. opposed (t .1 .1) (ap (λ (list : ℕ). has list store) (one-list-named es tx (t .0) s c k) ∙ out)) (t .1),
+      ))
 
-    same-without : (SomeCommitKept l tx → ⊥) → involvementOf l tx store ≡ baseInvolvementOf l tx store
-    same-without none =
-        without-commit l tx store none
-        ∙ sym (base-by (anyListing store (rowOf l tx .votes)) false refl (is-false (anyFrom isCommit 0 (rowOf l tx .votes)) (λ h. none (commits l tx h))))
+  same-with-commit : SomeCommitKept l tx → involvementOf l tx store ≡ baseInvolvementOf l tx store
+  same-with-commit c =
+      let list = voteAt l tx (c .0) .participants in
+      let answer : (b : Bool) → has list store ≡ b → involvementOf l tx store ≡ cond b Yes No = λ b is. by-commit es tx store (c .0) (c .1) ∙ ap (λ (x : Bool). cond x Yes No) is in
+      ⊎-elim
+      (λ (is : has list store ≡ true). answer true is ∙ sym (base-yes l tx store (c .0) (c .1 .0, is)))
+      (λ is. answer false is ∙ sym (base-by l tx store false true (in-no-list (c .0) (c .1) is) (committed l tx c)))
+      (either (has list store))
+
+  same-without : (SomeCommitKept l tx → ⊥) → involvementOf l tx store ≡ baseInvolvementOf l tx store
+  same-without none =
+      without-commit l tx store none
+      ∙ sym (base-by l tx store (anyListing store (rowOf l tx .votes)) false refl (is-false (anyFrom isCommit 0 (rowOf l tx .votes)) (λ h. none (commits l tx h))))
+
+  same : involvementOf (reached es) tx store ≡ baseInvolvementOf (reached es) tx store
+  same = ⊎-elim same-with-commit same-without (commit-or-none l tx)
 
 pub changes-exactly : InvolvementChangesExactly
 changes-exactly es tx store = record {
-  was-yes = λ w. base-yes l tx store (w .1 .0) (w .1 .1 .0, w .1 .2);
+  was-yes = λ w. base-yes (reached es) tx store (w .1 .0) (w .1 .1 .0, w .1 .2);
   becomes-no = λ w. involvement-by-votes es tx store .is-no .1 (w .0);
-  others-equal = λ right. let one = one-list-named es tx in ⊎-elim (same-with-commit l tx store one right) (same-without l tx store one right) (commit-or-none l tx);
+  others-equal = same es tx store;
 }
-  where
-    l : Log
-    l = reached es
 
 pub changed-aborted : ChangedAreAborted
 changed-aborted l tx store w = abort-iff l tx .1 (w .1 .0, w .1 .1)

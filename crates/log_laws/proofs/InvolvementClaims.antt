@@ -1,16 +1,17 @@
 -- Involvement, by the kept votes.
 use Prim.Native.Nat.{ℕ}
 use mathlib.Core.Path.{_≡_, refl, sym, ap, ap₂, _∙_}
-use mathlib.Core.Bool.{Bool, true, false, _&&_, cond, true≢false, false≢true}
-use mathlib.Core.List.{_++_}
+use mathlib.Core.Bool.{Bool, true, false, cond, true≢false, false≢true}
+use mathlib.Core.List.{List, _++_}
 use mathlib.Core.Logic.{_⊎_, _≢_, inl, inr, ⊎-elim}
+use Rattle.log_entry.specs.declared.Entry.{Entry}
 use Rattle.log_entry.specs.Bits.{has}
 use Rattle.log_votes.specs.declared.Involvement.{Involvement}
 use Rattle.log_votes.specs.declared.Involvement.the-variants.{No, Unknown, Yes}
 use Rattle.log_votes.specs.declared.Vote.{Vote}
 use Rattle.log_core.specs.declared.Log.{Log}
-use Rattle.log_votes.specs.Involvement.{anyListing, involvementOfVotes, isListing}
-use Rattle.log_votes.specs.Outcome.{isCommit}
+use Rattle.log_votes.specs.Involvement.{anyListing, commitVote, involvementOfVotes, isListing}
+use Rattle.log_votes.specs.Outcome.{isCommit, isCommitVote}
 use Rattle.log_votes.specs.Row.{noVote}
 use Rattle.log_votes.specs.Scan.{anyFrom}
 use Rattle.log_core.specs.Log.{involvementOf, rowOf, voteAt}
@@ -21,10 +22,6 @@ use Rattle.log_laws.proofs.Outcomes.{kept-in}
 use Rattle.log_laws.proofs.Scans.{any-here, first-missing, first-passes, found}
 use Rattle.log_laws.proofs.Stays.{commit-stays, one-list-named, vote-stays}
 use Rattle.log_entry.proofs.Tests.{and-left, and-right, both, either, is-false, opposed}
-
--- all kept commit votes of tx name one list
-abbrev pub OneList : Log → ℕ → Type 0
-OneList l tx = (s t : ℕ) → KeptCommit l tx s → KeptCommit l tx t → voteAt l tx s .participants ≡ voteAt l tx t .participants
 
 -- ---- the scans, by the kept votes
 
@@ -54,27 +51,34 @@ module _ (l : Log) (tx : ℕ) where
   pub commit-or-none : SomeCommitKept l tx ⊎ (SomeCommitKept l tx → ⊥)
   commit-or-none = ⊎-elim (λ h. inl (commits h)) (λ h. inr (λ t. opposed (committed t) h)) (either (anyFrom isCommit 0 (rowOf l tx .votes)))
 
-  -- ---- the answer where a commit vote is kept, and where none is
-
-  by-vote : ℕ → Vote → Involvement
-  by-vote store v = cond (v .kept) (cond (has (v .participants) store) Yes No) (cond (anyListing store (rowOf l tx .votes)) Yes Unknown)
-
-  pub by-commit : OneList l tx → (store s : ℕ) → KeptCommit l tx s → involvementOf l tx store ≡ cond (has (voteAt l tx s .participants) store) Yes No
-  unfolding involvementOfVotes by-vote
-  by-commit one store s k =
-      let first = first-passes (λ (v : Vote). v .kept && v .commit) noVote (rowOf l tx .votes) s (kept-in (rowOf l tx .votes) s (k .0)) (both (voteAt l tx s .kept) (voteAt l tx s .commit) (k .0) (k .1)) in
-      let c : KeptCommit l tx (first .0) = commits-at (first .0) (first .2) in
-      ap (by-vote store) (first .1)
-      ∙ ap₂ (λ (kept : Bool) (list : ℕ). cond kept (cond (has list store) Yes No) (cond (anyListing store (rowOf l tx .votes)) Yes Unknown)) (c .0) (one (first .0) s c k)
-
-  pub without-commit : (store : ℕ) → (SomeCommitKept l tx → ⊥) → involvementOf l tx store ≡ cond (anyListing store (rowOf l tx .votes)) Yes Unknown
-  unfolding involvementOfVotes by-vote
-  without-commit store none =
-      ap (by-vote store) (first-missing (λ (v : Vote). v .kept && v .commit) noVote (rowOf l tx .votes) (λ s b h. none (s, commits-at s h)))
-
-  -- then a kept vote is an abort
+  -- a kept vote that is no commit is an abort
   pub abort-lists : (store s : ℕ) → (KeptCommit l tx s → ⊥) → Listed l tx s store → AbortLists l tx store
   abort-lists store s none t = (s, (t .0, is-false (voteAt l tx s .commit) (λ c. none (t .0, c))), t .1)
+
+  -- ---- the answer, by the commit vote
+
+  by-vote : ℕ → Bool → ℕ → Involvement
+  by-vote store kept list = cond kept (cond (has list store) Yes No) (cond (anyListing store (rowOf l tx .votes)) Yes Unknown)
+
+  by-first : (store : ℕ) (v : Vote) → commitVote (rowOf l tx .votes) ≡ v → involvementOf l tx store ≡ by-vote store (v .kept) (v .participants)
+  unfolding involvementOfVotes by-vote
+  by-first store v is = ap (λ (x : Vote). by-vote store (x .kept) (x .participants)) is
+
+  pub without-commit : (store : ℕ) → (SomeCommitKept l tx → ⊥) → involvementOf l tx store ≡ cond (anyListing store (rowOf l tx .votes)) Yes Unknown
+  unfolding by-vote
+  without-commit store none = by-first store noVote (first-missing isCommitVote noVote (rowOf l tx .votes) (λ s b h. none (s, commits-at s h)))
+
+-- each kept commit vote decides, since all have one list
+pub by-commit : (es : List Entry) (tx store s : ℕ) → KeptCommit (reached es) tx s
+    → involvementOf (reached es) tx store ≡ cond (has (voteAt (reached es) tx s .participants) store) Yes No
+unfolding by-vote
+by-commit es tx store s k =
+    let l = reached es in
+    let votes = rowOf l tx .votes in
+    let v = voteAt l tx s in
+    let first = first-passes isCommitVote noVote votes s (kept-in votes s (k .0)) (both (v .kept) (v .commit) (k .0) (k .1)) in
+    let c : KeptCommit l tx (first .0) = commits-at l tx (first .0) (first .2) in
+    by-first l tx store (voteAt l tx (first .0)) (first .1) ∙ ap₂ (by-vote l tx store) (c .0) (one-list-named es tx (first .0) s c k)
 
 -- ---- which of the three
 
@@ -102,41 +106,44 @@ never false other third n d e = d (ap isNo e)
 
 -- ---- the claims
 
-module _ (l : Log) (tx store : ℕ) (one : OneList l tx) where
-  with-commit : SomeCommitKept l tx → Involved l tx store
+module _ (es : List Entry) (tx store : ℕ) where
+  with-commit : SomeCommitKept (reached es) tx → Involved (reached es) tx store
   with-commit c = record {
-    by-list = by-commit l tx one store;
+    by-list = by-commit es tx store;
     is-yes = (
       λ e. inl (c .0, c .1, yes-by (has list store) No refl (sym answer ∙ e)),
-      ⊎-elim (λ t. by-commit l tx one store (t .0) (t .1) ∙ ap (λ (b : Bool). cond b Yes No) (t .2)) (λ t. absurd (t .0 c)),
+      ⊎-elim (λ t. by-commit es tx store (t .0) (t .1) ∙ ap (λ (b : Bool). cond b Yes No) (t .2)) (λ t. absurd (t .0 c)),
     );
     is-no = (
       λ e. (c .0, c .1, other-by (has list store) No refl (sym answer ∙ e)),
-      λ t. by-commit l tx one store (t .0) (t .1) ∙ ap (λ (b : Bool). cond b Yes No) (t .2),
+      λ t. by-commit es tx store (t .0) (t .1) ∙ ap (λ (b : Bool). cond b Yes No) (t .2),
     );
     is-unknown = (λ e. absurd (never (has list store) No Unknown refl true≢false (sym answer ∙ e)), λ t. absurd (t .0 c));
   }
     where
       list : ℕ
-      list = voteAt l tx (c .0) .participants
+      list = voteAt (reached es) tx (c .0) .participants
 
-      answer : involvementOf l tx store ≡ cond (has list store) Yes No
-      answer = by-commit l tx one store (c .0) (c .1)
+      answer : involvementOf (reached es) tx store ≡ cond (has list store) Yes No
+      answer = by-commit es tx store (c .0) (c .1)
 
-  with-none : (SomeCommitKept l tx → ⊥) → Involved l tx store
+  with-none : (SomeCommitKept (reached es) tx → ⊥) → Involved (reached es) tx store
   with-none none = record {
     by-list = λ s k. absurd (none (s, k));
     is-yes = (
-      λ e. let t = lists l tx store (yes-by any Unknown refl (sym answer ∙ e)) in inr (none, abort-lists l tx store (t .0) (λ k. none (t .0, k)) (t .1)),
+      λ e. inr (none, an-abort (yes-by any Unknown refl (sym answer ∙ e))),
       ⊎-elim (λ t. absurd (none (t .0, t .1))) (λ t. answer ∙ ap (λ (b : Bool). cond b Yes Unknown) (by-abort (t .1))),
     );
     is-no = (λ e. absurd (never any Unknown No refl false≢true (sym answer ∙ e)), λ t. absurd (none (t .0, t .1)));
     is-unknown = (
       λ e. (none, λ t. opposed (by-abort t) (other-by any Unknown refl (sym answer ∙ e))),
-      λ t. answer ∙ ap (λ (b : Bool). cond b Yes Unknown) (is-false any (λ h. let r = lists l tx store h in t .1 (abort-lists l tx store (r .0) (λ k. none (r .0, k)) (r .1)))),
+      λ t. answer ∙ ap (λ (b : Bool). cond b Yes Unknown) (is-false any (λ h. t .1 (an-abort h))),
     );
   }
     where
+      l : Log
+      l = reached es
+
       any : Bool
       any = anyListing store (rowOf l tx .votes)
 
@@ -146,13 +153,14 @@ module _ (l : Log) (tx store : ℕ) (one : OneList l tx) where
       by-abort : AbortLists l tx store → any ≡ true
       by-abort t = listed l tx store (t .0) (t .1 .0, t .2)
 
+      an-abort : any ≡ true → AbortLists l tx store
+      an-abort h = let t = lists l tx store h in abort-lists l tx store (t .0) (λ k. none (t .0, k)) (t .1)
+
 pub involvement-by-votes : InvolvementExactly
-involvement-by-votes es tx store =
-    let one = one-list-named es tx in
-    ⊎-elim (with-commit (reached es) tx store one) (with-none (reached es) tx store one) (commit-or-none (reached es) tx)
+involvement-by-votes es tx store = ⊎-elim (with-commit es tx store) (with-none es tx store) (commit-or-none (reached es) tx)
 
 pub answer-stays : InvolvementStays
 answer-stays es more tx store c =
-    by-commit (reached (es ++ more)) tx (one-list-named (es ++ more) tx) store (c .0) (commit-stays es more tx (c .0) (c .1))
+    by-commit (es ++ more) tx store (c .0) (commit-stays es more tx (c .0) (c .1))
     ∙ ap (λ (v : Vote). cond (has (v .participants) store) Yes No) (vote-stays es more tx (c .0) (c .1 .0))
-    ∙ sym (by-commit (reached es) tx (one-list-named es tx) store (c .0) (c .1))
+    ∙ sym (by-commit es tx store (c .0) (c .1))

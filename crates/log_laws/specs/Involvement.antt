@@ -1,5 +1,5 @@
--- The claims on involvement, in terms of the kept votes alone. In each, `es` are any entries from the
--- empty log on, and `more` any that follow.
+-- The claims on involvement, in terms of the kept votes alone. In each, `es` are any entries from
+-- the empty log on, and `more` any that follow.
 use Prim.Native.Nat.{ℕ}
 use mathlib.Core.Path.{_≡_}
 use mathlib.Core.Bool.{true, false, cond}

@@ -29,7 +29,8 @@ pub record TakeAgrees (now base : ℕ) : Type 0 where
   pub is-11 : ((now ≡ 11) ⊎ (now ≡ 12)) ↔ (base ≡ 11)
 
 -- After these entries the log is that of the base. So is all that it says, but for who is involved
--- where an abort and a commit vote say otherwise. A further entry is accepted by both or by neither.
+-- where an abort and a commit vote say otherwise. A further entry is accepted by both or by
+-- neither.
 pub record AsInBase (es : List Entry) : Type 0 where
   pub same : reached es ≡ baseReached es
   pub outcome : (tx : ℕ) → outcomeOf (reached es) tx ≡ outcomeOf (baseReached es) tx

@@ -16,7 +16,7 @@ use Rattle.log_votes.specs.declared.Outcome.the-variants.{Abort, Commit,
 use Rattle.log_votes.specs.declared.Row.{Row}
 use Rattle.log_votes.specs.declared.Tally.{Tally}
 use Rattle.log_votes.specs.declared.Vote.{Vote}
-use Rattle.log_votes.specs.Outcome.{anyAbort, anyCovered, commitSet, covered, isAbort, isCovered, keptSet, outcomeOfVotes, tallyOf}
+use Rattle.log_votes.specs.Outcome.{anyAbort, anyCovered, commitSet, covered, isAbort, isCommitVote, isCovered, keptSet, outcomeOfVotes, tallyOf}
 use Rattle.log_votes.specs.Refusal.{anyClash, isClash}
 use Rattle.log_votes.specs.Row.{keeping, noVote, voteOfEntry, voteOfStore}
 use Rattle.log_votes.specs.Scan.{anyFrom}
@@ -26,9 +26,6 @@ use Rattle.log_votes.proofs.SetLaws.{set-has, set-same, set-with}
 
 abbrev isKeptVote : Vote → Bool
 isKeptVote v = v .kept
-
-abbrev isCommitVote : Vote → Bool
-isCommitVote v = v .kept && v .commit
 
 -- a store is in the set of the kept votes exactly if its vote is kept
 pub kept-in : (r : Row) {t : Tally} → t ≡ tallyOf (r .votes) → (store : ℕ) → has (t .kept) store ≡ voteOfStore store r .kept

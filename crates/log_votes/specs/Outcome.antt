@@ -14,8 +14,12 @@ use Rattle.log_votes.specs.Scan.{anyFrom, allFrom, setOf}
 abbrev pub isKept : ℕ → Vote → Bool
 isKept s v = v .kept
 
+-- the vote is a kept commit vote
+abbrev pub isCommitVote : Vote → Bool
+isCommitVote v = v .kept && v .commit
+
 abbrev pub isCommit : ℕ → Vote → Bool
-isCommit s v = v .kept && v .commit
+isCommit s v = isCommitVote v
 
 abbrev pub isAbort : ℕ → Vote → Bool
 isAbort s v = v .kept && not (v .commit)
@@ -26,7 +30,7 @@ keptSet votes = setOf (λ (v : Vote). v .kept) votes
 
 -- the stores with kept commit votes, bit s for store s
 abbrev pub commitSet : List Vote → ℕ
-commitSet votes = setOf (λ (v : Vote). v .kept && v .commit) votes
+commitSet votes = setOf isCommitVote votes
 
 -- the stores with kept votes and those with kept commit votes
 abbrev pub tallyOf : List Vote → Tally

@@ -1,12 +1,13 @@
 -- From the last vote to the first, the digits passed are the sets of the votes passed.
 use borrow.Author.Needs.{needs}
 use Prim.Native.Nat.{ℕ, _*_, _+_, _-_, _<_, _^_, _≤_}
-use mathlib.Core.Bool.{Bool, cond, _&&_}
+use mathlib.Core.Bool.{Bool, cond}
 use mathlib.Core.Path.{_≡_, ap, ap₂, _∙_}
 use native.Mathlib.Omega.{arith}
 use lib.ListN.{drop, getD, length}
 use Rattle.log_entry.specs.Limits.{stores}
 use Rattle.log_votes.specs.declared.Vote.{Vote}
+use Rattle.log_votes.specs.Outcome.{isCommitVote}
 use Rattle.log_votes.specs.Row.{noVote}
 use Rattle.log_votes.specs.Scan.{setOf}
 use Rattle.log_votes.proofs.Lengths.{votes-length}
@@ -17,12 +18,9 @@ use Rattle.log_votes.proofs.Row.tally.Tie as tie
 abbrev isKept : Vote → Bool
 isKept v = v .kept
 
-abbrev isCommit : Vote → Bool
-isCommit v = v .kept && v .commit
-
 abbrev Inv-loop : tie.InvT-loop
 Inv-loop self kept₀ commits₀ i₀ kept commits i =
-    (i ≤ stores) × (kept ≡ setOf isKept (drop i (self .votes))) × (commits ≡ setOf isCommit (drop i (self .votes)))
+    (i ≤ stores) × (kept ≡ setOf isKept (drop i (self .votes))) × (commits ≡ setOf isCommitVote (drop i (self .votes)))
 
 abbrev μ-loop : tie.MeasureT-loop
 μ-loop self kept₀ commits₀ i₀ kept commits i = i
@@ -33,7 +31,7 @@ size c = votes-length (c .args .t1) _ (c .good .0)
 loop-holds : tie.Need-loop-holds Inv-loop μ-loop
 loop-holds c =
     let votes = c .args .t1 .votes in
-    (omega arith, set-none isKept votes stores (omega (arith, size c)), set-none isCommit votes stores (omega (arith, size c)))
+    (omega arith, set-none isKept votes stores (omega (arith, size c)), set-none isCommitVote votes stores (omega (arith, size c)))
 
 -- there is room for one digit more
 room-kept : (c : tie.After-v Inv-loop μ-loop) → c .before .before .loop .kept < 2 ^ 7
@@ -44,7 +42,7 @@ room-kept c =
 room-commits : (c : tie.After-v Inv-loop μ-loop) → c .before .before .loop .commits < 2 ^ 7
 room-commits c =
     let l = c .before .before .loop in
-    rw (l .inv .2) (set-room isCommit (c .before .before .before .args .t1 .votes) 7 (l .i) (size (c .before .before .before)) (c .before .loop-test .taken))
+    rw (l .inv .2) (set-room isCommitVote (c .before .before .before .args .t1 .votes) 7 (l .i) (size (c .before .before .before)) (c .before .loop-test .taken))
 
 sub-v : tie.Need-sub-v Inv-loop μ-loop
 sub-v c = omega arith
@@ -90,7 +88,7 @@ loop-again c =
     let digit = c .digit2 .ensures ∙ ap (λ (b : Bool). cond b 1 0) (c .before .is-commit .ensures) in (
       omega arith,
       ap₂ (λ (d m : ℕ). d + 2 * m) (c .before .before .digit .ensures) (l .inv .1) ∙ set-step isKept (s .args .t1 .votes) noVote (l .i) more (omega (arith, size s)),
-      ap₂ (λ (d m : ℕ). d + 2 * m) digit (l .inv .2) ∙ set-step isCommit (s .args .t1 .votes) noVote (l .i) more (omega (arith, size s)),
+      ap₂ (λ (d m : ℕ). d + 2 * m) digit (l .inv .2) ∙ set-step isCommitVote (s .args .t1 .votes) noVote (l .i) more (omega (arith, size s)),
     )
 
 returns : tie.Need-returns Inv-loop μ-loop
@@ -100,7 +98,7 @@ returns c =
     let z : l .i ≡ 0 = omega arith in
     λ i. record {
       kept = (l .inv .1 ∙ ap (λ (k : ℕ). setOf isKept (drop k votes)) z) i;
-      commits = (l .inv .2 ∙ ap (λ (k : ℕ). setOf isCommit (drop k votes)) z) i;
+      commits = (l .inv .2 ∙ ap (λ (k : ℕ). setOf isCommitVote (drop k votes)) z) i;
     }
 
 pub tally-spec : {M : Type 1} → statement M
