@@ -1,24 +1,27 @@
 -- The log after lent records, record by record.
 use Prim.Native.Nat.{ℕ, zero, suc, _%_, _+_, _-_, _*_, _/_, _<_, _^_, _≤_}
 use mathlib.Core.Bool.{Bool, cond, false, true}
-use mathlib.Core.List.{List}
+use mathlib.Core.List.{List, [], _∷_}
+use mathlib.Core.Logic.{_⊎_, inl, inr, ⊎-elim}
 use mathlib.Core.Path.{_≡_, ap, refl, sym, _∙_}
 use native.Mathlib.Nat.{suc-sub-suc, sub-zero}
 use native.Mathlib.Omega.{arith}
-use borrow.Author.Tests.{eq-eqb, le-ltb, lt-ltb, ne-eqb}
+use borrow.Author.Tests.{eq-eqb, eqb-true, le-ltb, lt-ltb, ltb-false, ne-eqb, not-false}
 use lib.Bits.{bitOr}
-use lib.Dec.{eqb}
+use lib.Dec.{eqb, ltb}
 use lib.ListN.{drop, getD, length, set, take}
 use lib.Seq.{drop-drop, getD-set-same}
 use Rattle.log_entry.specs.declared.Entry.{Entry}
 use Rattle.log_entry.specs.Entry.{outside}
-use Rattle.log_entry.specs.Limits.{transactions}
+use Rattle.log_entry.specs.Limits.{smallStores, stores, transactions}
 use Rattle.log_entry.specs.Refusal.{accepted, outsideLimits}
+use Rattle.log_entry.proofs.Tests.{by-test, is-false, or-cases}
 use Rattle.log_votes.specs.Refusal.{anyClash}
 use Rattle.log_votes.specs.Row.{voteOfStore}
 use Rattle.log_votes.proofs.RefusalLaws.{accepted-vote}
 use Rattle.log_core.proofs.DecideLaws.{answer-vote}
 use Rattle.log_core.proofs.EnterLaws.{enter-accepted, enter-refused, enter-stored, holder-stored, refusalOf}
+use Rattle.log_core.proofs.Limit.{enter-limit}
 use Rattle.log_core.specs.declared.Effect.{Effect}
 use Rattle.log_core.specs.declared.Entered.{Entered}
 use Rattle.log_core.specs.declared.Log.{Log}
@@ -28,10 +31,10 @@ use Rattle.log_core.specs.Group.{remembered}
 use Rattle.host_records.specs.declared.Reading.{Reading}
 use Rattle.host_records.specs.declared.Reading.the-variants.{Of, Refused}
 use Rattle.host_records.specs.Record.{readRecord, recordSize}
-use Rattle.log_core.specs.Log.{emptyLog, rowOf}
+use Rattle.log_core.specs.Log.{emptyLog, opened, rowOf}
 use Rattle.host_lent.specs.declared.Summary.{Summary}
 use Rattle.host_lent.specs.Summary.{IsOf, summaryParts}
-use Rattle.host_lent.specs.Lent.{enterReading, lentLog, logAfter, recordsEntered, recordsIn}
+use Rattle.host_lent.specs.Lent.{enterReading, enterRecord, lentLog, logAfter, noLimit, recordsEntered, recordsIn}
 
 module _ (l : Log) {r : Reading} where
   pub entered : {e : Entry} {t : Entered} → r ≡ Of e → t ≡ enter l e → t ≡ enterReading l r
@@ -60,6 +63,7 @@ pub take-stored : (l : Log) (e : Entry) → e .take ≡ true → e .process < 16
       latest = set (l .latest) (e .process) (e .turn);
       groups = l .groups;
       remembered = l .remembered;
+      stores = l .stores;
     })
     accepted
     ≡ enter l e
@@ -94,7 +98,7 @@ module _ (l : Log) (e : Entry) (vote : e .take ≡ false) (f : Effect) (is : f �
   unfolding effectOf
   said = ap (λ (f : Effect). f .answer) is
 
-  pub vote-agrees : outside e ≡ false → f .answer ≡ accepted
+  pub vote-agrees : outside (l .stores) e ≡ false → f .answer ≡ accepted
       → (anyClash e (rowOf l (e .tx) .votes) ≡ false) × (voteOfStore (e .store) (rowOf l (e .tx)) .kept ≡ false)
   vote-agrees inside ok =
       accepted-vote (rowOf l (e .tx)) (getD (l .holders) (e .by) 0) (getD (l .turns) (e .by) 0) e (answer-vote (partsOf l e) e inside vote ∙ sym said ∙ ok)
@@ -105,14 +109,28 @@ pub last-begun : (all : List ℕ) → length all ≡ transactions → (g running
 last-begun all size g running h k =
     rw (ne-eqb g 0 (λ z. omega (arith, h, z))) (sym (getD-set-same all (g - 1) running 0 (omega (arith, size, h, k))))
 
-module _ (bytes : List ℕ) (count : ℕ) where
-  pub count-beyond : length bytes / recordSize < count → answered emptyLog outsideLimits ≡ lentLog bytes count
-  unfolding lentLog
-  count-beyond h = rw (lt-ltb (length bytes) (count * recordSize) (omega arith))
+-- there are two limits
+pub one-of-two : (limit : ℕ) → noLimit limit ≡ false → (limit ≡ stores) ⊎ (limit ≡ smallStores)
+one-of-two limit h =
+    ⊎-elim (λ (k : eqb limit stores ≡ true). inl (eqb-true limit stores k)) (λ k. inr (eqb-true limit smallStores k))
+    (or-cases (eqb limit stores) (eqb limit smallStores) (not-false _ h))
 
-  pub count-within : count ≤ length bytes / recordSize → recordsEntered bytes count ≡ lentLog bytes count
+pub limit-is-byte : (limit : ℕ) → noLimit limit ≡ false → limit < 256
+limit-is-byte limit h = ⊎-elim (λ (k : limit ≡ stores). omega arith) (λ k. omega (arith, k)) (one-of-two limit h)
+
+module _ (limit : ℕ) (bytes : List ℕ) (count : ℕ) where
+  pub no-such-limit : noLimit limit ≡ true → answered emptyLog outsideLimits ≡ lentLog limit bytes count
   unfolding lentLog
-  count-within h = rw (le-ltb (length bytes) (count * recordSize) (omega arith))
+  no-such-limit h = rw h
+
+  module _ (h : noLimit limit ≡ false) where
+    pub count-beyond : length bytes / recordSize < count → answered emptyLog outsideLimits ≡ lentLog limit bytes count
+    unfolding lentLog
+    count-beyond k = rw (h, lt-ltb (length bytes) (count * recordSize) (omega arith))
+
+    pub count-within : count ≤ length bytes / recordSize → recordsEntered limit bytes count ≡ lentLog limit bytes count
+    unfolding lentLog
+    count-within k = rw (h, le-ltb (length bytes) (count * recordSize) (omega arith))
 
 module _ (l : Log) where
   pub none-left : (bytes : List ℕ) (left : ℕ) → left ≤ 0 → answered l accepted ≡ logAfter l (recordsIn bytes left)
@@ -121,7 +139,7 @@ module _ (l : Log) where
   none-left bytes (suc left) h = absurd (let z : ⊥ = omega arith in z)
 
   -- one record more, and what the log says to it
-  module _ (bytes : List ℕ) (at : ℕ) {t : Entered} (h : t ≡ enterReading l (readRecord (take recordSize (drop at bytes)))) where
+  module _ (bytes : List ℕ) (at : ℕ) {t : Entered} (h : t ≡ enterRecord l (take recordSize (drop at bytes))) where
     pub record-refused : (left : ℕ) → 0 < left → (t .answer ≡ accepted → ⊥) → logAfter l (recordsIn (drop at bytes) left) ≡ t
     unfolding logAfter recordsIn
     record-refused zero k n = absurd (let z : ⊥ = omega arith in z)
@@ -132,3 +150,40 @@ module _ (l : Log) where
     unfolding logAfter recordsIn
     record-accepted zero k n = absurd (let z : ⊥ = omega arith in z)
     record-accepted (suc left) k n = rw (← h, eq-eqb (t .answer) accepted n, drop-drop recordSize at bytes, suc-sub-suc left 0, sub-zero left)
+
+-- ---- the log after lent records has the limit of the call
+
+pub reading-limit : (l : Log) (r : Reading) → enterReading l r .log .stores ≡ l .stores
+unfolding enterReading
+reading-limit l (Of e) = enter-limit l e
+reading-limit l (Refused n) = refl
+
+pub after-limit : (l : Log) (rs : List (List ℕ)) → logAfter l rs .log .stores ≡ l .stores
+unfolding logAfter
+after-limit l [] = refl
+after-limit l (r ∷ rs) =
+    by-test (λ (t : Entered). t .log .stores ≡ l .stores) (eqb (enterRecord l r .answer) accepted) _ _
+    (λ h. after-limit (enterRecord l r .log) rs ∙ reading-limit l (readRecord (l .stores) r))
+    (λ h. reading-limit l (readRecord (l .stores) r))
+
+pub opened-limit : (limit : ℕ) → opened limit .stores ≡ limit
+unfolding opened
+opened-limit limit = refl
+
+module _ (limit : ℕ) (bytes : List ℕ) (count : ℕ) (h : lentLog limit bytes count .answer ≡ accepted) where
+  pub limit-fits : noLimit limit ≡ false
+  unfolding lentLog
+  limit-fits = is-false (noLimit limit) (λ k. let z : _≡_ {A = ℕ} outsideLimits accepted = rw k at h in let y : ⊥ = omega arith in y)
+
+  pub count-fits : count * recordSize ≤ length bytes
+  unfolding lentLog
+  count-fits =
+      ltb-false (length bytes) (count * recordSize)
+      (is-false (ltb (length bytes) (count * recordSize)) (λ k. let z : _≡_ {A = ℕ} outsideLimits accepted = rw (limit-fits, k) at h in let y : ⊥ = omega arith in y))
+
+  pub lent-after : lentLog limit bytes count ≡ recordsEntered limit bytes count
+  unfolding lentLog
+  lent-after = rw (limit-fits, le-ltb (length bytes) (count * recordSize) count-fits)
+
+  pub lent-limit : lentLog limit bytes count .log .stores ≡ limit
+  lent-limit = ap (λ (t : Entered). t .log .stores) lent-after ∙ after-limit (opened limit) (recordsIn bytes count) ∙ opened-limit limit

@@ -1,3 +1,4 @@
 pub mod LentLaws
+pub mod LimitCases
 pub mod RunningLaws
 pub mod SummaryLaws

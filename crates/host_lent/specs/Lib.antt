@@ -1,2 +1,3 @@
 pub mod Lent
+pub mod LimitCases
 pub mod Summary

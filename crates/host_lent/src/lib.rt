@@ -7,13 +7,16 @@ ghost use Rattle.log_entry.specs.Bits.{has};
 ghost use Rattle.log_entry.specs.Limits.{transactions};
 ghost use Rattle.log_votes.specs.Row.{emptyRow};
 ghost use Rattle.host_records.specs.Record.{recordSize};
-ghost use Rattle.host_lent.specs.Lent.{lentLog, recordsEntered, refusalIn};
+ghost use Rattle.host_lent.specs.Lent.{lentLog, noLimit, recordsEntered, refusalIn};
 use host_records::RECORD_SIZE;
 use host_records::Reading;
 use log_core::Log;
 use log_core::refusal::take_refusal;
+use log_entry::Limit;
 use log_entry::limits::PROCESS_PLACES;
+use log_entry::limits::SMALL_STORES;
 use log_entry::limits::STORE_PLACES;
+use log_entry::limits::STORES;
 use log_entry::limits::TRANSACTION_PLACES;
 use log_entry::refusal::ACCEPTED;
 use log_entry::refusal::OUTSIDE_LIMITS;
@@ -65,11 +68,11 @@ fn noted(running: u32, tx: u8, runs: bool) -> u32
 // is kept beside it: the rows in short, what the last group remembers, and `running`, the set of
 // the running transactions. The row without votes is a parameter, so that the compiler copies it as
 // one piece.
-fn entered(none: Row, lent: &[u8], count: usize, answer: &mut u8) -> Log
+fn entered(none: Row, stores: u8, lent: &[u8], count: usize, answer: &mut u8) -> Log
     requires { ⌜ none ≡ emptyRow ⌝ }
     requires { ⌜ count * recordSize ≤ length (now lent) ⌝ }
-    ensures { λ r. ⌜ r ≡ recordsEntered (now (lent .entry)) count .log ⌝ }
-    ensures { λ r. ⌜ now (answer .exit) ≡ recordsEntered (now (lent .entry)) count .answer ⌝ }
+    ensures { λ r. ⌜ r ≡ recordsEntered stores (now (lent .entry)) count .log ⌝ }
+    ensures { λ r. ⌜ now (answer .exit) ≡ recordsEntered stores (now (lent .entry)) count .answer ⌝ }
 {
     let mut rows = [none; TRANSACTION_PLACES];
     let mut holders: [u8; STORE_PLACES] = [0; STORE_PLACES];
@@ -87,7 +90,7 @@ fn entered(none: Row, lent: &[u8], count: usize, answer: &mut u8) -> Log
     *answer = ACCEPTED;
     while 0 < left {
         let end = at + RECORD_SIZE;
-        let reading = host_records::read(&lent[at..end]);
+        let reading = host_records::read(stores, &lent[at..end]);
         let Reading::Of(e) = reading else {
             *answer = refusal_in(reading);
             break;
@@ -142,18 +145,30 @@ fn entered(none: Row, lent: &[u8], count: usize, answer: &mut u8) -> Log
         latest: latest,
         groups: groups,
         remembered: remembered,
+        stores: stores,
     }
 }
 
-// The log after the lent records, and the answer: the first refusal found, or that all were
-// accepted.
-pub fn lent_log(lent: &[u8], count: usize, answer: &mut u8) -> Log
-    ensures { λ r. ⌜ r ≡ lentLog (now (lent .entry)) count .log ⌝ }
-    ensures { λ r. ⌜ now (answer .exit) ≡ lentLog (now (lent .entry)) count .answer ⌝ }
+// Whether no log is opened with so many stores.
+fn no_limit(stores: u32) -> bool
+    ensures { λ r. ⌜ r ≡ noLimit stores ⌝ }
 {
+    !((stores == STORES as u32) | (stores == SMALL_STORES as u32))
+}
+
+// The log of so many stores after the lent records, and the answer: the first refusal found, or
+// that all were accepted.
+pub fn lent_log(stores: u32, lent: &[u8], count: usize, answer: &mut u8) -> Log
+    ensures { λ r. ⌜ r ≡ lentLog stores (now (lent .entry)) count .log ⌝ }
+    ensures { λ r. ⌜ now (answer .exit) ≡ lentLog stores (now (lent .entry)) count .answer ⌝ }
+{
+    if no_limit(stores) {
+        *answer = OUTSIDE_LIMITS;
+        return Log::empty(Limit::Full);
+    }
     if lent.len() / RECORD_SIZE < count {
         *answer = OUTSIDE_LIMITS;
-        return Log::empty();
+        return Log::empty(Limit::Full);
     }
-    entered(Row::none(), lent, count, answer)
+    entered(Row::none(), stores as u8, lent, count, answer)
 }

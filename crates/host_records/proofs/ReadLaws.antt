@@ -6,10 +6,11 @@ use mathlib.Core.Path.{_≡_, refl, sym, _∙_}
 use native.Mathlib.Omega.{arith}
 use borrow.Author.Tests.{eqb-true, le-leb, leb-false, leb-true, lt-ltb, ne-eqb}
 use lib.Dec.{eqb, leb}
+use Rattle.log_entry.proofs.LimitLaws.{lists-within, stores-within, transactions-within}
 use Rattle.log_entry.proofs.Tests.{neither-left, neither-right, or-cases}
 use Rattle.log_entry.specs.declared.Entry.{Entry}
 use Rattle.log_entry.specs.Entry.{outside}
-use Rattle.log_entry.specs.Limits.{lists, processes, stores, transactions, turns}
+use Rattle.log_entry.specs.Limits.{listsOf, processes, storesOf, transactionsOf, turns}
 use Rattle.log_entry.specs.Refusal.{outsideLimits, unreadable as unreadableNumber}
 use Rattle.host_records.specs.Numbers.{beyondByte, byteValues, commitSay, entryOf, readNumbers, takeKind, turnMeant, unreadable, unusedIsSet}
 use Rattle.host_records.specs.declared.Numbers.{Numbers}
@@ -29,7 +30,7 @@ inTurn n t = record {
   update = n .update;
 }
 
-module _ (n : Numbers) (readable : unreadable n ≡ false) where
+module _ (limit : ℕ) (n : Numbers) (readable : unreadable n ≡ false) where
   -- what a take does not use is 0, so who uses it is no take
   vote-if-used : unusedIsSet n ≡ true → eqb (n .kind) takeKind ≡ false
   unfolding unreadable
@@ -42,34 +43,34 @@ module _ (n : Numbers) (readable : unreadable n ≡ false) where
       split false e = refl
       split true e = absurd (true≢false (sym (take-is-unreadable (eqb-true (n .kind) takeKind e)) ∙ readable))
 
-  outside-process : byteValues ≤ n .process → outside (entryOf n) ≡ true
+  outside-process : byteValues ≤ n .process → outside limit (entryOf n) ≡ true
   unfolding outside
   outside-process h = rw (lt-ltb processes (n .process) (omega arith), or-true)
 
-  outside-store : byteValues ≤ n .store → outside (entryOf n) ≡ true
+  outside-store : byteValues ≤ n .store → outside limit (entryOf n) ≡ true
   unfolding outside
-  outside-store h = rw (le-leb stores (n .store) (omega arith), or-true)
+  outside-store h = rw (le-leb (storesOf limit) (n .store) (omega (arith, stores-within limit)), or-true)
 
-  outside-by : byteValues ≤ n .by → outside (entryOf n) ≡ true
+  outside-by : byteValues ≤ n .by → outside limit (entryOf n) ≡ true
   unfolding outside
   outside-by h =
-      rw (vote-if-used (rw (ne-eqb (n .by) 0 (λ e. omega arith))), le-leb stores (n .by) (omega arith), or-true)
+      rw (vote-if-used (rw (ne-eqb (n .by) 0 (λ e. omega arith))), le-leb (storesOf limit) (n .by) (omega (arith, stores-within limit)), or-true)
 
-  outside-tx : byteValues ≤ n .tx → outside (entryOf n) ≡ true
+  outside-tx : byteValues ≤ n .tx → outside limit (entryOf n) ≡ true
   unfolding outside
   outside-tx h =
-      simp (vote-if-used (simp (ne-eqb (n .tx) 0 (λ e. omega arith), or-true)), le-leb transactions (n .tx) (omega arith), or-true)
+      simp (vote-if-used (simp (ne-eqb (n .tx) 0 (λ e. omega arith), or-true)), le-leb (transactionsOf limit) (n .tx) (omega (arith, transactions-within limit)), or-true)
 
-  outside-list : byteValues ≤ n .list → outside (entryOf n) ≡ true
+  outside-list : byteValues ≤ n .list → outside limit (entryOf n) ≡ true
   unfolding outside
   outside-list h =
-      simp (vote-if-used (simp (ne-eqb (n .list) 0 (λ e. omega arith), or-true)), le-leb lists (n .list) h, or-true)
+      simp (vote-if-used (simp (ne-eqb (n .list) 0 (λ e. omega arith), or-true)), le-leb (listsOf limit) (n .list) (omega (arith, lists-within limit)), or-true)
 
-  outside-turn : byteValues ≤ n .turn → outside (entryOf n) ≡ true
+  outside-turn : byteValues ≤ n .turn → outside limit (entryOf n) ≡ true
   unfolding outside
   outside-turn h = simp (ne-eqb (n .turn) 0 (λ e. omega arith), lt-ltb turns (n .turn) (omega arith), or-true)
 
-  beyond-is-outside : beyondByte n ≡ true → outside (entryOf n) ≡ true
+  beyond-is-outside : beyondByte n ≡ true → outside limit (entryOf n) ≡ true
   unfolding beyondByte
   beyond-is-outside h =
       ⊎-elim (λ h.
@@ -82,26 +83,26 @@ module _ (n : Numbers) (readable : unreadable n ≡ false) where
       (λ h. outside-list (leb-true byteValues (n .list) h)) (or-cases _ _ h))
       (λ h. outside-turn (leb-true byteValues (n .turn) h)) (or-cases _ _ h)
 
-  pub read-beyond : beyondByte n ≡ true → Refused outsideLimits ≡ readNumbers n
+  pub read-beyond : beyondByte n ≡ true → Refused outsideLimits ≡ readNumbers limit n
   unfolding readNumbers
   read-beyond h = rw (readable, beyond-is-outside h)
 
-  pub read-above : byteValues ≤ n .turn → readNumbers n ≡ Refused outsideLimits
+  pub read-above : byteValues ≤ n .turn → readNumbers limit n ≡ Refused outsideLimits
   unfolding readNumbers
   read-above h = rw (readable, outside-turn h)
 
   -- t is the turn that they stand for
   module _ {t : ℕ} (meant : t ≡ turnMeant (n .turn)) where
-    pub read-outside : outside (inTurn n t) ≡ true → Refused outsideLimits ≡ readNumbers n
+    pub read-outside : outside limit (inTurn n t) ≡ true → Refused outsideLimits ≡ readNumbers limit n
     unfolding readNumbers
     read-outside h = rw (readable, ← meant, h)
 
-    pub read-entry : outside (inTurn n t) ≡ false → Of (inTurn n t) ≡ readNumbers n
+    pub read-entry : outside limit (inTurn n t) ≡ false → Of (inTurn n t) ≡ readNumbers limit n
     unfolding readNumbers
     read-entry h = rw (readable, ← meant, h)
 
-module _ (n : Numbers) where
-  pub read-unreadable : unreadable n ≡ true → Refused unreadableNumber ≡ readNumbers n
+module _ (limit : ℕ) (n : Numbers) where
+  pub read-unreadable : unreadable n ≡ true → Refused unreadableNumber ≡ readNumbers limit n
   unfolding readNumbers
   read-unreadable h = rw h
 

@@ -5,6 +5,8 @@ use mathlib.Core.Path.{_≡_, refl}
 use native.Mathlib.Omega.{arith}
 use Rattle.log_entry.specs.declared.Entry.{Entry}
 use Rattle.log_entry.specs.Entry.{outside}
+use Rattle.log_entry.specs.Limits.{stores}
+use Rattle.log_entry.proofs.Theorems.{inside-is-in-full}
 use Rattle.log_entry.specs.Refusal.{accepted, outsideLimits, unreadable as unreadableNumber}
 use Rattle.host_records.specs.Numbers.{entryOf, readNumbers, unreadable}
 use Rattle.host_records.specs.declared.Numbers.{Numbers}
@@ -32,15 +34,20 @@ tried-refusal false false e n h k = let z : _≡_ {A = ℕ} 0 1 = cc in omega ar
 tried-refusal false true e n h k = let z : n ≡ outsideLimits = cc in omega arith
 tried-refusal true o e n h k = let z : n ≡ unreadableNumber = cc in omega arith
 
-module _ (n : Numbers) where
-  pub entry-read : {e : Entry} → readNumbers n ≡ Of e → entryOf n ≡ e
+module _ (limit : ℕ) (n : Numbers) where
+  pub entry-read : {e : Entry} → readNumbers limit n ≡ Of e → entryOf n ≡ e
   unfolding readNumbers tried
-  entry-read {e} h = tried-entry (unreadable n) (outside (entryOf n)) (entryOf n) e h
+  entry-read {e} h = tried-entry (unreadable n) (outside limit (entryOf n)) (entryOf n) e h
 
-  pub passed-read : {e : Entry} → readNumbers n ≡ Of e → (unreadable n ≡ false) × (outside (entryOf n) ≡ false)
+  pub passed-read : {e : Entry} → readNumbers limit n ≡ Of e → (unreadable n ≡ false) × (outside limit (entryOf n) ≡ false)
   unfolding readNumbers tried
-  passed-read {e} h = tried-passed (unreadable n) (outside (entryOf n)) (entryOf n) e h
+  passed-read {e} h = tried-passed (unreadable n) (outside limit (entryOf n)) (entryOf n) e h
 
-  pub refusal-read : {k : ℕ} → readNumbers n ≡ Refused k → k ≡ accepted → ⊥
+  pub refusal-read : {k : ℕ} → readNumbers limit n ≡ Refused k → k ≡ accepted → ⊥
   unfolding readNumbers tried
-  refusal-read {k} h = tried-refusal (unreadable n) (outside (entryOf n)) (entryOf n) k h
+  refusal-read {k} h = tried-refusal (unreadable n) (outside limit (entryOf n)) (entryOf n) k h
+
+-- numbers within the limits read alike for a full log
+pub read-within : (limit : ℕ) (n : Numbers) → outside limit (entryOf n) ≡ false → readNumbers limit n ≡ readNumbers stores n
+unfolding readNumbers
+read-within limit n h = rw (h, inside-is-in-full limit (entryOf n) h)

@@ -15,12 +15,12 @@ use Rattle.host_records.specs.declared.Numbers.{Numbers}
 use Rattle.host_records.specs.declared.Reading.{Reading}
 use Rattle.host_records.specs.declared.Reading.the-variants.{Refused}
 
-module _ (bytes : List ℕ) where
-  pub no-record : (length bytes ≡ recordSize → ⊥) → Refused unreadableNumber ≡ readRecord bytes
+module _ (limit : ℕ) (bytes : List ℕ) where
+  pub no-record : (length bytes ≡ recordSize → ⊥) → Refused unreadableNumber ≡ readRecord limit bytes
   unfolding readRecord
   no-record h = rw (ne-eqb (length bytes) recordSize h)
 
-  pub read-as-numbers : length bytes ≡ recordSize → {r : Reading} {n : Numbers} → r ≡ readNumbers n → n ≡ numbersIn bytes → r ≡ readRecord bytes
+  pub read-as-numbers : length bytes ≡ recordSize → {r : Reading} {n : Numbers} → r ≡ readNumbers limit n → n ≡ numbersIn bytes → r ≡ readRecord limit bytes
   unfolding readRecord
   read-as-numbers size h k = rw (h, k, eq-eqb (length bytes) recordSize size)
 

@@ -15,26 +15,26 @@ use Rattle.host_records.specs.Record.{entryIn, numbersIn, readRecord, re
 use Rattle.host_records.specs.declared.Numbers.{Numbers}
 use Rattle.host_records.specs.declared.Reading.the-variants.{Of, Refused}
 
-module _ (n : Numbers) where
-  tested-entry : (t : Bool) {e : Entry} → cond t (readNumbers n) (Refused unreadableNumber) ≡ Of e → readNumbers n ≡ Of e
+module _ (limit : ℕ) (n : Numbers) where
+  tested-entry : (t : Bool) {e : Entry} → cond t (readNumbers limit n) (Refused unreadableNumber) ≡ Of e → readNumbers limit n ≡ Of e
   tested-entry true h = h
   tested-entry false {e} h = cc
 
-  tested-refusal : (t : Bool) {k : ℕ} → cond t (readNumbers n) (Refused unreadableNumber) ≡ Refused k → k ≡ accepted → ⊥
-  tested-refusal true h e = refusal-read n h e
+  tested-refusal : (t : Bool) {k : ℕ} → cond t (readNumbers limit n) (Refused unreadableNumber) ≡ Refused k → k ≡ accepted → ⊥
+  tested-refusal true h e = refusal-read limit n h e
   tested-refusal false {k} h e = let z : k ≡ unreadableNumber = cc in omega arith
 
-module _ (bytes : List ℕ) where
-  pub record-entry : {e : Entry} → readRecord bytes ≡ Of e → entryIn bytes ≡ e
+module _ (limit : ℕ) (bytes : List ℕ) where
+  pub record-entry : {e : Entry} → readRecord limit bytes ≡ Of e → entryIn bytes ≡ e
   unfolding readRecord
-  record-entry h = entry-read (numbersIn bytes) (tested-entry (numbersIn bytes) (eqb (length bytes) recordSize) h)
+  record-entry h = entry-read limit (numbersIn bytes) (tested-entry limit (numbersIn bytes) (eqb (length bytes) recordSize) h)
 
-  pub record-inside : {e : Entry} → readRecord bytes ≡ Of e → outside e ≡ false
+  pub record-inside : {e : Entry} → readRecord limit bytes ≡ Of e → outside limit e ≡ false
   unfolding readRecord
   record-inside h =
-      ap (λ (f : Entry). outside f) (sym (record-entry h))
-      ∙ passed-read (numbersIn bytes) (tested-entry (numbersIn bytes) (eqb (length bytes) recordSize) h) .1
+      ap (λ (f : Entry). outside limit f) (sym (record-entry h))
+      ∙ passed-read limit (numbersIn bytes) (tested-entry limit (numbersIn bytes) (eqb (length bytes) recordSize) h) .1
 
-  pub record-refusal : {k : ℕ} → readRecord bytes ≡ Refused k → k ≡ accepted → ⊥
+  pub record-refusal : {k : ℕ} → readRecord limit bytes ≡ Refused k → k ≡ accepted → ⊥
   unfolding readRecord
-  record-refusal h = tested-refusal (numbersIn bytes) (eqb (length bytes) recordSize) h
+  record-refusal h = tested-refusal limit (numbersIn bytes) (eqb (length bytes) recordSize) h

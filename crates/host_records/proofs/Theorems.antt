@@ -54,44 +54,44 @@ with-update : Entry → ℕ → Numbers
 with-update e u =
     numbers (cond (e .take) takeKind voteKind) (e .process) (e .by) (e .store) (e .tx) (e .participants) (cond (e .commit) commitSay abortSay) (e .turn) u
 
-module _ (e : Entry) (h : proper e ≡ true) where
+module _ (limit : ℕ) (e : Entry) (h : proper limit e ≡ true) where
   readable : unreadable (numbersOf e) ≡ false
-  readable = not-true (unreadable (numbersOf e)) (and-both (not (unreadable (numbersOf e))) (not (outside e)) h .0)
+  readable = not-true (unreadable (numbersOf e)) (and-both (not (unreadable (numbersOf e))) (not (outside limit e)) h .0)
 
-  inside : outside e ≡ false
-  inside = not-true (outside e) (and-both (not (unreadable (numbersOf e))) (not (outside e)) h .1)
+  inside : outside limit e ≡ false
+  inside = not-true (outside limit e) (and-both (not (unreadable (numbersOf e))) (not (outside limit e)) h .1)
 
   update-fits : e .update < updates
   update-fits = split (e .take) refl
     where
       split : (t : Bool) → e .take ≡ t → e .update < updates
-      split false k = inside-vote e inside k .update
+      split false k = inside-vote limit e inside k .update
       split true k = let y : e .update ≡ 0 = take-update (numbersOf e) readable (rw k) in omega arith
 
-  numbers-read-back : readNumbers (numbersOf e) ≡ Of e
+  numbers-read-back : readNumbers limit (numbersOf e) ≡ Of e
   unfolding readNumbers
-  numbers-read-back = rw (readable, entry-of-numbers e (inside-turn e inside .0), inside)
+  numbers-read-back = rw (readable, entry-of-numbers e (inside-turn limit e inside .0), inside)
 
-  pub record-reads-back : readRecord (recordOf e) ≡ Of e
+  pub record-reads-back : readRecord limit (recordOf e) ≡ Of e
   unfolding readRecord recordOf with-update
-  record-reads-back = ap (λ (u : ℕ). readNumbers (with-update e u)) (low-first-back updateBytes (e .update) update-fits) ∙ numbers-read-back
+  record-reads-back = ap (λ (u : ℕ). readNumbers limit (with-update e u)) (low-first-back updateBytes (e .update) update-fits) ∙ numbers-read-back
 
 -- each entry of document 01 whose numbers are within their limits is such an entry
-pub take-is-proper : (process turn store : ℕ) → outside (takeEntry process turn store) ≡ false → proper (takeEntry process turn store) ≡ true
+pub take-is-proper : (limit process turn store : ℕ) → outside limit (takeEntry process turn store) ≡ false → proper limit (takeEntry process turn store) ≡ true
 unfolding unreadable
-take-is-proper process turn store h = rw h
+take-is-proper limit process turn store h = rw h
 
-pub vote-is-proper : (process turn by store tx list : ℕ) (commit : Bool) (update : ℕ)
-    → outside (voteEntry process turn by store tx list commit update) ≡ false → proper (voteEntry process turn by store tx list commit update) ≡ true
+pub vote-is-proper : (limit process turn by store tx list : ℕ) (commit : Bool) (update : ℕ)
+    → outside limit (voteEntry process turn by store tx list commit update) ≡ false → proper limit (voteEntry process turn by store tx list commit update) ≡ true
 unfolding unreadable
-vote-is-proper process turn by store tx list true update h = rw h
-vote-is-proper process turn by store tx list false update h = rw h
+vote-is-proper limit process turn by store tx list true update h = rw h
+vote-is-proper limit process turn by store tx list false update h = rw h
 
 -- so is what was read from numbers
-pub read-is-proper : (n : Numbers) {e : Entry} → readNumbers n ≡ Of e → proper e ≡ true
-read-is-proper n {e} h =
-    let passed = passed-read n h in
-    rw (← entry-read n h, entry-readable n (passed .0), passed .1)
+pub read-is-proper : (limit : ℕ) (n : Numbers) {e : Entry} → readNumbers limit n ≡ Of e → proper limit e ≡ true
+read-is-proper limit n {e} h =
+    let passed = passed-read limit n h in
+    rw (← entry-read limit n h, entry-readable n (passed .0), passed .1)
 
 -- "a host's record grows to 16 bytes"
 pub record-size : (e : Entry) → length (recordOf e) ≡ 16
@@ -100,20 +100,20 @@ record-size e = refl
 
 pub zero-means-first : ZeroMeansFirst
 unfolding readRecord readNumbers unreadable
-zero-means-first kind process by store tx list say rest = refl
+zero-means-first limit kind process by store tx list say rest = refl
 
 pub zero-means-first-in-call : ZeroMeansFirstInCall
 unfolding readNumbers unreadable
-zero-means-first-in-call kind process by store tx list say update = refl
+zero-means-first-in-call limit kind process by store tx list say update = refl
 
 pub turn-read : TurnRead
-turn-read bytes e h = ap (λ (e : Entry). e .turn) (sym (record-entry bytes h))
+turn-read limit bytes e h = ap (λ (e : Entry). e .turn) (sym (record-entry limit bytes h))
 
 pub stored-turn : StoredTurn
 unfolding recordOf
-stored-turn n e h =
-    let inside = ap (λ (f : Entry). outside f) (sym (entry-read n h)) ∙ passed-read n h .1 in
-    (inside-turn e inside .0, inside-turn e inside .1, ap (λ (e : Entry). e .turn) (sym (entry-read n h)))
+stored-turn limit n e h =
+    let inside = ap (λ (f : Entry). outside limit f) (sym (entry-read limit n h)) ∙ passed-read limit n h .1 in
+    (inside-turn limit e inside .0, inside-turn limit e inside .1, ap (λ (e : Entry). e .turn) (sym (entry-read limit n h)))
 
 pub turn-above : TurnAbove
-turn-above n readable h = read-above n readable h
+turn-above limit n readable h = read-above limit n readable h

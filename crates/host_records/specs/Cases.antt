@@ -27,6 +27,7 @@ abbrev long : ℕ → ℕ → ℕ → ℕ → ℕ → ℕ → ℕ → ℕ → Li
 long kind process by store tx list say turn =
     kind ∷ process ∷ by ∷ store ∷ tx ∷ list ∷ say ∷ turn ∷ 10 ∷ 0 ∷ 0 ∷ 0 ∷ 0 ∷ 0 ∷ 0 ∷ 1 ∷ []
 
+-- of a log of 8 stores
 unfoldable pub recordCases : List Case
 recordCases =
     -- "carries the turn in its zero byte, 0 meaning 1", of a take and of a vote
@@ -57,10 +58,28 @@ recordCases =
     ∷ (short 0 3 0 7 0 0 0 1 ++ 0 ∷ [] reads Refused 1)
     ∷ []
 
--- the record with what it reads as by the definitions
-abbrev asRead : Case → Case
-asRead c = c .bytes reads readRecord (c .bytes)
+-- Of a log of 3 stores: "A number outside the log's own limits, or a list naming such a store, is
+-- refused 2".
+unfoldable pub smallCases : List Case
+smallCases =
+    (short 0 15 0 2 0 0 0 255 reads Of (takeEntry 15 255 2))
+    ∷ (long 1 3 1 2 7 6 1 2 reads Of (voteEntry 3 2 1 2 7 6 true 0x010000000000000a))
+    -- store, by, tx, list
+    ∷ (short 0 3 0 3 0 0 0 1 reads Refused 2)
+    ∷ (short 1 3 1 3 7 6 0 1 reads Refused 2)
+    ∷ (short 1 3 3 2 7 6 0 1 reads Refused 2)
+    ∷ (short 1 3 1 2 8 6 0 1 reads Refused 2)
+    ∷ (short 1 3 1 2 7 14 0 1 reads Refused 2)
+    ∷ (short 1 3 1 2 7 134 0 1 reads Refused 2)
+    -- 1 before 2
+    ∷ (short 0 3 0 3 0 0 1 1 reads Refused 1)
+    ∷ (short 1 3 1 2 8 6 2 1 reads Refused 1)
+    ∷ []
 
--- the definitions give the table
+-- the record with what it reads as by the definitions, for a log of this limit
+abbrev asRead : ℕ → Case → Case
+asRead limit c = c .bytes reads readRecord limit (c .bytes)
+
+-- the definitions give the tables
 abbrev pub RecordCasesHold : Type 0
-RecordCasesHold = map asRead recordCases ≡ recordCases
+RecordCasesHold = (map (asRead 8) recordCases ≡ recordCases) × (map (asRead 3) smallCases ≡ smallCases)

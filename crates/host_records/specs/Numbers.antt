@@ -69,10 +69,10 @@ unreadable n =
     (ltb commitSay (n .say))
     (not (eqb (n .kind) takeKind) || unusedIsSet n)
 
--- 1, then 2, or the entry
-unfoldable pub readNumbers : Numbers → Reading
-readNumbers n =
-    cond (unreadable n) (Refused unreadableNumber) (cond (outside (entryOf n)) (Refused outsideLimits) (Of (entryOf n)))
+-- 1, then 2 by the limit of the log that the entry is for, or the entry
+unfoldable pub readNumbers : ℕ → Numbers → Reading
+readNumbers limit n =
+    cond (unreadable n) (Refused unreadableNumber) (cond (outside limit (entryOf n)) (Refused outsideLimits) (Of (entryOf n)))
 
 -- a number other than the update is more than a byte holds; every limit is below that
 unfoldable pub beyondByte : Numbers → Bool

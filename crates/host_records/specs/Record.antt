@@ -45,15 +45,16 @@ abbrev pub numbersIn : List ℕ → Numbers
 numbersIn bytes =
     numbers (getD bytes 0 0) (getD bytes 1 0) (getD bytes 2 0) (getD bytes 3 0) (getD bytes 4 0) (getD bytes 5 0) (getD bytes 6 0) (getD bytes 7 0) (fromLowFirst (drop updateAt bytes))
 
--- what a record reads as; what is no record, for its length, is 1
-unfoldable pub readRecord : List ℕ → Reading
-readRecord bytes =
-    cond (eqb (length bytes) recordSize) (readNumbers (numbersIn bytes)) (Refused unreadableNumber)
+-- what a record reads as, for a log of this limit; what is no record, for its length, is 1
+unfoldable pub readRecord : ℕ → List ℕ → Reading
+readRecord limit bytes =
+    cond (eqb (length bytes) recordSize) (readNumbers limit (numbersIn bytes)) (Refused unreadableNumber)
 
 -- the entry that a record's numbers stand for
 abbrev pub entryIn : List ℕ → Entry
 entryIn bytes = entryOf (numbersIn bytes)
 
--- an entry of document 01: what a take does not use is 0, and each number is within its limits
-abbrev pub proper : Entry → Bool
-proper e = not (unreadable (numbersOf e)) && not (outside e)
+-- an entry of document 01: what a take does not use is 0, and each number is within the limits of a
+-- log of this limit
+abbrev pub proper : ℕ → Entry → Bool
+proper limit e = not (unreadable (numbersOf e)) && not (outside limit e)

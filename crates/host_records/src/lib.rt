@@ -92,8 +92,9 @@ impl Numbers {
             | (BYTE_VALUES <= self.turn)
     }
 
-    pub fn read(self) -> Reading
-        ensures { λ r. ⌜ r ≡ readNumbers self ⌝ }
+    // What they read as, for a log of so many stores.
+    pub fn read(self, stores: u8) -> Reading
+        ensures { λ r. ⌜ r ≡ readNumbers stores self ⌝ }
     {
         if self.unreadable() {
             return Reading::Refused(UNREADABLE);
@@ -112,7 +113,7 @@ impl Numbers {
             commit: self.say == COMMIT as u32,
             update: self.update,
         };
-        if e.outside() {
+        if e.outside(stores) {
             return Reading::Refused(OUTSIDE_LIMITS);
         }
         Reading::Of(e)
@@ -145,9 +146,9 @@ fn from_low_first(bytes: &[u8]) -> Update
     u
 }
 
-// What the bytes of a record read as.
-pub fn read(bytes: &[u8]) -> Reading
-    ensures { λ r. ⌜ r ≡ readRecord (now (bytes .entry)) ⌝ }
+// What the bytes of a record read as, for a log of so many stores.
+pub fn read(stores: u8, bytes: &[u8]) -> Reading
+    ensures { λ r. ⌜ r ≡ readRecord stores (now (bytes .entry)) ⌝ }
 {
     if bytes.len() != RECORD_SIZE {
         return Reading::Refused(UNREADABLE);
@@ -163,7 +164,7 @@ pub fn read(bytes: &[u8]) -> Reading
         turn: wide(bytes[7]),
         update: from_low_first(&bytes[UPDATE_AT..]),
     };
-    n.read()
+    n.read(stores)
 }
 
 fn either(test: bool, yes: u8, no: u8) -> u8

@@ -26,11 +26,11 @@ use Rattle.log_core.specs.Refusal.{takeChecks}
 
 -- the answer
 module _ (p : Parts) (e : Entry) where
-  pub answer-outside : outside e ≡ true → outsideLimits ≡ refusal p e
+  pub answer-outside : outside (p .stores) e ≡ true → outsideLimits ≡ refusal p e
   unfolding refusal firstRefusal
   answer-outside h = rw h
 
-  module _ (inside : outside e ≡ false) where
+  module _ (inside : outside (p .stores) e ≡ false) where
     pub answer-take : e .take ≡ true → firstRefusal (takeChecks (p .holders) (p .takers) (p .latest) e) ≡ refusal p e
     unfolding refusal firstRefusal
     answer-take take = rw (inside, take)
@@ -72,7 +72,7 @@ module _ (p : Parts) (e : Entry) where
 
   -- of a vote, by what of the parts it is decided on
   module _ (vote : e .take ≡ false) {v : VoteParts} (so : v ≡ votePartsOf p e) where
-    pub vote-answer : outside e ≡ false → (n : ℕ) → n ≡ voteRefusal (p .row) (v .holder) (v .turn) e → n ≡ refusal p e
+    pub vote-answer : outside (p .stores) e ≡ false → (n : ℕ) → n ≡ voteRefusal (p .row) (v .holder) (v .turn) e → n ≡ refusal p e
     vote-answer inside n is = is ∙ ap (λ (v : VoteParts). voteRefusal (p .row) (v .holder) (v .turn) e) so ∙ answer-vote p e inside vote
 
     -- and the vote is accepted

@@ -2,18 +2,17 @@
 use Prim.Native.Nat.{ℕ, _%_, _*_, _-_, _<_, _^_}
 use mathlib.Core.Bool.{Bool, cond, false, true}
 use mathlib.Core.Path.{_≡_, ap, ap₂, refl, sym, _∙_}
-use native.Mathlib.Nat.{mod-eq-of-lt, one-mul}
 use native.Mathlib.Omega.{arith}
 use borrow.Author.Tests.{ne-eqb}
 use lib.Bits.{bitOr}
 use lib.Dec.{eqb}
 use lib.ListN.{getD, set}
-use lib.Pow.{pow-lt}
 use Rattle.log_entry.specs.declared.Entry.{Entry}
 use Rattle.log_entry.specs.Entry.{outside}
 use Rattle.log_entry.specs.Limits.{transactions}
 use Rattle.log_entry.specs.Refusal.{accepted, firstRefusal, outsideLimits}
 use Rattle.log_entry.proofs.InsideLaws.{inside-vote}
+use Rattle.log_entry.proofs.LimitLaws.{one-shifted}
 use Rattle.log_votes.specs.declared.Row.{Row}
 use Rattle.log_votes.specs.Row.{inGroup, keeping}
 use Rattle.log_core.specs.declared.Effect.{Effect}
@@ -33,13 +32,13 @@ pub answer-is : (l : Log) (e : Entry) → enter l e .answer ≡ refusalOf l e
 unfolding enter entered effectOf
 answer-is l e = refl
 
-pub outside-refused : (l : Log) (e : Entry) → outside e ≡ true → refusalOf l e ≡ outsideLimits
+pub outside-refused : (l : Log) (e : Entry) → outside (l .stores) e ≡ true → refusalOf l e ≡ outsideLimits
 outside-refused l e h = sym (answer-outside (partsOf l e) e h)
 
-pub accepted-inside : (l : Log) (e : Entry) → refusalOf l e ≡ accepted → outside e ≡ false
-accepted-inside l e h = split (outside e) refl
+pub accepted-inside : (l : Log) (e : Entry) → refusalOf l e ≡ accepted → outside (l .stores) e ≡ false
+accepted-inside l e h = split (outside (l .stores) e) refl
   where
-    split : (t : Bool) → outside e ≡ t → outside e ≡ false
+    split : (t : Bool) → outside (l .stores) e ≡ t → outside (l .stores) e ≡ false
     split true k = absurd (let z : _≡_ {A = ℕ} 2 0 = sym (outside-refused l e k) ∙ h in omega arith)
     split false k = k
 
@@ -69,10 +68,6 @@ module _ (l : Log) (e : Entry) (f : Effect) where
   unfolding entered
   entered-refused wrong = rw (ne-eqb (f .answer) accepted wrong)
 
--- a shifted one is the power, as long as it fits
-one-shifted : (width p : ℕ) → p < width → 1 * 2 ^ p % 2 ^ width ≡ 2 ^ p
-one-shifted width p h = rw (one-mul (2 ^ p)) (mod-eq-of-lt (pow-lt h))
-
 -- a new holder, who is past holder by a shifted one
 pub holder-stored : (l : Log) (e : Entry) (f : Effect) → e .take ≡ true → e .process < 16
     → record {
@@ -83,6 +78,7 @@ pub holder-stored : (l : Log) (e : Entry) (f : Effect) → e .take ≡ true → 
       latest = set (l .latest) (e .process) (e .turn);
       groups = l .groups;
       remembered = l .remembered;
+      stores = l .stores;
     }
     ≡ stored l e f
 holder-stored l e f take h = rw (one-shifted 16 (e .process) h) (stored-holder l e f take)
@@ -93,12 +89,12 @@ unfolding remembered
 remembered-last l h = h
 
 -- the place of the row that an entry is decided on is within the rows
-pub place-inside : (e : Entry) → outside e ≡ false → {at : ℕ} → at ≡ cond (e .take) 0 (e .tx) → at < transactions
-place-inside e inside h = split (e .take) refl h
+pub place-inside : (n : ℕ) (e : Entry) → outside n e ≡ false → {at : ℕ} → at ≡ cond (e .take) 0 (e .tx) → at < transactions
+place-inside n e inside h = split (e .take) refl h
   where
     split : (t : Bool) → e .take ≡ t → {at : ℕ} → at ≡ cond t 0 (e .tx) → at < transactions
     split true k h = omega arith
-    split false k h = omega (arith, h, inside-vote e inside k .tx)
+    split false k h = omega (arith, h, inside-vote n e inside k .tx)
 
 -- the parts with the row at a place and what the last group remembers, as the code finds them
 abbrev pub partsAt : Log → Entry → ℕ → ℕ → Parts
@@ -110,6 +106,7 @@ partsAt l e at last = record {
   latest = latestOf l (e .process);
   groups = l .groups;
   remembered = last;
+  stores = l .stores;
 }
 
 effect-answer : (p : Parts) (e : Entry) → effectOf p e .answer ≡ refusal p e
@@ -117,9 +114,9 @@ unfolding effectOf
 effect-answer p e = refl
 
 -- a take is answered whatever the row
-take-answer : (p q : Parts) (e : Entry) → e .take ≡ true → p .holders ≡ q .holders → p .takers ≡ q .takers → p .latest ≡ q .latest → refusal p e ≡ refusal q e
+take-answer : (p q : Parts) (e : Entry) → e .take ≡ true → p .stores ≡ q .stores → p .holders ≡ q .holders → p .takers ≡ q .takers → p .latest ≡ q .latest → refusal p e ≡ refusal q e
 unfolding refusal firstRefusal
-take-answer p q e take h k m = rw (take, h, k, m)
+take-answer p q e take n h k m = rw (take, n, h, k, m)
 
 -- an effect that was decided on those parts
 module _ (l : Log) (e : Entry) (at last : ℕ) (place : at ≡ cond (e .take) 0 (e .tx)) (remembers : last ≡ remembered l (l .groups)) (f : Effect) (is : f ≡ effectOf (partsAt l e at last) e) where
@@ -141,7 +138,7 @@ module _ (l : Log) (e : Entry) (at last : ℕ) (place : at ≡ cond (e .take) 0 
       by-kind true take =
           ap (λ (f : Effect). f .answer) is
           ∙ effect-answer (partsAt l e at last) e
-          ∙ take-answer (partsAt l e at last) (partsOf l e) e take refl refl refl
+          ∙ take-answer (partsAt l e at last) (partsOf l e) e take refl refl refl refl
           ∙ sym (effect-answer (partsOf l e) e)
       by-kind false vote = ap (λ (f : Effect). f .answer) (vote-same vote)
 
@@ -169,7 +166,7 @@ enter-answered l e is wrong =
     ap (λ (n : ℕ). answered l n) said ∙ entered-refused l e (effectOf (partsOf l e) e) (λ k. wrong (said ∙ k))
 
 -- refused 2 whatever the log
-pub enter-outside : (l : Log) (e : Entry) → outside e ≡ true → answered l outsideLimits ≡ enter l e
+pub enter-outside : (l : Log) (e : Entry) → outside (l .stores) e ≡ true → answered l outsideLimits ≡ enter l e
 enter-outside l e h = enter-answered l e (sym (outside-refused l e h)) (λ k. omega (arith, k))
 
 -- an accepted entry
@@ -191,6 +188,7 @@ answerParts l e at = record {
   latest = latestOf l (e .process);
   groups = 0;
   remembered = 0;
+  stores = l .stores;
 }
 
 same-answer : (l : Log) (e : Entry) → refusal (answerParts l e (e .tx)) e ≡ refusalOf l e
@@ -201,6 +199,6 @@ pub answer-at : (l : Log) (e : Entry) {at : ℕ} → at ≡ cond (e .take) 0 (e 
 answer-at l e {at} place = by-kind (e .take) refl ∙ sym (answer-is l e)
   where
     by-kind : (t : Bool) → e .take ≡ t → refusal (answerParts l e at) e ≡ refusalOf l e
-    by-kind true take = take-answer (answerParts l e at) (partsOf l e) e take refl refl refl
+    by-kind true take = take-answer (answerParts l e at) (partsOf l e) e take refl refl refl refl
     by-kind false vote =
         ap (λ (t : ℕ). refusal (answerParts l e t) e) (place ∙ ap (λ (b : Bool). cond b 0 (e .tx)) vote) ∙ same-answer l e

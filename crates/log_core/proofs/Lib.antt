@@ -3,7 +3,10 @@ pub mod DecideLaws
 pub mod EmptyLaws
 pub mod EnterLaws
 pub mod Lengths
+pub mod Limit
+pub mod LimitCases
 pub mod ReplayLaws
 pub mod ReplayLength
 pub mod ReplayedRows
 pub mod TurnCases
+pub mod TwoLimits

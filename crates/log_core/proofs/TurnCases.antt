@@ -7,10 +7,10 @@ use Rattle.log_votes.specs.Scan.{allFrom, anyFrom, setOf}
 use Rattle.log_core.specs.Decide.{effectOf, refusal}
 use Rattle.log_core.specs.Enter.{answersTo, enter, entered, feed, stored}
 use Rattle.log_core.specs.Group.{remembered}
-use Rattle.log_core.specs.Log.{emptyLog}
+use Rattle.log_core.specs.Log.{opened}
 use Rattle.log_core.specs.Refusal.{wrongTurn}
 use Rattle.log_core.specs.TurnCases.{TurnCasesHold, turnCases}
 
 pub turn-cases-hold : TurnCasesHold
-unfolding turnCases answersTo feed enter entered stored effectOf refusal firstRefusal wrongTurn outside illFormed remembered setOf running outcomeOfVotes anyFrom allFrom emptyLog
+unfolding turnCases answersTo feed enter entered stored effectOf refusal firstRefusal wrongTurn outside illFormed remembered setOf running outcomeOfVotes anyFrom allFrom opened
 turn-cases-hold = refl

@@ -30,13 +30,14 @@ partsOf l e = record {
   latest = latestOf l (e .process);
   groups = l .groups;
   remembered = remembered l (l .groups);
+  stores = l .stores;
 }
 
 -- the answer to an entry: 2, then 11 and 12 of a take, and 7 to 10 and 12 of a vote
 unfoldable pub refusal : Parts → Entry → ℕ
 refusal p e =
     firstRefusal
-    (check outsideLimits (outside e)
+    (check outsideLimits (outside (p .stores) e)
     ∷ cond (e .take)
     (takeChecks (p .holders) (p .takers) (p .latest) e)
     (voteChecks (p .row) (getD (p .holders) (e .by) 0) (getD (p .turns) (e .by) 0) e))

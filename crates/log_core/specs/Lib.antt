@@ -2,6 +2,8 @@ pub mod Decide
 pub mod Enter
 pub mod Follow
 pub mod Group
+pub mod Limit
+pub mod LimitCases
 pub mod Log
 pub mod Refusal
 pub mod Replay

@@ -13,9 +13,10 @@ use Rattle.log_votes.specs.Outcome.{outcomeOfVotes}
 use Rattle.log_votes.specs.Row.{emptyRow, noRow, noVote}
 use Rattle.log_core.specs.declared.Log.{Log}
 
--- the log before any entry
-unfoldable pub emptyLog : Log
-emptyLog = record {
+-- "Each log is opened with one of the two limits": the log of limit n before any entry. The arrays
+-- are those of the full limit, whatever n is.
+unfoldable pub opened : ℕ → Log
+opened n = record {
   rows = replicate transactions emptyRow;
   holders = replicate stores 0;
   turns = replicate stores 0;
@@ -23,7 +24,17 @@ emptyLog = record {
   latest = replicate processPlaces 0;
   groups = 0;
   remembered = replicate transactions 0;
+  stores = n;
 }
+
+-- that of the full limit, which step files have
+abbrev pub emptyLog : Log
+emptyLog = opened stores
+
+-- the log with limit n, and all else as it was
+abbrev pub withLimit : ℕ → Log → Log
+withLimit n l =
+    record { rows = l .rows; holders = l .holders; turns = l .turns; takers = l .takers; latest = l .latest; groups = l .groups; remembered = l .remembered; stores = n }
 
 -- "The kept votes stand by transaction and then by store."
 abbrev pub rowOf : Log → ℕ → Row
@@ -62,7 +73,7 @@ involvementOf l tx store = involvementOfVotes store (rowOf l tx .votes)
 
 abbrev pub withRow : Log → ℕ → Row → Log
 withRow l tx r =
-    record { rows = set (l .rows) tx r; holders = l .holders; turns = l .turns; takers = l .takers; latest = l .latest; groups = l .groups; remembered = l .remembered }
+    record { rows = set (l .rows) tx r; holders = l .holders; turns = l .turns; takers = l .takers; latest = l .latest; groups = l .groups; remembered = l .remembered; stores = l .stores }
 
 -- "An accepted take makes the process the store's holder", in its turn.
 abbrev pub withHolder : Log → ℕ → ℕ → ℕ → Log
@@ -74,9 +85,10 @@ withHolder l process turn store = record {
   latest = set (l .latest) process turn;
   groups = l .groups;
   remembered = l .remembered;
+  stores = l .stores;
 }
 
 -- the log with one more group, which remembers the transactions of the set
 abbrev pub withGroup : Log → ℕ → ℕ → Log
 withGroup l g running =
-    record { rows = l .rows; holders = l .holders; turns = l .turns; takers = l .takers; latest = l .latest; groups = g; remembered = set (l .remembered) (g - 1) running }
+    record { rows = l .rows; holders = l .holders; turns = l .turns; takers = l .takers; latest = l .latest; groups = g; remembered = set (l .remembered) (g - 1) running; stores = l .stores }

@@ -21,7 +21,7 @@ impl Parts {
     pub fn refusal(self, e: Entry) -> u8
         ensures { λ r. ⌜ r ≡ refusal self e ⌝ }
     {
-        if e.outside() {
+        if e.outside(self.stores) {
             return OUTSIDE_LIMITS;
         }
         let holders = self.holders;
@@ -39,7 +39,7 @@ impl Parts {
     {
         let row = self.row;
         let group = row.group;
-        if e.outside() {
+        if e.outside(self.stores) {
             return Effect {
                 answer: OUTSIDE_LIMITS,
                 group: group,
@@ -75,7 +75,7 @@ impl VoteParts {
     // What a vote within its limits is answered, and what it changes: on all parts of which these
     // are.
     pub fn decide(self, e: Entry) -> Effect
-        ensures { λ r. ⌜ ((p : Parts) → self ≡ votePartsOf p e → length (p .row .votes) ≡ stores → outside e ≡ false → e .take ≡ false → r ≡ effectOf p e) ⌝ }
+        ensures { λ r. ⌜ ((p : Parts) → self ≡ votePartsOf p e → length (p .row .votes) ≡ stores → outside (p .stores) e ≡ false → e .take ≡ false → r ≡ effectOf p e) ⌝ }
     {
         let tally = self.tally;
         let group = self.group;

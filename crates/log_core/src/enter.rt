@@ -55,7 +55,7 @@ impl Log {
 
     // The log with the effect of an accepted entry stored.
     fn stored(mut self, e: Entry, f: Effect) -> Log
-        requires { ⌜ outside e ≡ false ⌝ }
+        requires { ⌜ outside (self .stores) e ≡ false ⌝ }
         requires { ⌜ (f .begins ≡ true → (0 < f .group) × (f .group ≤ transactions)) ⌝ }
         ensures { λ r. ⌜ r ≡ stored self e f ⌝ }
     {
@@ -88,7 +88,7 @@ impl Log {
     pub fn enter(mut self, e: Entry) -> Entered
         ensures { λ r. ⌜ r ≡ enter self e ⌝ }
     {
-        if e.outside() {
+        if e.outside(self.stores) {
             return Entered {
                 log: self,
                 answer: OUTSIDE_LIMITS,
@@ -106,6 +106,7 @@ impl Log {
             latest: self.latest[process],
             groups: self.groups,
             remembered: remembered_in(remembered, self.groups),
+            stores: self.stores,
         };
         let f = p.decide(e);
         if f.answer != ACCEPTED {
@@ -124,7 +125,7 @@ impl Log {
     pub fn answer_to(self, e: Entry) -> u8
         ensures { λ r. ⌜ r ≡ enter self e .answer ⌝ }
     {
-        if e.outside() {
+        if e.outside(self.stores) {
             return OUTSIDE_LIMITS;
         }
         let store = e.store as usize;
@@ -138,6 +139,7 @@ impl Log {
             latest: self.latest[process],
             groups: 0,
             remembered: 0,
+            stores: self.stores,
         };
         p.refusal(e)
     }

@@ -1,7 +1,9 @@
 // The commit log, document 01's plain log: it keeps the stores' votes, and decides.
 ghost use mathlib.Core.Path.{_≡_};
-ghost use Rattle.log_core.specs.Log.{emptyLog};
+ghost use Rattle.log_entry.specs.Limits.{storesWith};
+ghost use Rattle.log_core.specs.Log.{opened};
 ghost use Rattle.log_core.specs.Replay.{noReplay};
+use log_entry::Limit;
 use log_entry::limits::PROCESS_PLACES;
 use log_entry::limits::STORE_PLACES;
 use log_entry::limits::TRANSACTION_PLACES;
@@ -33,6 +35,8 @@ pub struct Log {
     // By group, the first is group 1: the transactions that ran just before its first commit, bit t
     // for transaction t.
     pub remembered: [u32; TRANSACTION_PLACES],
+    // The limit that it was opened with: how many stores it has.
+    pub stores: u8,
 }
 
 // The parts of a log that an entry is decided on.
@@ -50,6 +54,8 @@ pub struct Parts {
     pub groups: u8,
     // What the last group remembers.
     pub remembered: u32,
+    // The log's limit.
+    pub stores: u8,
 }
 
 // What of the parts a vote is decided on.
@@ -116,8 +122,9 @@ impl Replay {
 }
 
 impl Log {
-    pub fn empty() -> Log
-        ensures { λ r. ⌜ r ≡ emptyLog ⌝ }
+    // The log before any entry, opened with one of the two limits.
+    pub fn empty(limit: Limit) -> Log
+        ensures { λ r. ⌜ r ≡ opened (storesWith limit) ⌝ }
     {
         let row = Row::none();
         Log {
@@ -128,6 +135,7 @@ impl Log {
             latest: [0; PROCESS_PLACES],
             groups: 0,
             remembered: [0; TRANSACTION_PLACES],
+            stores: limit.stores(),
         }
     }
 }

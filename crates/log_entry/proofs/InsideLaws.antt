@@ -2,12 +2,14 @@
 use Prim.Native.Nat.{ℕ, _<_, _≤_}
 use mathlib.Core.Bool.{Bool, false, not, _&&_, _||_}
 use mathlib.Core.Path.{_≡_}
+use native.Mathlib.Nat.{lt-of-lt-of-le}
 use native.Mathlib.Omega.{arith}
 use borrow.Author.Tests.{eqb-false, leb-false, ltb-false}
 use lib.Dec.{eqb, leb, ltb}
 use Rattle.log_entry.specs.Entry.{noProcess, noTurn, outside}
-use Rattle.log_entry.specs.Limits.{lists, processes, stores, transactions, turns, updates}
+use Rattle.log_entry.specs.Limits.{lists, listsOf, noList, noStore, noTransaction, processes, stores, storesOf, transactions, transactionsOf, turns, updates}
 use Rattle.log_entry.specs.declared.Entry.{Entry}
+use Rattle.log_entry.proofs.LimitLaws.{lists-within, stores-within, transactions-within}
 use Rattle.log_entry.proofs.Tests.{neither-left, neither-right}
 
 pub process-inside : (p : ℕ) → noProcess p ≡ false → (0 < p) × (p ≤ processes)
@@ -23,22 +25,30 @@ turn-inside t h =
     (omega arith, most)
 
 -- the numbers that a vote has beside those of a take
-others : Entry → Bool
-others e = leb stores (e .by) || leb transactions (e .tx) || leb lists (e .participants) || leb updates (e .update)
+others : ℕ → Entry → Bool
+others n e = noStore n (e .by) || noTransaction n (e .tx) || noList n (e .participants) || leb updates (e .update)
 
+-- of a vote that is inside the limits of a log of limit n
+pub record InsideOwn (n : ℕ) (e : Entry) : Type 0 where
+  pub by : e .by < storesOf n
+  pub tx : e .tx < transactionsOf n
+  pub list : e .participants < listsOf n
+  pub update : e .update < updates
+
+-- and so inside the full ones
 pub record InsideVote (e : Entry) : Type 0 where
   pub by : e .by < stores
   pub tx : e .tx < transactions
   pub list : e .participants < lists
   pub update : e .update < updates
 
-module _ (e : Entry) (h : outside e ≡ false) where
-  three : (noProcess (e .process) || noTurn (e .turn) || leb stores (e .store)) ≡ false
+module _ (n : ℕ) (e : Entry) (h : outside n e ≡ false) where
+  three : (noProcess (e .process) || noTurn (e .turn) || noStore n (e .store)) ≡ false
   unfolding outside others
-  three = neither-left (noProcess (e .process) || noTurn (e .turn) || leb stores (e .store)) (not (e .take) && others e) h
+  three = neither-left (noProcess (e .process) || noTurn (e .turn) || noStore n (e .store)) (not (e .take) && others n e) h
 
   two : (noProcess (e .process) || noTurn (e .turn)) ≡ false
-  two = neither-left (noProcess (e .process) || noTurn (e .turn)) (leb stores (e .store)) three
+  two = neither-left (noProcess (e .process) || noTurn (e .turn)) (noStore n (e .store)) three
 
   pub inside-process : (0 < e .process) × (e .process ≤ processes)
   inside-process = process-inside (e .process) (neither-left (noProcess (e .process)) (noTurn (e .turn)) two)
@@ -46,25 +56,38 @@ module _ (e : Entry) (h : outside e ≡ false) where
   pub inside-turn : (0 < e .turn) × (e .turn ≤ turns)
   inside-turn = turn-inside (e .turn) (neither-right (noProcess (e .process)) (noTurn (e .turn)) two)
 
+  pub own-store : e .store < storesOf n
+  own-store = leb-false (storesOf n) (e .store) (neither-right (noProcess (e .process) || noTurn (e .turn)) (noStore n (e .store)) three)
+
   pub inside-store : e .store < stores
-  inside-store = leb-false stores (e .store) (neither-right (noProcess (e .process) || noTurn (e .turn)) (leb stores (e .store)) three)
+  inside-store = lt-of-lt-of-le own-store (stores-within n)
 
-  rest : e .take ≡ false → others e ≡ false
+  rest : e .take ≡ false → others n e ≡ false
   unfolding outside others
-  rest vote = rw vote at (neither-right (noProcess (e .process) || noTurn (e .turn) || leb stores (e .store)) (not (e .take) && others e) h)
+  rest vote = rw vote at (neither-right (noProcess (e .process) || noTurn (e .turn) || noStore n (e .store)) (not (e .take) && others n e) h)
 
-  pub inside-vote : e .take ≡ false → InsideVote e
+  pub own-vote : e .take ≡ false → InsideOwn n e
   unfolding others
-  inside-vote vote =
-      let a = leb stores (e .by) in
-      let b = leb transactions (e .tx) in
-      let c = leb lists (e .participants) in
+  own-vote vote =
+      let a = noStore n (e .by) in
+      let b = noTransaction n (e .tx) in
+      let c = noList n (e .participants) in
       let d = leb updates (e .update) in
       let abc : (a || b || c) ≡ false = neither-left (a || b || c) d (rest vote) in
       let ab : (a || b) ≡ false = neither-left (a || b) c abc in
       record {
-        by = leb-false stores (e .by) (neither-left a b ab);
-        tx = leb-false transactions (e .tx) (neither-right a b ab);
-        list = leb-false lists (e .participants) (neither-right (a || b) c abc);
+        by = leb-false (storesOf n) (e .by) (neither-left a b ab);
+        tx = leb-false (transactionsOf n) (e .tx) (neither-right a b ab);
+        list = leb-false (listsOf n) (e .participants) (neither-right (a || b) c abc);
         update = leb-false updates (e .update) (neither-right (a || b || c) d (rest vote));
+      }
+
+  pub inside-vote : e .take ≡ false → InsideVote e
+  inside-vote vote =
+      let own = own-vote vote in
+      record {
+        by = lt-of-lt-of-le (own .by) (stores-within n);
+        tx = lt-of-lt-of-le (own .tx) (transactions-within n);
+        list = lt-of-lt-of-le (own .list) (lists-within n);
+        update = own .update;
       }

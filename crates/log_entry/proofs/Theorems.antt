@@ -5,10 +5,17 @@ use mathlib.Core.Path.{_≡_, refl, sym, _∙_, ap}
 use borrow.Author.Tests.{ne-eqb}
 use lib.Dec.{eqb}
 use Rattle.log_entry.specs.Bits.{has}
-use Rattle.log_entry.specs.Claims.{AbortWithUpdate, SameExactly}
+use Rattle.log_entry.specs.Claims.{AbortWithUpdate, InsideIsInFull, OutsideExactly, SameExactly}
 use Rattle.log_entry.specs.Entry.{sameEntry}
 use Rattle.log_entry.proofs.EntryLaws.{ill-abort}
 use Rattle.log_entry.proofs.EqualEntries.{equal-are-same, same-are-equal}
+use Rattle.log_entry.proofs.LimitClaims.{inside-full, outside-by-limits}
+
+pub outside-exactly : OutsideExactly
+outside-exactly = outside-by-limits
+
+pub inside-is-in-full : InsideIsInFull
+inside-is-in-full = inside-full
 
 pub same-exactly : SameExactly
 same-exactly e f = (same-are-equal e f, λ h. ap (sameEntry e) (sym h) ∙ equal-are-same e)

@@ -5,7 +5,7 @@ use mathlib.Core.Bool.{Bool, Bool·beq, true, false, _&&_, _||_, not, cond}
 use lib.Dec.{eqb, leb, ltb}
 use Rattle.log_entry.specs.declared.Entry.{Entry}
 use Rattle.log_entry.specs.Bits.{has}
-use Rattle.log_entry.specs.Limits.{lists, processes, stores, transactions, turns, updates}
+use Rattle.log_entry.specs.Limits.{noList, noStore, noTransaction, processes, turns, updates}
 
 -- the entry `take` of these values; what a take does not use is 0
 abbrev pub takeEntry : ℕ → ℕ → ℕ → Entry
@@ -24,13 +24,14 @@ noProcess p = eqb p 0 || ltb processes p
 abbrev pub noTurn : ℕ → Bool
 noTurn t = eqb t 0 || ltb turns t
 
--- 2: a number of the entry is outside its limits; a take has three numbers, a vote all
-unfoldable pub outside : Entry → Bool
-outside e =
+-- 2, by a log of limit n: "A number outside the log's own limits, or a list naming such a store"; a
+-- take has three numbers, a vote all
+unfoldable pub outside : ℕ → Entry → Bool
+outside n e =
     noProcess (e .process)
     || noTurn (e .turn)
-    || leb stores (e .store)
-    || not (e .take) && (leb stores (e .by) || leb transactions (e .tx) || leb lists (e .participants) || leb updates (e .update))
+    || noStore n (e .store)
+    || not (e .take) && (noStore n (e .by) || noTransaction n (e .tx) || noList n (e .participants) || leb updates (e .update))
 
 -- 7, of a vote: its list lacks `store` or `by`; it says commit on behalf; it says abort with an
 -- update other than 0

@@ -1,10 +1,14 @@
 // An entry of the commit log: a request that a process makes.
 ghost use mathlib.Core.Path.{_≡_};
 ghost use Rattle.log_entry.specs.Entry.{illFormed, noProcess, noTurn, outside, sameEntry, takeEntry, voteEntry};
+ghost use Rattle.log_entry.specs.Limits.{storesWith};
 use limits::PROCESSES;
+use limits::SMALL_STORES;
 use limits::STORES;
-use limits::TRANSACTIONS;
 use limits::Update;
+use limits::no_list;
+use limits::stores_of;
+use limits::transactions_of;
 
 pub mod limits;
 pub mod refusal;
@@ -27,6 +31,26 @@ pub struct Entry {
     // Document 01's say: commit, and else abort.
     pub commit: bool,
     pub update: Update,
+}
+
+// The two limits that a log may be opened with.
+pub enum Limit {
+    // Stores 0 to 7 and transactions 0 to 31.
+    Full,
+    // Stores 0 to 2 and transactions 0 to 7.
+    Small,
+}
+
+impl Limit {
+    // The limit as a number: how many stores the log has.
+    pub fn stores(self) -> u8
+        ensures { λ r. ⌜ r ≡ storesWith self ⌝ }
+    {
+        match self {
+            Limit::Full => STORES,
+            Limit::Small => SMALL_STORES,
+        }
+    }
 }
 
 // Whether no process has the number.
@@ -85,14 +109,17 @@ impl Entry {
         }
     }
 
-    // Refusal 2: a number outside its limits.
-    pub fn outside(self) -> bool
-        ensures { λ r. ⌜ r ≡ outside self ⌝ }
+    // Refusal 2, by a log of limit n: a number outside its limits.
+    pub fn outside(self, n: u8) -> bool
+        ensures { λ r. ⌜ r ≡ outside n self ⌝ }
     {
-        let beyond = (STORES <= self.by) | (TRANSACTIONS <= self.tx);
+        let stores = stores_of(n);
+        let beyond = (stores <= self.by)
+            | (transactions_of(n) <= self.tx)
+            | no_list(n, self.participants);
         no_process(self.process)
             | no_turn(self.turn)
-            | (STORES <= self.store)
+            | (stores <= self.store)
             | (!self.take & beyond)
     }
 

@@ -28,14 +28,14 @@ use Rattle.log_entry.proofs.Tests.{neither-left}
 -- no condition against the take holds
 pub record TakeOk (l : Log) (e : Entry) : Type 0 where
   pub is-take : e .take ≡ true
-  pub in-limits : outside e ≡ false
+  pub in-limits : outside (l .stores) e ≡ false
   pub no-other : another l e ≡ false
   pub fresh-turn : stale l e ≡ false
 
 -- no condition against the vote holds; r is the row of its transaction
 pub record VoteOk (r : Row) (l : Log) (e : Entry) : Type 0 where
   pub is-vote : e .take ≡ false
-  pub in-limits : outside e ≡ false
+  pub in-limits : outside (l .stores) e ≡ false
   pub well-formed : illFormed e ≡ false
   pub holds : holdsNot l e ≡ false
   pub no-clash : anyClash e (r .votes) ≡ false
@@ -50,13 +50,13 @@ abbrev voteTried : Log → Entry → List Check
 voteTried l e = voteChecks (rowOf l (e .tx)) (holderOf l (e .by)) (turnOf l (e .by)) e
 
 abbrev pub takeList : Log → Entry → List Check
-takeList l e = check outsideLimits (outside e) ∷ takeTried l e
+takeList l e = check outsideLimits (outside (l .stores) e) ∷ takeTried l e
 
 abbrev pub voteList : Log → Entry → List Check
-voteList l e = check outsideLimits (outside e) ∷ voteTried l e
+voteList l e = check outsideLimits (outside (l .stores) e) ∷ voteTried l e
 
 by-kind : Log → Entry → Bool → ℕ
-by-kind l e t = firstRefusal (check outsideLimits (outside e) ∷ cond t (takeTried l e) (voteTried l e))
+by-kind l e t = firstRefusal (check outsideLimits (outside (l .stores) e) ∷ cond t (takeTried l e) (voteTried l e))
 
 pub take-refusal : (l : Log) (e : Entry) → e .take ≡ true → refusalOf l e ≡ firstRefusal (takeList l e)
 unfolding refusal by-kind
@@ -90,8 +90,8 @@ vote-ok l e t h = record {
     n : None (conditions (voteList l e))
     n = none-applies (voteList l e) refl (sym (vote-refusal l e t) ∙ h)
 
-pub process-from-1 : (e : Entry) → outside e ≡ false → e .process ≢ 0
-process-from-1 e h = omega (arith, inside-process e h .0)
+pub process-from-1 : (n : ℕ) (e : Entry) → outside n e ≡ false → e .process ≢ 0
+process-from-1 n e h = omega (arith, inside-process n e h .0)
 
 -- a test that fails says that the two are equal
 same-by : (m n : ℕ) → not (eqb m n) ≡ false → m ≡ n

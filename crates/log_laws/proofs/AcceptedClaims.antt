@@ -31,11 +31,11 @@ stands-there es e vote ok =
     let is : refusalOf l e ≡ accepted = sym (answer-is l e) ∙ ok in
     let inside = accepted-inside l e is in
     let r = keeping (rowOf l (e .tx)) e in
-    let tx : e .tx < length (l .rows) = omega (arith, rows-length es, inside-vote e inside vote .tx) in
+    let tx : e .tx < length (l .rows) = omega (arith, rows-length es, inside-vote (l .stores) e inside vote .tx) in
     ap (λ (m : Log). voteAt m (e .tx) (e .store)) (vote-entered l e is vote)
     ∙ ap (λ (rows : List Row). getD (getD rows (e .tx) noRow .votes) (e .store) noVote) (voted-rows l (e .tx) r)
     ∙ ap (λ (x : Row). getD (x .votes) (e .store) noVote) (getD-set-same (l .rows) (e .tx) (inGroup r (groupAfter l (e .tx) r)) noRow tx)
-    ∙ getD-set-same (rowOf l (e .tx) .votes) (e .store) (voteOfEntry e) noVote (omega (arith, votes-length es (e .tx) (omega (arith, inside-vote e inside vote .tx)), inside-store e inside))
+    ∙ getD-set-same (rowOf l (e .tx) .votes) (e .store) (voteOfEntry e) noVote (omega (arith, votes-length es (e .tx) (omega (arith, inside-vote (l .stores) e inside vote .tx)), inside-store (l .stores) e inside))
 
 pub vote-is-kept : AcceptedVoteIsKept
 vote-is-kept es e vote ok =

@@ -40,7 +40,7 @@ module _ (l : Log) (e : Entry) (cs : List Check) (is : refusalOf l e ≡ firstRe
 
 pub vote-exactly : VoteAnswerExactly
 vote-exactly l e v = record {
-  is-2 = by [] (c7 ∷ c8 ∷ c9 ∷ c10 ∷ c12 ∷ []) outsideLimits (outside e) (omega arith) refl refl;
+  is-2 = by [] (c7 ∷ c8 ∷ c9 ∷ c10 ∷ c12 ∷ []) outsideLimits (outside (l .stores) e) (omega arith) refl refl;
   is-7 = by (c2 ∷ []) (c8 ∷ c9 ∷ c10 ∷ c12 ∷ []) illFormedVote (illFormed e) (omega arith) refl refl;
   is-8 = by (c2 ∷ c7 ∷ []) (c9 ∷ c10 ∷ c12 ∷ []) notHolder (holdsNot l e) (omega arith) refl refl;
   is-9 = by (c2 ∷ c7 ∷ c8 ∷ []) (c10 ∷ c12 ∷ []) otherList (clash l e) (omega arith) refl refl;
@@ -50,7 +50,7 @@ vote-exactly l e v = record {
 }
   where
     c2 : Check
-    c2 = check outsideLimits (outside e)
+    c2 = check outsideLimits (outside (l .stores) e)
 
     c7 : Check
     c7 = check illFormedVote (illFormed e)
@@ -76,14 +76,14 @@ vote-exactly l e v = record {
 
 pub take-exactly : TakeAnswerExactly
 take-exactly l e v = record {
-  is-2 = exactly l e cs is [] (c11 ∷ c12 ∷ []) outsideLimits (outside e) (omega arith) refl refl;
+  is-2 = exactly l e cs is [] (c11 ∷ c12 ∷ []) outsideLimits (outside (l .stores) e) (omega arith) refl refl;
   is-11 = exactly l e cs is (c2 ∷ []) (c12 ∷ []) holdsAnother (another l e) (omega arith) refl refl;
   is-12 = exactly l e cs is (c2 ∷ c11 ∷ []) [] wrongTurn (stale l e) (omega arith) refl refl;
   is-0 = zero-exactly l e cs is refl;
 }
   where
     c2 : Check
-    c2 = check outsideLimits (outside e)
+    c2 = check outsideLimits (outside (l .stores) e)
 
     c11 : Check
     c11 = check holdsAnother (another l e)

@@ -6,7 +6,7 @@ use Rattle.log_core.specs.Decide.{effectOf, refusal}
 use Rattle.log_core.specs.Enter.{answersTo, enter, entered, feed, stored}
 use Rattle.log_core.specs.Group.{remembered}
 use Rattle.log_votes.specs.Involvement.{involvementOfVotes}
-use Rattle.log_core.specs.Log.{emptyLog}
+use Rattle.log_core.specs.Log.{opened}
 use Rattle.log_core.specs.Refusal.{wrongTurn}
 use Rattle.log_votes.specs.Outcome.{outcomeOfVotes, running}
 use Rattle.log_votes.specs.Scan.{allFrom, anyFrom, firstOf, setOf}
@@ -14,9 +14,9 @@ use Rattle.log_laws.specs.Base.{BaseCasesHold, baseAnswersTo, baseEnter,
 use Rattle.log_laws.specs.Cases.{CasesHold, casesWith}
 
 pub table-holds : CasesHold
-unfolding casesWith answersTo feed enter entered stored effectOf refusal firstRefusal wrongTurn outside illFormed remembered setOf running outcomeOfVotes involvementOfVotes anyFrom allFrom firstOf emptyLog
+unfolding casesWith answersTo feed enter entered stored effectOf refusal firstRefusal wrongTurn outside illFormed remembered setOf running outcomeOfVotes involvementOfVotes anyFrom allFrom firstOf opened
 table-holds = refl
 
 pub base-table-holds : BaseCasesHold
-unfolding casesWith baseAnswersTo baseFeed baseEnter entered stored baseRefusal firstRefusal baseOutside illFormed remembered setOf running outcomeOfVotes baseInvolvementOf anyFrom allFrom emptyLog
+unfolding casesWith baseAnswersTo baseFeed baseEnter entered stored baseRefusal firstRefusal baseOutside illFormed remembered setOf running outcomeOfVotes baseInvolvementOf anyFrom allFrom opened
 base-table-holds = refl

@@ -14,7 +14,7 @@ use Rattle.log_core.specs.Log.{rowOf}
 use Rattle.log_laws.specs.Changes.{OnlyHolderChanges, OnlyVoteChanges, TakeChangesOnly, VoteChangesOnly}
 use Rattle.log_laws.specs.Reached.{reached}
 use Rattle.log_laws.proofs.Places.{set-either}
-use Rattle.log_laws.proofs.Steps.{Holders, answer-cases, holdersOf, voted, voted-holders, voted-rows}
+use Rattle.log_laws.proofs.Steps.{Holders, answer-cases, holdersOf, voted, voted-holders, voted-limit, voted-rows}
 use Rattle.log_entry.proofs.Tests.{opposed}
 
 pub only-holder : TakeChangesOnly
@@ -24,6 +24,7 @@ only-holder es e t =
       rows = refl;
       groups = refl;
       remembered = refl;
+      limit = refl;
       other-holders = λ s n. refl;
       other-turns = λ s n. refl;
       other-past = λ p s n. refl;
@@ -33,6 +34,7 @@ only-holder es e t =
       rows = refl;
       groups = refl;
       remembered = refl;
+      limit = refl;
       other-holders = λ s n. getD-set-other (l .holders) (e .store) s (e .process) 0 n;
       other-turns = λ s n. getD-set-other (l .turns) (e .store) s (e .turn) 0 n;
       other-past = λ p s n. ap (λ (x : ℕ). has x p) (getD-set-other (l .takers) (e .store) s _ 0 n);
@@ -72,6 +74,7 @@ only-vote es e t =
       turns = refl;
       takers = refl;
       latest = refl;
+      limit = refl;
       other-stores = λ s n. refl;
       other-votes = λ t s n. refl;
       other-groups = λ t n. refl;
@@ -82,6 +85,7 @@ only-vote es e t =
       turns = ap (λ (x : Holders). x .turns) same;
       takers = ap (λ (x : Holders). x .takers) same;
       latest = ap (λ (x : Holders). x .latest) same;
+      limit = voted-limit l (e .tx) (keeping (rowOf l (e .tx)) e);
       other-stores = λ s n. other-vote l e s n;
       other-votes = λ t s n. ap (λ (x : Row). voteOfStore s x) (other-row l e t n);
       other-groups = λ t n. ap (λ (x : Row). x .group) (other-row l e t n);

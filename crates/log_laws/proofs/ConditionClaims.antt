@@ -17,7 +17,7 @@ use Rattle.log_votes.specs.Row.{noVote}
 use Rattle.log_core.specs.declared.Log.{Log}
 use Rattle.log_core.specs.Log.{heldBefore, holderOf, latestOf, rowOf, turnOf, voteAt}
 use Rattle.log_core.specs.Refusal.{isOther, wrongTurn}
-use Rattle.log_laws.specs.Conditions.{Behind, ClashExactly, Fits, HoldsAnotherExactly, HoldsNotExactly, IllFormedExactly, InLimits, LastTake, OtherTurnExactly, OutsideExactly, StaleExactly, WellFormed}
+use Rattle.log_laws.specs.Conditions.{Behind, ClashExactly, Fits, HoldsAnotherExactly, HoldsNotExactly, IllFormedExactly, LastTake, OtherTurnExactly, StaleExactly, WellFormed}
 use Rattle.log_laws.specs.Reached.{reached}
 use Rattle.log_laws.proofs.Feed.{wf-reached}
 use Rattle.log_laws.proofs.Holding.{holds-only}
@@ -27,52 +27,6 @@ use Rattle.log_laws.proofs.Scans.{none-found, none-here}
 use Rattle.log_laws.proofs.Sets.{within-by, within-has}
 use Rattle.log_laws.proofs.TakenBefore.{held-exactly}
 use Rattle.log_entry.proofs.Tests.{and-false, and-left, and-right, both, neither, neither-left, neither-right, opposed, or-cases, or-left, or-right}
-
--- ---- 2
-
-pub outside-by-limits : OutsideExactly
-unfolding outside
-outside-by-limits e = (inside, within-limits)
-  where
-    inside : outside e ≡ false → InLimits e
-    inside h =
-        let p = inside-process e h in
-        let t = inside-turn e h in
-        record {
-          process-from = omega (arith, p .0);
-          process-to = p .1;
-          turn-from = omega (arith, t .0);
-          turn-to = t .1;
-          store = omega (arith, inside-store e h);
-          vote = λ t.
-              let v = inside-vote e h t in
-              record { by = omega (arith, v .by); tx = omega (arith, v .tx); list = v .list; update = v .update };
-        }
-
-    within-limits : InLimits e → outside e ≡ false
-    within-limits i =
-        neither (noProcess (e .process) || noTurn (e .turn) || leb stores (e .store)) _
-        (neither (noProcess (e .process) || noTurn (e .turn)) (leb stores (e .store))
-        (neither (noProcess (e .process)) (noTurn (e .turn))
-        (from-to (e .process) processes (i .process-from) (i .process-to))
-        (from-to (e .turn) turns (i .turn-from) (i .turn-to)))
-        (lt-leb stores (e .store) (omega (arith, i .store))))
-        (numbers (e .take) refl)
-      where
-        from-to : (n most : ℕ) → 1 ≤ n → n ≤ most → (eqb n 0 || ltb most n) ≡ false
-        from-to n most h k = neither (eqb n 0) (ltb most n) (ne-eqb n 0 (λ z. omega (arith, h))) (le-ltb most n k)
-
-        numbers : (t : Bool) → e .take ≡ t
-            → (not t && (leb stores (e .by) || leb transactions (e .tx) || leb lists (e .participants) || leb updates (e .update))) ≡ false
-        numbers true h = refl
-        numbers false h =
-            let v = i .vote h in
-            neither (leb stores (e .by) || leb transactions (e .tx) || leb lists (e .participants)) (leb updates (e .update))
-            (neither (leb stores (e .by) || leb transactions (e .tx)) (leb lists (e .participants))
-            (neither (leb stores (e .by)) (leb transactions (e .tx))
-            (lt-leb stores (e .by) (omega (arith, v .by))) (lt-leb transactions (e .tx) (omega (arith, v .tx))))
-            (lt-leb lists (e .participants) (v .list)))
-            (lt-leb updates (e .update) (v .update))
 
 -- ---- 7
 

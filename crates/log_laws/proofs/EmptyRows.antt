@@ -7,7 +7,7 @@ use lib.ListN.{getD, getD-replicate, length-replicate, List·getD-eq-default, re
 use Rattle.log_entry.specs.Limits.{stores, transactions}
 use Rattle.log_votes.specs.declared.Row.{Row}
 use Rattle.log_votes.specs.declared.Vote.{Vote}
-use Rattle.log_core.specs.Log.{emptyLog, rowOf}
+use Rattle.log_core.specs.Log.{emptyLog, opened, rowOf}
 use Rattle.log_votes.specs.Row.{noRow, noVote, voteOfStore}
 use Rattle.log_entry.proofs.Tests.{below-or-not}
 
@@ -26,5 +26,5 @@ pub blank-kept : (s : ℕ) → voteOfStore s blank .kept ≡ false
 blank-kept s = replicate-cases (λ (v : Vote). v .kept ≡ false) stores s noVote noVote refl refl
 
 pub empty-rows : (P : Row → Type 0) (tx : ℕ) → P blank → P noRow → P (rowOf emptyLog tx)
-unfolding emptyLog
+unfolding opened
 empty-rows P tx = replicate-cases P transactions tx blank noRow

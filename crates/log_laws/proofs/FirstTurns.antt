@@ -69,7 +69,7 @@ take-agrees false false false = agrees-same 0 (omega arith)
 abbrev pub Early : Log → Type 0
 Early l = (p : ℕ) → latestOf l p ≤ 1
 
-outside-same : (e : Entry) → e .turn ≡ 1 → outside e ≡ baseOutside e
+outside-same : (e : Entry) → e .turn ≡ 1 → outside stores e ≡ baseOutside e
 unfolding outside baseOutside
 outside-same e t = without-false (noProcess (e .process)) (noTurn (e .turn)) (leb stores (e .store)) _ (ap noTurn t)
 
@@ -78,20 +78,20 @@ by-kind l e o t =
     firstRefusal (check 2 o ∷ cond t (baseTakeChecks (l .holders) (getD (l .takers) (e .store) 0) e) (baseVoteChecks (l .holders) (rowOf l (e .tx)) e))
 
 -- the base's answer, by the kind of entry
-base-answer : (l : Log) (e : Entry) (t : Bool) → e .turn ≡ 1 → e .take ≡ t → baseAnswer l e ≡ by-kind l e (outside e) t
+base-answer : (l : Log) (e : Entry) (t : Bool) → l .stores ≡ stores → e .turn ≡ 1 → e .take ≡ t → baseAnswer l e ≡ by-kind l e (outside (l .stores) e) t
 unfolding baseRefusal by-kind
-base-answer l e t first k = ap₂ (by-kind l e) (sym (outside-same e first)) k
+base-answer l e t full first k = ap₂ (by-kind l e) (sym (ap (λ (n : ℕ). outside n e) full ∙ outside-same e first)) k
 
-module _ (l : Log) (e : Entry) (w : Wf l) (early : Early l) (first : e .turn ≡ 1) where
+module _ (l : Log) (e : Entry) (full : l .stores ≡ stores) (w : Wf l) (early : Early l) (first : e .turn ≡ 1) where
   -- who took a store has the last turn 1
   took-first : (p s : ℕ) → heldBefore l p s ≡ true → latestOf l p ≡ 1
   took-first p s h = omega (arith, early p, w .holding .some-turn p s h)
 
   -- who holds a store holds it in turn 1, so a vote of the holder has the holder's turn
-  pub in-turn : outside e ≡ false → holdsNot l e ≡ false → otherTurn l e ≡ false
+  pub in-turn : outside (l .stores) e ≡ false → holdsNot l e ≡ false → otherTurn l e ≡ false
   in-turn o h =
       let holds : holderOf l (e .by) ≡ e .process = eqb-true (holderOf l (e .by)) (e .process) (not-false _ h) in
-      let n = process-from-1 e o in
+      let n = process-from-1 (l .stores) e o in
       ap not (eq-eqb (turnOf l (e .by)) (e .turn)
       (w .holding .last-turn (e .process) (e .by) n holds ∙ took-first (e .process) (e .by) (w .holding .in-past (e .process) (e .by) n holds) ∙ sym first))
 
@@ -99,9 +99,9 @@ module _ (l : Log) (e : Entry) (w : Wf l) (early : Early l) (first : e .turn ≡
   unfolding by-kind
   votes-same k =
       vote-refusal l e k
-      ∙ last-idle (check 2 (outside e) ∷ check 7 (illFormed e) ∷ check 8 (holdsNot l e) ∷ check 9 (clash l e) ∷ check 10 (kept l e) ∷ [])
+      ∙ last-idle (check 2 (outside (l .stores) e) ∷ check 7 (illFormed e) ∷ check 8 (holdsNot l e) ∷ check 9 (clash l e) ∷ check 10 (kept l e) ∷ [])
       (check wrongTurn (otherTurn l e)) (λ n. in-turn (n .0) (n .1 .1 .0))
-      ∙ sym (base-answer l e false first k)
+      ∙ sym (base-answer l e false full first k)
 
   -- 12 of a take: it took the store before
   pub stale-same : stale l e ≡ heldBefore l (e .process) (e .store)
@@ -125,7 +125,7 @@ module _ (l : Log) (e : Entry) (w : Wf l) (early : Early l) (first : e .turn ≡
       not-below = le-ltb (e .turn) (latestOf l (e .process)) (omega (arith, early (e .process)))
 
   -- 11 of the base: it holds another store, or took this one before, as its holder did too
-  held-same : outside e ≡ false → (holdsSome (l .holders) (e .process) || heldBefore l (e .process) (e .store)) ≡ (another l e || stale l e)
+  held-same : outside (l .stores) e ≡ false → (holdsSome (l .holders) (e .process) || heldBefore l (e .process) (e .store)) ≡ (another l e || stale l e)
   held-same o =
       same-test (some || took) (another l e || stale l e)
       (λ h. ⊎-elim (λ (k : some ≡ true). at (found (isHolder p) 0 (l .holders) k)) (λ k. by-took k) (or-cases some took h))
@@ -151,7 +151,7 @@ module _ (l : Log) (e : Entry) (w : Wf l) (early : Early l) (first : e .turn ≡
       at : (s : ℕ) × (s < length (l .holders)) × (eqb (holderOf l s) (e .process) ≡ true) → (another l e || stale l e) ≡ true
       at r =
           ⊎-elim
-          (λ (k : r .0 ≡ e .store). by-took (w .holding .in-past (e .process) (e .store) (process-from-1 e o)
+          (λ (k : r .0 ≡ e .store). by-took (w .holding .in-past (e .process) (e .store) (process-from-1 (l .stores) e o)
           (ap (holderOf l) (sym k) ∙ eqb-true (holderOf l (r .0)) (e .process) (r .2))))
           (λ k. or-left (another l e) (stale l e)
           (any-here (take-refusals.isOther (e .process) (e .store)) 0 (l .holders) (r .0) (r .1)
@@ -161,9 +161,9 @@ module _ (l : Log) (e : Entry) (w : Wf l) (early : Early l) (first : e .turn ≡
   pub takes-agree : e .take ≡ true → TakeAgrees (refusalOf l e) (baseAnswer l e)
   unfolding by-kind firstRefusal
   takes-agree k =
-      subst₂ TakeAgrees (sym (take-refusal l e k)) (sym (base-answer l e true first k)) (go (outside e) refl)
+      subst₂ TakeAgrees (sym (take-refusal l e k)) (sym (base-answer l e true full first k)) (go (outside (l .stores) e) refl)
     where
-      go : (o : Bool) → outside e ≡ o
+      go : (o : Bool) → outside (l .stores) e ≡ o
           → TakeAgrees (cond o 2 (cond (another l e) 11 (cond (stale l e) 12 0)))
           (cond o 2 (cond (holdsSome (l .holders) (e .process) || heldBefore l (e .process) (e .store)) 11 0))
       go true o = take-agrees true (another l e) (stale l e)

@@ -16,7 +16,7 @@ use Rattle.log_core.specs.declared.Log.{Log}
 use Rattle.log_votes.specs.declared.Row.{Row}
 use Rattle.log_core.specs.Enter.{enter}
 use Rattle.log_core.specs.Group.{nextGroup, remembered, runningSet}
-use Rattle.log_core.specs.Log.{emptyLog, groupOf, rowOf}
+use Rattle.log_core.specs.Log.{emptyLog, groupOf, opened, rowOf}
 use Rattle.log_votes.specs.Row.{inGroup, keeping, noRow}
 use Rattle.log_laws.proofs.Accepted.{VoteOk}
 use Rattle.log_laws.proofs.EmptyRows.{empty-rows}
@@ -34,7 +34,7 @@ module _ (l : Log) (e : Entry) (z : Sized l) (rows : (tx : ℕ) → RowWf (rowOf
   after = keeping (rowOf l (e .tx)) e
 
   pub in-rows : e .tx < length (l .rows)
-  in-rows = subst (λ (n : ℕ). e .tx < n) (sym (z .rows-size)) (inside-vote e (ok .in-limits) (ok .is-vote) .tx)
+  in-rows = subst (λ (n : ℕ). e .tx < n) (sym (z .rows-size)) (inside-vote (l .stores) e (ok .in-limits) (ok .is-vote) .tx)
 
   ungrouped : groupOf l (e .tx) ≡ 0
   ungrouped = no-group (rowOf l (e .tx)) l e (rows (e .tx)) ok
@@ -125,7 +125,7 @@ one-group l e z rows w =
     enter-cases (λ (x : Log). (x .groups ≡ l .groups) ⊎ (x .groups ≡ l .groups + 1)) l e (inl refl) (λ ok. inl refl) (λ ok. begun l e z rows w ok)
 
 pub grouping-empty : Grouping (emptyLog .rows) (emptyLog .groups)
-unfolding emptyLog
+unfolding opened
 grouping-empty = record {
   group-le = λ tx. empty-rows (λ (r : Row). r .group ≤ 0) tx (omega arith) (omega arith);
   group-of = λ g n h. absurd (n (omega arith));

@@ -18,7 +18,7 @@ use Rattle.log_core.proofs.EnterLaws.{refusalOf, take-entered}
 use Rattle.log_core.specs.declared.Entered.{Entered}
 use Rattle.log_core.specs.declared.Log.{Log}
 use Rattle.log_core.specs.Enter.{enter}
-use Rattle.log_core.specs.Log.{emptyLog, heldBefore, holderOf, latestOf, turnOf, withHolder}
+use Rattle.log_core.specs.Log.{emptyLog, heldBefore, holderOf, latestOf, opened, turnOf, withHolder}
 use Rattle.log_core.specs.Refusal.{holdsAnother, isOther, wrongTurn}
 use Rattle.log_laws.specs.Holders.{HeldBy, HoldsIn}
 use Rattle.log_laws.proofs.Accepted.{TakeOk, process-from-1, take-ok}
@@ -52,7 +52,7 @@ module _ (l : Log) (e : Entry) (z : Sized l) (ok : TakeOk l e) where
   taken = withHolder l (e .process) (e .turn) (e .store)
 
   in-stores : (xs : List ℕ) → length xs ≡ stores → e .store < length xs
-  in-stores xs h = omega (arith, inside-store e (ok .in-limits))
+  in-stores xs h = omega (arith, inside-store (l .stores) e (ok .in-limits))
 
   holder-after : (P : ℕ → Type 0) (s : ℕ) → (s ≡ e .store → P (e .process)) → (s ≢ e .store → P (holderOf l s)) → P (holderOf taken s)
   holder-after P s = set-cases P (l .holders) (e .store) s _ 0 (in-stores (l .holders) (z .holders-size))
@@ -65,10 +65,10 @@ module _ (l : Log) (e : Entry) (z : Sized l) (ok : TakeOk l e) where
   takers-after P s = set-cases P (l .takers) (e .store) s _ 0 (in-stores (l .takers) (z .takers-size))
 
   latest-after : (P : ℕ → Type 0) (p : ℕ) → (p ≡ e .process → P (e .turn)) → (p ≢ e .process → P (latestOf l p)) → P (latestOf taken p)
-  latest-after P p = set-cases P (l .latest) (e .process) p _ 0 (omega (arith, z .latest-size, inside-process e (ok .in-limits) .1))
+  latest-after P p = set-cases P (l .latest) (e .process) p _ 0 (omega (arith, z .latest-size, inside-process (l .stores) e (ok .in-limits) .1))
 
   taker-holds-only : (s : ℕ) → holderOf l s ≡ e .process → s ≡ e .store
-  taker-holds-only s = holds-only (l .holders) (e .process) (e .store) s (process-from-1 e (ok .in-limits)) (ok .no-other)
+  taker-holds-only s = holds-only (l .holders) (e .process) (e .store) s (process-from-1 (l .stores) e (ok .in-limits)) (ok .no-other)
 
   -- its turn is not below the last one, and above it where it held the store
   turn-not-below : latestOf l (e .process) ≤ e .turn
@@ -128,7 +128,7 @@ module _ (l : Log) (e : Entry) (z : Sized l) (ok : TakeOk l e) where
     some-turn = λ p s.
         takers-after (λ (x : ℕ). has x p ≡ true → 1 ≤ latestOf taken p) s
         (λ k h. ⊎-elim
-        (λ (i : p ≡ e .process). omega (arith, ap (latestOf taken) i, taken-by .latest, inside-turn e (ok .in-limits) .0))
+        (λ (i : p ≡ e .process). omega (arith, ap (latestOf taken) i, taken-by .latest, inside-turn (l .stores) e (ok .in-limits) .0))
         (λ i. omega (arith, w .some-turn p (e .store) i, latest-grows p))
         (in-with (getD (l .takers) (e .store) 0) (e .process) p h))
         (λ k h. omega (arith, w .some-turn p s h, latest-grows p));
@@ -138,7 +138,7 @@ pub holding-enter : (l : Log) (e : Entry) → Sized l → Holding (holdersOf l) 
 holding-enter l e z w = holder-cases Holding l e w (λ ok. holding-take l e z ok w)
 
 pub holding-empty : Holding (holdersOf emptyLog)
-unfolding emptyLog
+unfolding opened
 holding-empty = record {
   one-store = λ p s t n q q′. absurd (n (sym q ∙ no-holder s));
   in-past = λ p s n q. absurd (n (sym q ∙ no-holder s));

@@ -5,7 +5,7 @@ use mathlib.Core.Logic.{_⊎_, inl, inr, ⊎-elim}
 use Rattle.log_entry.specs.declared.Entry.{Entry}
 use Rattle.log_core.specs.declared.Log.{Log}
 use Rattle.log_core.specs.Enter.{enter, feed}
-use Rattle.log_core.specs.Log.{emptyLog}
+use Rattle.log_core.specs.Log.{emptyLog, opened}
 use Rattle.log_laws.specs.Groups.{Begins, LastGroupWasBegun}
 use Rattle.log_laws.specs.Reached.{reached}
 use Rattle.log_laws.proofs.GroupSteps.{one-group}
@@ -44,7 +44,7 @@ begun-from l (e ∷ es) w =
     (begun-from (enter l e .log) es (wf-enter l e w))
 
 no-groups : emptyLog .groups ≡ 0
-unfolding emptyLog
+unfolding opened
 no-groups = refl
 
 pub was-begun : LastGroupWasBegun

@@ -13,7 +13,7 @@ use Rattle.log_entry.specs.Refusal.{accepted}
 use Rattle.log_core.proofs.EnterLaws.{accepted-inside, answer-is}
 use Rattle.log_core.specs.declared.Log.{Log}
 use Rattle.log_core.specs.Enter.{enter, feed}
-use Rattle.log_core.specs.Log.{emptyLog, latestOf}
+use Rattle.log_core.specs.Log.{emptyLog, latestOf, opened}
 use Rattle.log_laws.specs.Conditions.{LastTake, LastTakeFrom, LatestExactly, TookFrom}
 use Rattle.log_laws.specs.Reached.{reached}
 use Rattle.log_laws.proofs.Accepted.{ok-accepted}
@@ -120,13 +120,13 @@ found-last l (e ∷ es) p w = go (found-last (enter l e .log) es p (wf-enter l e
         (takes-or-none l e p)
 
 no-turn-at-first : (p : ℕ) → latestOf emptyLog p ≡ 0
-unfolding emptyLog
+unfolding opened
 no-turn-at-first p = replicate-cases (λ (x : ℕ). x ≡ 0) processPlaces p 0 0 refl refl
 
 turn-of-last : (es : List Entry) (p t : ℕ) → LastTake es p t → (1 ≤ t) × (latestOf (reached es) p ≡ t)
 unfolding feed
 turn-of-last es p t k = (
-  omega (arith, inside-turn entry (accepted-inside before entry (sym (answer-is before entry) ∙ k .took .is-accepted)) .0, k .took .in-turn),
+  omega (arith, inside-turn (before .stores) entry (accepted-inside before entry (sym (answer-is before entry) ∙ k .took .is-accepted)) .0, k .took .in-turn),
   ap (λ (x : List Entry). latestOf (reached x) p) (k .took .split)
       ∙ ap (λ (l : Log). latestOf l p) (feed-append emptyLog (k .took .before) (entry ∷ k .took .after))
       ∙ latest-since (enter before entry .log) (k .took .after) p

@@ -17,6 +17,7 @@ pub mod InvolvementChanges
 pub mod InvolvementClaims
 pub mod LastGroup
 pub mod LastTakes
+pub mod Limited
 pub mod Lists
 pub mod Lost
 pub mod OutcomeClaims

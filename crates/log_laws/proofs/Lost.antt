@@ -44,7 +44,7 @@ no-earlier es more t v take ok vote same below answer =
     let l = reached (es ++ t ∷ more) in
     let fine = vote-ok l v vote (sym (answer-is l v) ∙ answer) in
     let turn : v .turn ≡ latestOf l (v .process) =
-    sym (voter-turn _ l v fine) ∙ wf-reached (es ++ t ∷ more) .holding .last-turn (v .process) (v .by) (process-from-1 v (fine .in-limits)) (voter-holds _ l v fine) in
+    sym (voter-turn _ l v fine) ∙ wf-reached (es ++ t ∷ more) .holding .last-turn (v .process) (v .by) (process-from-1 (l .stores) v (fine .in-limits)) (voter-holds _ l v fine) in
     omega (arith, below, turn, ap (latestOf l) same, since)
   where
     before : Log

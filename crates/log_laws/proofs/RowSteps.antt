@@ -51,7 +51,7 @@ pub rows-enter : (l : Log) (e : Entry) → Sized l → ((tx : ℕ) → RowWf (ro
 rows-enter l e s w tx =
     row-cases RowWf l e tx (w tx)
     (λ ok k. row-kept (rowOf l tx) l e (groupAfter l tx (keeping (rowOf l tx) e)) (w tx) ok
-    (s .votes-size tx (subst (λ (n : ℕ). n < transactions) (sym k) (inside-vote e (ok .in-limits) (ok .is-vote) .tx)))
+    (s .votes-size tx (subst (λ (n : ℕ). n < transactions) (sym k) (inside-vote (l .stores) e (ok .in-limits) (ok .is-vote) .tx)))
     (group-made l tx (keeping (rowOf l tx) e))
     (group-commits l tx (keeping (rowOf l tx) e) (no-group (rowOf l tx) l e (w tx) ok)))
 

@@ -95,7 +95,7 @@ module _ (r : Row) (l : Log) (e : Entry) (g : ℕ) (w : RowWf r) (ok : VoteOk r 
   unfolding after
   kept-lists-in s t =
       kept-cases (λ (v : Vote). v .kept ≡ true → has (v .participants) t ≡ true → t < length (after .votes)) r e s
-      (λ k kept m. subst (λ (n : ℕ). t < n) (sym (same-size ∙ size)) (member-below (e .participants) stores t (inside-vote e (ok .in-limits) (ok .is-vote) .list) m))
+      (λ k kept m. subst (λ (n : ℕ). t < n) (sym (same-size ∙ size)) (member-below (e .participants) stores t (inside-vote (l .stores) e (ok .in-limits) (ok .is-vote) .list) m))
       (λ kept m. subst (λ (n : ℕ). t < n) (sym same-size) (w .lists-in s t kept m))
 
   kept-one-list : (s t : ℕ) → isCommit s (voteOfStore s after) ≡ true → isCommit t (voteOfStore t after) ≡ true

@@ -8,7 +8,7 @@ use Rattle.log_entry.specs.Limits.{processPlaces, stores, transactions}
 use Rattle.log_core.specs.declared.Log.{Log}
 use Rattle.log_votes.specs.declared.Row.{Row}
 use Rattle.log_core.specs.Enter.{enter}
-use Rattle.log_core.specs.Log.{emptyLog, rowOf}
+use Rattle.log_core.specs.Log.{emptyLog, opened, rowOf}
 use Rattle.log_votes.specs.Row.{keeping, noRow, noVote, voteOfEntry}
 use Rattle.log_laws.proofs.Rows.{committed}
 use Rattle.log_laws.proofs.Steps.{Holders, enter-cases, holder-cases, joins, row-cases, voted-remembered, voted-rows}
@@ -24,7 +24,7 @@ pub record Sized (l : Log) : Type 0 where
   pub remembered-size : length (l .remembered) ≡ transactions
 
 pub sized-empty : Sized emptyLog
-unfolding emptyLog
+unfolding opened
 sized-empty = record {
   rows-size = refl;
   votes-size = λ tx h. ap (λ (r : Row). length (r .votes)) (getD-replicate transactions tx (record { votes = replicate stores noVote; group = 0 }) noRow h);

@@ -89,6 +89,10 @@ module _ (l : Log) (tx : ℕ) (r : Row) where
   unfolding voted
   voted-holders = either-way holdersOf (committed r && not joins) _ _ refl
 
+  pub voted-limit : voted .stores ≡ l .stores
+  unfolding voted
+  voted-limit = either-way (λ (x : Log). x .stores) (committed r && not joins) _ _ refl
+
 -- the effect of an accepted vote
 vote-stored : (l : Log) (e : Entry) → e .take ≡ false → refusalOf l e ≡ accepted
     → stored l e (effectOf (partsOf l e) e) ≡ voted l (e .tx) (keeping (rowOf l (e .tx)) e)

@@ -14,7 +14,7 @@ use Rattle.log_entry.specs.Refusal.{accepted}
 use Rattle.log_core.proofs.EnterLaws.{accepted-inside, answer-is}
 use Rattle.log_core.specs.declared.Log.{Log}
 use Rattle.log_core.specs.Enter.{enter, feed}
-use Rattle.log_core.specs.Log.{emptyLog, heldBefore, latestOf}
+use Rattle.log_core.specs.Log.{emptyLog, heldBefore, latestOf, opened}
 use Rattle.log_laws.specs.Conditions.{HeldBeforeExactly, Took, TookFrom}
 use Rattle.log_laws.specs.Reached.{reached}
 use Rattle.log_laws.proofs.Accepted.{ok-accepted}
@@ -114,7 +114,7 @@ held-since es p t s k =
     (λ l e w h. held-enter l e p s (w .sized) h)
 
 none-at-first : (p s : ℕ) → heldBefore emptyLog p s ≡ false
-unfolding emptyLog
+unfolding opened
 none-at-first p s = replicate-cases (λ (x : ℕ). has x p ≡ false) stores s 0 0 (empty-has p) (empty-has p)
 
 pub held-exactly : HeldBeforeExactly
@@ -129,7 +129,7 @@ took-turn es p t s k =
     took-since (λ (l : Log). (1 ≤ t) × (t ≤ latestOf l p)) es p t s k
     (λ l e w h.
     let ok = sym (answer-is l e) ∙ h .is-accepted in
-    let from = inside-turn e (accepted-inside l e ok) .0 in
+    let from = inside-turn (l .stores) e (accepted-inside l e ok) .0 in
     let last = ap (latestOf (enter l e .log)) (sym (h .taker)) ∙ held-by l e (w .sized) (h .is-take) ok .latest in
     (omega (arith, from, h .in-turn), omega (arith, last, h .in-turn)))
     (λ l e w h. (h .0, omega (arith, h .1, latest-enter l e p (w .sized))))

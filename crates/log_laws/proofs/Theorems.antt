@@ -3,10 +3,11 @@ use Rattle.log_laws.specs.Answers.{RefusedEntryChangesNothing, TakeAnswe
 use Rattle.log_laws.specs.Base.{BaseCasesHold, BaseReadsNoTurn, OnlyRefusalsDiffer}
 use Rattle.log_laws.specs.Cases.{CasesHold}
 use Rattle.log_laws.specs.Changes.{TakeChangesOnly, VoteChangesOnly}
-use Rattle.log_laws.specs.Conditions.{ClashExactly, HeldBeforeExactly, HoldsAnotherExactly, HoldsNotExactly, IllFormedExactly, LatestExactly, OtherTurnExactly, OutsideExactly, StaleExactly}
+use Rattle.log_laws.specs.Conditions.{ClashExactly, HeldBeforeExactly, HoldsAnotherExactly, HoldsNotExactly, IllFormedExactly, LatestExactly, OtherTurnExactly, StaleExactly}
 use Rattle.log_laws.specs.Groups.{BegunByCommit, FirstCommitBegins, GroupAtCommit, GroupIffCommitted, GroupNeverChanges, GroupsWithoutGaps, JoinsIfRunningWhenBegun, LastGroupWasBegun, RememberedNeverChanges, GroupRemembersRunning}
 use Rattle.log_laws.specs.Holders.{AcceptedTakeHolds, HoldsAtMostOneStore, HoldsInLastTurn, LastTurnNeverFalls, LostStoreNeverAgain, NoEarlierTurnKept}
 use Rattle.log_laws.specs.Involvement.{ChangedAreAborted, GuessedBefore, InvolvementChangesExactly, InvolvementExactly, InvolvementStays}
+use Rattle.log_laws.specs.Limited.{AsFull, EveryLimitAsFull, LimitedIsFull, OutsideIsRefused}
 use Rattle.log_laws.specs.Replays.{ReplayListsExactly, ReplayListsOnce, ReplayOrdered}
 use Rattle.log_laws.specs.TakenOver.{AwaitedExactly, LostStoreVotesNoMore, ReplayedOrAwaited, RowStaysCommitted}
 use Rattle.log_laws.specs.Votes.{AcceptedVoteIsKept, CommitVotesNameOneList, CommittedKeepsNoVote, CommittedRowStays, KeptVoteStays, OutcomeAbortIff, OutcomeCommitIff, OutcomeNeverChanges, RunningExactly}
@@ -16,12 +17,13 @@ use Rattle.log_laws.proofs.AnswerClaims.{refused-same, take-exactly, vo
 use Rattle.log_laws.proofs.CaseTable.{base-table-holds, table-holds}
 use Rattle.log_laws.proofs.ChangeClaims.{only-holder, only-vote}
 use Rattle.log_laws.proofs.CommitIff.{commit-iff}
-use Rattle.log_laws.proofs.ConditionClaims.{another-by-holders, clash-by-lists, holds-not-by-holder, ill-formed-by-values, other-turn-by-turn, outside-by-limits, stale-by-takes}
+use Rattle.log_laws.proofs.ConditionClaims.{another-by-holders, clash-by-lists, holds-not-by-holder, ill-formed-by-values, other-turn-by-turn, stale-by-takes}
 use Rattle.log_laws.proofs.GroupClaims.{at-commit, by-commit, first-begins, iff-committed, joins-if-running, never-changes, without-gaps}
 use Rattle.log_laws.proofs.InvolvementChanges.{changed-aborted, changes-exactly, guessed-earlier}
 use Rattle.log_laws.proofs.InvolvementClaims.{answer-stays, involvement-by-votes}
 use Rattle.log_laws.proofs.LastGroup.{was-begun}
 use Rattle.log_laws.proofs.LastTakes
+use Rattle.log_laws.proofs.Limited
 use Rattle.log_laws.proofs.Lost.{last-turn, never-again, never-falls, no-earlier, one-store}
 use Rattle.log_laws.proofs.OutcomeClaims.{abort-iff, running-by-votes}
 use Rattle.log_laws.proofs.Remembered.{remembered-stays, remembers-running}
@@ -151,9 +153,6 @@ row-stays-committed = TakenOver.row-stays-committed
 pub refused-entry-changes-nothing : RefusedEntryChangesNothing
 refused-entry-changes-nothing = refused-same
 
-pub outside-exactly : OutsideExactly
-outside-exactly = outside-by-limits
-
 pub ill-formed-exactly : IllFormedExactly
 ill-formed-exactly = ill-formed-by-values
 
@@ -204,3 +203,19 @@ takes-without-turns = WithoutTurns.takes-without-turns
 
 pub votes-without-turns : VotesWithoutTurns
 votes-without-turns = WithoutTurns.votes-without-turns
+
+pub limited-is-full : LimitedIsFull
+limited-is-full = Limited.limited-is-full
+
+pub outside-is-refused : OutsideIsRefused
+outside-is-refused = Limited.outside-is-refused
+
+pub every-limit-as-full : EveryLimitAsFull
+every-limit-as-full = Limited.every-limit-as-full
+
+-- of the two limits that a log may be opened with
+pub full-as-full : AsFull 8
+full-as-full = every-limit-as-full 8
+
+pub small-as-full : AsFull 3
+small-as-full = every-limit-as-full 3

@@ -55,20 +55,20 @@ stale l e = wrongTurn (getD (l .takers) (e .store) 0) (latestOf l (e .process)) 
 -- a vote's answer is n if and only if condition n holds and none before it does; 0 if and only if
 -- none holds
 pub record VoteAnswers (l : Log) (e : Entry) : Type 0 where
-  pub is-2 : (enter l e .answer ≡ outsideLimits) ↔ First [] (outside e)
-  pub is-7 : (enter l e .answer ≡ illFormedVote) ↔ First (outside e ∷ []) (illFormed e)
-  pub is-8 : (enter l e .answer ≡ notHolder) ↔ First (outside e ∷ illFormed e ∷ []) (holdsNot l e)
-  pub is-9 : (enter l e .answer ≡ otherList) ↔ First (outside e ∷ illFormed e ∷ holdsNot l e ∷ []) (clash l e)
-  pub is-10 : (enter l e .answer ≡ keptAlready) ↔ First (outside e ∷ illFormed e ∷ holdsNot l e ∷ clash l e ∷ []) (kept l e)
-  pub is-12 : (enter l e .answer ≡ refusal.wrongTurn) ↔ First (outside e ∷ illFormed e ∷ holdsNot l e ∷ clash l e ∷ kept l e ∷ []) (otherTurn l e)
-  pub is-0 : (enter l e .answer ≡ accepted) ↔ None (outside e ∷ illFormed e ∷ holdsNot l e ∷ clash l e ∷ kept l e ∷ otherTurn l e ∷ [])
+  pub is-2 : (enter l e .answer ≡ outsideLimits) ↔ First [] (outside (l .stores) e)
+  pub is-7 : (enter l e .answer ≡ illFormedVote) ↔ First (outside (l .stores) e ∷ []) (illFormed e)
+  pub is-8 : (enter l e .answer ≡ notHolder) ↔ First (outside (l .stores) e ∷ illFormed e ∷ []) (holdsNot l e)
+  pub is-9 : (enter l e .answer ≡ otherList) ↔ First (outside (l .stores) e ∷ illFormed e ∷ holdsNot l e ∷ []) (clash l e)
+  pub is-10 : (enter l e .answer ≡ keptAlready) ↔ First (outside (l .stores) e ∷ illFormed e ∷ holdsNot l e ∷ clash l e ∷ []) (kept l e)
+  pub is-12 : (enter l e .answer ≡ refusal.wrongTurn) ↔ First (outside (l .stores) e ∷ illFormed e ∷ holdsNot l e ∷ clash l e ∷ kept l e ∷ []) (otherTurn l e)
+  pub is-0 : (enter l e .answer ≡ accepted) ↔ None (outside (l .stores) e ∷ illFormed e ∷ holdsNot l e ∷ clash l e ∷ kept l e ∷ otherTurn l e ∷ [])
 
 -- a take's likewise
 pub record TakeAnswers (l : Log) (e : Entry) : Type 0 where
-  pub is-2 : (enter l e .answer ≡ outsideLimits) ↔ First [] (outside e)
-  pub is-11 : (enter l e .answer ≡ refusal.holdsAnother) ↔ First (outside e ∷ []) (another l e)
-  pub is-12 : (enter l e .answer ≡ refusal.wrongTurn) ↔ First (outside e ∷ another l e ∷ []) (stale l e)
-  pub is-0 : (enter l e .answer ≡ accepted) ↔ None (outside e ∷ another l e ∷ stale l e ∷ [])
+  pub is-2 : (enter l e .answer ≡ outsideLimits) ↔ First [] (outside (l .stores) e)
+  pub is-11 : (enter l e .answer ≡ refusal.holdsAnother) ↔ First (outside (l .stores) e ∷ []) (another l e)
+  pub is-12 : (enter l e .answer ≡ refusal.wrongTurn) ↔ First (outside (l .stores) e ∷ another l e ∷ []) (stale l e)
+  pub is-0 : (enter l e .answer ≡ accepted) ↔ None (outside (l .stores) e ∷ another l e ∷ stale l e ∷ [])
 
 abbrev pub VoteAnswerExactly : Type 0
 VoteAnswerExactly = (l : Log) (e : Entry) → e .take ≡ false → VoteAnswers l e

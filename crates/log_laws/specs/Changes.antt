@@ -16,6 +16,7 @@ pub record OnlyHolderChanges (l m : Log) (process store : ℕ) : Type 0 where
   pub rows : m .rows ≡ l .rows
   pub groups : m .groups ≡ l .groups
   pub remembered : m .remembered ≡ l .remembered
+  pub limit : m .stores ≡ l .stores
   pub other-holders : (s : ℕ) → s ≢ store → holderOf m s ≡ holderOf l s
   pub other-turns : (s : ℕ) → s ≢ store → turnOf m s ≡ turnOf l s
   pub other-past : (p s : ℕ) → s ≢ store → heldBefore m p s ≡ heldBefore l p s
@@ -31,6 +32,7 @@ pub record OnlyVoteChanges (l m : Log) (tx store : ℕ) : Type 0 where
   pub turns : m .turns ≡ l .turns
   pub takers : m .takers ≡ l .takers
   pub latest : m .latest ≡ l .latest
+  pub limit : m .stores ≡ l .stores
   pub other-stores : (s : ℕ) → s ≢ store → voteAt m tx s ≡ voteAt l tx s
   pub other-votes : (t s : ℕ) → t ≢ tx → voteAt m t s ≡ voteAt l t s
   pub other-groups : (t : ℕ) → t ≢ tx → groupOf m t ≡ groupOf l t

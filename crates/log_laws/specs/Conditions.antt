@@ -1,13 +1,13 @@
--- What the conditions of the refusals say, in the documents' own numbers and words. `Answers` says
--- which of them gives the answer.
-use Prim.Native.Nat.{ℕ, _^_, _≤_, _<_}
+-- What the conditions of the refusals say, in the documents' own words. `Answers` says which of them
+-- gives the answer. 2 looks at the entry alone: see `OutsideExactly` of log_entry.
+use Prim.Native.Nat.{ℕ, _≤_, _<_}
 use mathlib.Core.Path.{_≡_}
 use mathlib.Core.Bool.{true, false}
 use mathlib.Core.List.{List, [], _∷_, _++_}
 use mathlib.Core.Logic.{_↔_, _⊎_}
 use Rattle.log_entry.specs.declared.Entry.{Entry}
 use Rattle.log_entry.specs.Bits.{has}
-use Rattle.log_entry.specs.Entry.{illFormed, outside}
+use Rattle.log_entry.specs.Entry.{illFormed}
 use Rattle.log_entry.specs.Refusal.{accepted}
 use Rattle.log_core.specs.declared.Log.{Log}
 use Rattle.log_core.specs.Enter.{enter, feed}
@@ -15,28 +15,6 @@ use Rattle.log_core.specs.Log.{emptyLog, heldBefore, holderOf, latestOf, turnOf
 use Rattle.log_laws.specs.Answers.{another, clash, holdsNot, otherTurn, stale}
 use Rattle.log_laws.specs.Reached.{reached}
 use Rattle.log_laws.specs.Votes.{KeptCommit}
-
--- ---- 2: a number outside its limits
-
--- "Stores 0 to 7. Transactions (`tx`) 0 to 31." A list has bits for stores 0 to 7. "Updates become
--- 64 bits".
-pub record VoteInLimits (e : Entry) : Type 0 where
-  pub by : e .by ≤ 7
-  pub tx : e .tx ≤ 31
-  pub list : e .participants < 2 ^ 8
-  pub update : e .update < 2 ^ 64
-
--- "Processes 1 to 15"; "Takes and votes gain `turn=`, 1 to 255"; a take has these and a store
-pub record InLimits (e : Entry) : Type 0 where
-  pub process-from : 1 ≤ e .process
-  pub process-to : e .process ≤ 15
-  pub turn-from : 1 ≤ e .turn
-  pub turn-to : e .turn ≤ 255
-  pub store : e .store ≤ 7
-  pub vote : e .take ≡ false → VoteInLimits e
-
-abbrev pub OutsideExactly : Type 0
-OutsideExactly = (e : Entry) → (outside e ≡ false) ↔ InLimits e
 
 -- ---- 7: "list without `store` or `by`; commit on behalf; abort with an update other than 0"
 

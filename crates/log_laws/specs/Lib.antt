@@ -6,6 +6,7 @@ pub mod Conditions
 pub mod Groups
 pub mod Holders
 pub mod Involvement
+pub mod Limited
 pub mod Reached
 pub mod Replays
 pub mod TakenOver

@@ -6,14 +6,16 @@ use mathlib.Core.Bool.{true, false}
 use mathlib.Core.List.{List, [], _∷_}
 use mathlib.Core.Logic.{_↔_, _⊎_, _≢_}
 use Rattle.log_entry.specs.declared.Entry.{Entry}
+use Rattle.log_entry.specs.Claims.{InLimits}
 use Rattle.log_entry.specs.Entry.{illFormed, outside}
+use Rattle.log_entry.specs.Limits.{stores}
 use Rattle.log_entry.specs.Refusal.{accepted}
 use Rattle.log_core.specs.Enter.{enter}
 use Rattle.log_core.specs.Log.{groupOf, holderOf, involvementOf, outcomeOf}
 use Rattle.log_core.specs.Replay.{replayOf}
 use Rattle.log_laws.specs.Answers.{None, clash, holdsNot, kept}
 use Rattle.log_laws.specs.Base.{baseEnter, baseInvolvementOf, baseReached}
-use Rattle.log_laws.specs.Conditions.{InLimits, Took}
+use Rattle.log_laws.specs.Conditions.{Took}
 use Rattle.log_laws.specs.Involvement.{ChangesExactly}
 use Rattle.log_laws.specs.Reached.{reached}
 
@@ -50,7 +52,7 @@ WithoutTurns = (es : List Entry) → AllFirst es → AsInBase es
 -- and never took this one.
 abbrev pub TakesWithoutTurns : Type 0
 TakesWithoutTurns =
-    (es : List Entry) (e : Entry) → AllFirst es → e .take ≡ true → e .turn ≡ 1 → InLimits e
+    (es : List Entry) (e : Entry) → AllFirst es → e .take ≡ true → e .turn ≡ 1 → InLimits 8 32 e
     → (enter (reached es) e .answer ≡ accepted)
     ↔ (((s : ℕ) → holderOf (reached es) s ≢ e .process) × ((t : ℕ) → Took es (e .process) t (e .store) → ⊥))
 
@@ -58,4 +60,4 @@ TakesWithoutTurns =
 abbrev pub VotesWithoutTurns : Type 0
 VotesWithoutTurns =
     (es : List Entry) (e : Entry) → AllFirst es → e .take ≡ false → e .turn ≡ 1
-    → let l = reached es in (enter l e .answer ≡ accepted) ↔ None (outside e ∷ illFormed e ∷ holdsNot l e ∷ clash l e ∷ kept l e ∷ [])
+    → let l = reached es in (enter l e .answer ≡ accepted) ↔ None (outside stores e ∷ illFormed e ∷ holdsNot l e ∷ clash l e ∷ kept l e ∷ [])

@@ -10,7 +10,7 @@ use native.Mathlib.Omega.{arith}
 use borrow.Author.Tests.{eqb-false, lt-leb, leb-false, ne-eqb}
 use lib.Dec.{eqb, leb}
 use Rattle.log_entry.specs.Entry.{noProcess, noTurn, outside}
-use Rattle.log_entry.specs.Limits.{processPlaces, processes}
+use Rattle.log_entry.specs.Limits.{processPlaces, processes, stores}
 use Rattle.log_entry.specs.Refusal.{accepted, check, firstRefusal, illFormedVote, noPlace, notMet, outsideLimits, partyDown}
 use Rattle.log_entry.proofs.InsideLaws.{inside-process, process-inside}
 use Rattle.log_entry.proofs.Tests.{neither, neither-left, neither-right, opposed, or-left, or-right}
@@ -147,7 +147,7 @@ other-turn-refused steps e to s another =
     sender = processOf w′ (e .process % processPlaces)
 
     place : e .process % processPlaces ≡ e .process
-    place = process-place (e .process) (inside-process e (neither-left (outside e) (noCoordinator to) (s .within)) .1)
+    place = process-place (e .process) (inside-process stores e (neither-left (outside stores e) (noCoordinator to) (s .within)) .1)
 
     differs : e .turn ≡ sender .turn → ⊥
     differs same = another (sym (demand-3 steps .present-turn (e .process)) ∙ ap (λ (k : ℕ). processOf w′ k .turn) (sym place) ∙ sym same)

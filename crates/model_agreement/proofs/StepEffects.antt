@@ -387,7 +387,7 @@ module _ (w : World) (h : List Event) (room : Roomy (outboxOf w)) (few : w .acce
         let m = none-of-three (eqb (w .acceptors) 0) (otherTurn e x) (voterNotHolder e x) (p .1 .1 .0) in
         to-trans (only-sends w (processAt (e .process)) r d (requestTo k e))
         (moves (live (m .0))
-        (asks e k _ _ (nleb→lt coordinators k (neither (outside e) (noCoordinator k) (p .0) .1))
+        (asks e k _ _ (nleb→lt coordinators k (neither (outside stores e) (noCoordinator k) (p .0) .1))
         (sym (eqb→eq (e .turn) (x .turn) (not-not (eqb (e .turn) (x .turn)) (m .1))))
         (posts-one (outboxOf w) (w .sent) (requestTo k e) room (one-left (p .1 .1 .1 .0)))))
 
@@ -519,7 +519,7 @@ module _ (w : World) (h : List Event) (room : Roomy (outboxOf w)) (few : w .acce
   unfolding placesOf messageFor outsideStep
   t-step (Setup n) p = t-setup _ _ n _ p
   t-step (Request e k) p =
-      at-its-process (e .process) (Request e k) _ _ (inside-process e (is-false (outside e) (neither (outside e) (noCoordinator k) (p .0) .0)) .1) (t-ask _ _ e k) p
+      at-its-process (e .process) (Request e k) _ _ (inside-process stores e (is-false (outside stores e) (neither (outside stores e) (noCoordinator k) (p .0) .0)) .1) (t-ask _ _ e k) p
   t-step (Open k i b) p =
       at-its-place k (Open k i b) _ (λ _. messageOf w 0) (none-of-three (noCoordinator k) (leb instances i) (noBallot b) (p .0) .0) (t-open _ _ k i b) p
   t-step (Propose k i b) p =

@@ -9,6 +9,7 @@ use mathlib.Core.List.{List}
 use mathlib.Core.Logic.{_↔_, _⊎_, _≢_}
 use Rattle.log_entry.specs.declared.Entry.{Entry}
 use Rattle.log_entry.specs.Entry.{noProcess, noTurn, outside}
+use Rattle.log_entry.specs.Limits.{stores}
 use Rattle.log_entry.specs.Refusal.{accepted, notMet, outsideLimits}
 use Rattle.model_steps.specs.declared.Role.the-variants.{Coord, Proc}
 use Rattle.model_steps.specs.declared.Step.{Step}
@@ -47,7 +48,7 @@ ComesBackAnew =
 -- "A take or vote with another turn than the process's present one is refused 5": neither 2 nor 3
 -- comes first
 pub record Sendable (w : World) (e : Entry) (to : ℕ) : Type 0 where
-  pub within : (outside e || noCoordinator to) ≡ false
+  pub within : (outside stores e || noCoordinator to) ≡ false
   pub process-up : isDown (w .down) Proc (e .process) ≡ false
   pub coordinator-up : isDown (w .down) Coord to ≡ false
 

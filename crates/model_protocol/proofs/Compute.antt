@@ -7,7 +7,7 @@ use Rattle.log_core.specs.Decide.{effectOf, refusal}
 use Rattle.log_core.specs.Enter.{enter, entered, feed, stored}
 use Rattle.log_core.specs.Follow.{awaitedOf}
 use Rattle.log_core.specs.Group.{remembered}
-use Rattle.log_core.specs.Log.{emptyLog}
+use Rattle.log_core.specs.Log.{opened}
 use Rattle.log_votes.specs.Outcome.{outcomeOfVotes, running}
 use Rattle.log_core.specs.Refusal.{wrongTurn}
 use Rattle.log_core.specs.Replay.{groupReplay, noReplay, replayFrom, replayOf}
@@ -27,5 +27,5 @@ use Rattle.model_protocol.specs.World.{allUp, freshCoordinator, freshWor
 
 -- the world after a list of steps from the fresh world
 unfoldable pub computed : List Step → World
-unfolding run stepOf placesOf stepRefusal stepChecks changeOf messageFor heldFrom deliveryChange firstRefusal outsideStep outside illFormed sendToAll copyOf promiseHeard learning joining batchToPropose firstBatch batchOf isIn sameEntry leftBy queueOf without freshWorld freshCoordinator startedIn allUp noBatch noReplay noFollows awaitedOf emptyLog feed enter entered stored effectOf refusal wrongTurn remembered setOf outcomeOfVotes running replayOf replayFrom groupReplay anyFrom allFrom ones onesIn owner owners
+unfolding run stepOf placesOf stepRefusal stepChecks changeOf messageFor heldFrom deliveryChange firstRefusal outsideStep outside illFormed sendToAll copyOf promiseHeard learning joining batchToPropose firstBatch batchOf isIn sameEntry leftBy queueOf without freshWorld freshCoordinator startedIn allUp noBatch noReplay noFollows awaitedOf opened feed enter entered stored effectOf refusal wrongTurn remembered setOf outcomeOfVotes running replayOf replayFrom groupReplay anyFrom allFrom ones onesIn owner owners
 computed steps = run freshWorld steps

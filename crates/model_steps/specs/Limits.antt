@@ -4,7 +4,7 @@ use Prim.Native.Nat.{ℕ}
 use mathlib.Core.Bool.{Bool, _||_, not}
 use lib.Dec.{eqb, leb, ltb}
 use Rattle.log_entry.specs.Entry.{noProcess, noTurn, outside}
-use Rattle.log_entry.specs.Limits.{transactions}
+use Rattle.log_entry.specs.Limits.{stores, transactions}
 use Rattle.model_steps.specs.declared.Role.{Role}
 use Rattle.model_steps.specs.declared.Role.the-variants.{Acceptor, Coord, Proc}
 use Rattle.model_steps.specs.declared.Step.{Step}
@@ -47,7 +47,7 @@ noParty acceptors Proc id = noProcess id
 -- 2: a number of the step is outside its limits, where this many acceptors count
 unfoldable pub outsideStep : ℕ → Step → Bool
 outsideStep acceptors (Setup n) = not (eqb n fewestAcceptors || eqb n mostAcceptors)
-outsideStep acceptors (Request e to) = outside e || noCoordinator to
+outsideStep acceptors (Request e to) = outside stores e || noCoordinator to
 outsideStep acceptors (Open c i b) = noCoordinator c || leb instances i || noBallot b
 outsideStep acceptors (Propose c i b) = noCoordinator c || leb instances i || noBallot b
 outsideStep acceptors (Deliver m) = leb messages m

@@ -3,11 +3,12 @@ ghost use mathlib.Core.Path.{_≡_};
 ghost use mathlib.Core.Bool.{_||_, not};
 ghost use lib.Dec.{eqb, leb};
 ghost use Rattle.log_entry.specs.Entry.{noProcess, noTurn, outside};
-ghost use Rattle.log_entry.specs.Limits.{transactions};
+ghost use Rattle.log_entry.specs.Limits.{stores, transactions};
 ghost use Rattle.model_steps.specs.Limits.{fewestAcceptors, instances, mostAcceptors, noBallot, noCoordinator, noParty, outsideStep};
 use crate::Role;
 use crate::Step;
 use log_entry::Entry;
+use log_entry::limits::STORES;
 use log_entry::limits::TRANSACTIONS;
 
 pub const COORDINATORS: u8 = 3;
@@ -33,9 +34,9 @@ fn setup_outside(n: u8) -> bool
 }
 
 fn no_request(e: Entry, to: u8) -> bool
-    ensures { λ r. ⌜ r ≡ (outside e || noCoordinator to) ⌝ }
+    ensures { λ r. ⌜ r ≡ (outside stores e || noCoordinator to) ⌝ }
 {
-    e.outside() | (COORDINATORS <= to)
+    e.outside(STORES) | (COORDINATORS <= to)
 }
 
 fn no_round(coord: u8, inst: u8, ballot: u8) -> bool

@@ -30,7 +30,7 @@ use Rattle.text_lines.specs.Lines.{maxLineBytes}
 use Rattle.plain_run.specs.Claims.{Answered2IsOutside, LongLineIsUnreadable, OtherLineIsUnreadable, TextIsEntered, TextOutsideLimits}
 use Rattle.plain_run.specs.Plain.{enterLine, entering}
 
-enter-outside : (l : Log) (e : Entry) → outside e ≡ true → enter l e ≡ answered l outsideLimits
+enter-outside : (l : Log) (e : Entry) → outside (l .stores) e ≡ true → enter l e ≡ answered l outsideLimits
 enter-outside l e h = sym (entered-outside l e h)
 
 short-line : (l : Log) (s : List ℕ) → length s ≤ maxLineBytes → enterLine l s ≡ entering l (reading s)
@@ -38,7 +38,7 @@ unfolding enterLine
 short-line l s h = rw (le-ltb maxLineBytes (length s) h)
 
 entered : (l : Log) (s : List ℕ) (e : Entry) → IsText s e → (b : Bool) → beyond e ≡ b → entering l (cond b Outside (Read e)) ≡ enter l e
-entered l s e t true h = sym (enter-outside l e (text-beyond s e t h))
+entered l s e t true h = sym (enter-outside l e (text-beyond (l .stores) s e t h))
 entered l s e t false h = refl
 
 pub text-is-entered : TextIsEntered
@@ -77,13 +77,13 @@ vote-not-2 false false false true t h = omega arith
 vote-not-2 false false false false true h = omega arith
 vote-not-2 false false false false false h = omega arith
 
-refused-2 : (l : Log) (e : Entry) → refusalOf l e ≡ outsideLimits → outside e ≡ true
+refused-2 : (l : Log) (e : Entry) → refusalOf l e ≡ outsideLimits → outside (l .stores) e ≡ true
 unfolding refusal firstRefusal
-refused-2 l e h = go (outside e) refl
+refused-2 l e h = go (outside (l .stores) e) refl
   where
-    never : outside e ≡ false → (t : Bool)
+    never : outside (l .stores) e ≡ false → (t : Bool)
         → firstRefusal
-        (check outsideLimits (outside e)
+        (check outsideLimits (outside (l .stores) e)
         ∷ cond t
         (takeChecks (l .holders) (getD (l .takers) (e .store) 0) (latestOf l (e .process)) e)
         (voteChecks (rowOf l (e .tx)) (holderOf l (e .by)) (turnOf l (e .by)) e))
@@ -94,7 +94,7 @@ refused-2 l e h = go (outside e) refl
     never k false h =
         vote-not-2 (illFormed e) (not (eqb (holderOf l (e .by)) (e .process))) (anyClash e (rowOf l (e .tx) .votes)) (getD (rowOf l (e .tx) .votes) (e .store) noVote .kept) (not (eqb (turnOf l (e .by)) (e .turn))) (rw k at h)
 
-    go : (o : Bool) → outside e ≡ o → o ≡ true
+    go : (o : Bool) → outside (l .stores) e ≡ o → o ≡ true
     go true k = refl
     go false k = absurd (never k (e .take) h)
 
@@ -102,8 +102,8 @@ pub answered-2-is-outside : Answered2IsOutside
 unfolding enterLine
 answered-2-is-outside l s h = go (ltb maxLineBytes (length s)) (reading s) refl h
   where
-    go : (b : Bool) (r : Reading) → reading s ≡ r → cond b (answered l unreadable) (entering l r) .answer ≡ outsideLimits → (e : Entry) × IsText s e × (outside e ≡ true)
+    go : (b : Bool) (r : Reading) → reading s ≡ r → cond b (answered l unreadable) (entering l r) .answer ≡ outsideLimits → (e : Entry) × IsText s e × (outside (l .stores) e ≡ true)
     go true r k h = absurd (let z : ⊥ = omega arith in z)
     go false (Read e) k h = (e, read-line-is-text s e k, refused-2 l e (sym (answer-is l e) ∙ h))
-    go false Outside k h = outside-line-is-text s k
+    go false Outside k h = let t = outside-line-is-text s k in (t .0, t .1, t .2 (l .stores))
     go false Unreadable k h = absurd (let z : ⊥ = omega arith in z)

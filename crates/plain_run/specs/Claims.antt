@@ -19,10 +19,11 @@ use Rattle.plain_run.specs.Session.{answerLine, freshSession, isOver, ou
 abbrev pub TextIsEntered : Type 0
 TextIsEntered = (l : Log) (s : List ℕ) (e : Entry) → IsText s e → length s ≤ maxLineBytes → enterLine l s ≡ enter l e
 
--- A text of an entry with a number outside its limits is answered 2, and the log stays as it was.
+-- A text of an entry with a number outside the log's limits is answered 2, and the log stays as it
+-- was.
 abbrev pub TextOutsideLimits : Type 0
 TextOutsideLimits =
-    (l : Log) (s : List ℕ) (e : Entry) → IsText s e → length s ≤ maxLineBytes → outside e ≡ true → enterLine l s ≡ answered l outsideLimits
+    (l : Log) (s : List ℕ) (e : Entry) → IsText s e → length s ≤ maxLineBytes → outside (l .stores) e ≡ true → enterLine l s ≡ answered l outsideLimits
 
 -- Every line that is a text of no entry is answered 1, and the log stays as it was.
 abbrev pub OtherLineIsUnreadable : Type 0
@@ -33,9 +34,9 @@ abbrev pub LongLineIsUnreadable : Type 0
 LongLineIsUnreadable = (l : Log) (s : List ℕ) → maxLineBytes < length s → enterLine l s ≡ answered l unreadable
 
 -- A line answered 2 is a text of an entry with natural numbers of any size, one of them outside
--- its limits.
+-- the log's limits.
 abbrev pub Answered2IsOutside : Type 0
-Answered2IsOutside = (l : Log) (s : List ℕ) → enterLine l s .answer ≡ outsideLimits → (e : Entry) × IsText s e × (outside e ≡ true)
+Answered2IsOutside = (l : Log) (s : List ℕ) → enterLine l s .answer ≡ outsideLimits → (e : Entry) × IsText s e × (outside (l .stores) e ≡ true)
 
 -- However the input was cut into pieces, the code's session prints what `plain` says of its bytes.
 abbrev pub PiecesArePlain : Type 0

@@ -6,6 +6,7 @@ ghost use Rattle.log_core.specs.declared.Log.{Log};
 ghost use Rattle.plain_run.specs.Session.{answerLine, carriedOut, freshSession, isOver, lineEntered, stateOf};
 use log_core::Log;
 use log_entry::Entry;
+use log_entry::Limit;
 use log_entry::refusal::ACCEPTED;
 use log_entry::refusal::NO_PLACE;
 use log_entry::refusal::OUTSIDE_LIMITS;
@@ -86,7 +87,7 @@ impl Session {
     pub fn fresh() -> Session
         ensures { λ r. ⌜ r ≡ freshSession ⌝ }
     {
-        let log = Log::empty();
+        let log = Log::empty(Limit::Full);
         let answers = Answers::none();
         Session {
             log: log,

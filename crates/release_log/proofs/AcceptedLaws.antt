@@ -32,10 +32,10 @@ passed a b c h = split (eqb a accepted) (eqb b accepted) c refl refl refl
     split false t u e f g = absurd (eqb-false a accepted e (rw e at h))
 
 -- numbers that the log accepts stand for an entry
-pub numbers-accepted : (l : Log) (n : Numbers) → enterReading l (readNumbers n) .answer ≡ accepted → readNumbers n ≡ Of (entryOf n)
+pub numbers-accepted : (limit : ℕ) (l : Log) (n : Numbers) → enterReading l (readNumbers limit n) .answer ≡ accepted → readNumbers limit n ≡ Of (entryOf n)
 unfolding enterReading
-numbers-accepted l n h = split (readNumbers n) refl
+numbers-accepted limit l n h = split (readNumbers limit n) refl
   where
-    split : (r : Reading) → readNumbers n ≡ r → readNumbers n ≡ Of (entryOf n)
-    split (Of e) k = k ∙ ap Of (sym (entry-read n k))
-    split (Refused m) k = absurd (refusal-read n k (rw k at h))
+    split : (r : Reading) → readNumbers limit n ≡ r → readNumbers limit n ≡ Of (entryOf n)
+    split (Of e) k = k ∙ ap Of (sym (entry-read limit n k))
+    split (Refused m) k = absurd (refusal-read limit n k (rw k at h))

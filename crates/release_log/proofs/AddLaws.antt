@@ -42,32 +42,23 @@ module _ (bytes : List ℕ) (count : ℕ) (l : Log) (e : Entry) {t : Entered} (s
   entry-stored h k r a =
       (rw (← said, h, le-ltb (length bytes) (suc count * recordSize) (omega arith)), rw (← said, h, le-ltb (length bytes) (suc count * recordSize) (omega arith), a, r))
 
-module _ (bytes : List ℕ) (count : ℕ) where
-  pub count-fits : lentLog bytes count .answer ≡ accepted → count * recordSize ≤ length bytes
-  unfolding lentLog
-  count-fits h = split (ltb (length bytes) (count * recordSize)) refl
-    where
-      split : (t : Bool) → ltb (length bytes) (count * recordSize) ≡ t → count * recordSize ≤ length bytes
-      split false e = ltb-false (length bytes) (count * recordSize) e
-      split true e = absurd (let z : _≡_ {A = ℕ} outsideLimits accepted = (rw e at h) in let y : ⊥ = omega arith in y)
+module _ (limit : ℕ) (bytes : List ℕ) (count : ℕ) (n : Numbers) {t : Entered} (lent : t ≡ lentLog limit bytes count) where
+  abbrev Added-so : ℕ → List ℕ → Type 0
+  Added-so r after = (r ≡ addAnswer limit bytes count n) × (after ≡ addBytes limit bytes count n)
 
-  module _ (n : Numbers) {t : Entered} (lent : t ≡ lentLog bytes count) where
-    abbrev Added-so : ℕ → List ℕ → Type 0
-    Added-so r after = (r ≡ addAnswer bytes count n) × (after ≡ addBytes bytes count n)
+  pub records-refused : (t .answer ≡ accepted → ⊥) → Added-so (t .answer) bytes
+  unfolding addAnswer addBytes firstRefusal
+  records-refused h = (rw (← lent, ne-eqb (t .answer) accepted h), rw (← lent, ne-eqb (t .answer) accepted h, ne-eqb (t .answer) accepted h))
 
-    pub records-refused : (t .answer ≡ accepted → ⊥) → Added-so (t .answer) bytes
-    unfolding addAnswer addBytes firstRefusal
-    records-refused h = (rw (← lent, ne-eqb (t .answer) accepted h), rw (← lent, ne-eqb (t .answer) accepted h, ne-eqb (t .answer) accepted h))
+  module _ (accept : t .answer ≡ accepted) where
+    pub numbers-refused : {r : Reading} {k : ℕ} → r ≡ readNumbers limit n → r ≡ Refused k → Added-so k bytes
+    unfolding addAnswer addBytes firstRefusal enterReading
+    numbers-refused {r} {k} read h =
+        let z : k ≡ accepted → ⊥ = refusal-read limit n (sym read ∙ h) in
+        (rw (← lent, accept, ← read, h, ne-eqb k accepted z), rw (← lent, accept, ← read, h, ne-eqb k accepted z, ne-eqb k accepted z))
 
-    module _ (accept : t .answer ≡ accepted) where
-      pub numbers-refused : {r : Reading} {k : ℕ} → r ≡ readNumbers n → r ≡ Refused k → Added-so k bytes
-      unfolding addAnswer addBytes firstRefusal enterReading
-      numbers-refused {r} {k} read h =
-          let z : k ≡ accepted → ⊥ = refusal-read n (sym read ∙ h) in
-          (rw (← lent, accept, ← read, h, ne-eqb k accepted z), rw (← lent, accept, ← read, h, ne-eqb k accepted z, ne-eqb k accepted z))
-
-      pub entry-added : {r : Reading} {e : Entry} → r ≡ readNumbers n → r ≡ Of e → {k : ℕ} {after : List ℕ}
-          → k ≡ entryAnswer bytes count (t .log) e → after ≡ entryBytes bytes count (t .log) e → Added-so k after
-      unfolding addAnswer addBytes entryAnswer entryBytes firstRefusal enterReading
-      entry-added read h a b =
-          (a ∙ rw (← lent, accept, ← read, h), b ∙ rw (← lent, accept, ← read, h, entry-read n (sym read ∙ h)))
+    pub entry-added : {r : Reading} {e : Entry} → r ≡ readNumbers limit n → r ≡ Of e → {k : ℕ} {after : List ℕ}
+        → k ≡ entryAnswer bytes count (t .log) e → after ≡ entryBytes bytes count (t .log) e → Added-so k after
+    unfolding addAnswer addBytes entryAnswer entryBytes firstRefusal enterReading
+    entry-added read h a b =
+        (a ∙ rw (← lent, accept, ← read, h), b ∙ rw (← lent, accept, ← read, h, entry-read limit n (sym read ∙ h)))

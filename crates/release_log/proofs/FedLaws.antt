@@ -13,24 +13,24 @@ use Rattle.host_records.proofs.RecordReadings.{record-entry, record-refusal}
 use Rattle.host_records.specs.declared.Reading.{Reading}
 use Rattle.host_records.specs.declared.Reading.the-variants.{Of, Refused}
 use Rattle.host_records.specs.Record.{entryIn, readRecord}
-use Rattle.host_lent.specs.Lent.{enterReading, logAfter}
+use Rattle.host_lent.specs.Lent.{enterReading, enterRecord, logAfter}
 
 -- an accepted record is its entry entered
-module _ (l : Log) (bytes : List ℕ) (h : enterReading l (readRecord bytes) .answer ≡ accepted) where
-  pub record-entered : enterReading l (readRecord bytes) ≡ enter l (entryIn bytes)
+module _ (l : Log) (bytes : List ℕ) (h : enterRecord l bytes .answer ≡ accepted) where
+  pub record-entered : enterRecord l bytes ≡ enter l (entryIn bytes)
   unfolding enterReading
-  record-entered = split (readRecord bytes) refl
+  record-entered = split (readRecord (l .stores) bytes) refl
     where
-      split : (r : Reading) → readRecord bytes ≡ r → enterReading l (readRecord bytes) ≡ enter l (entryIn bytes)
-      split (Of e) k = rw (k, record-entry bytes k)
-      split (Refused n) k = absurd (record-refusal bytes k (rw k at h))
+      split : (r : Reading) → readRecord (l .stores) bytes ≡ r → enterRecord l bytes ≡ enter l (entryIn bytes)
+      split (Of e) k = rw (k, record-entry (l .stores) bytes k)
+      split (Refused n) k = absurd (record-refusal (l .stores) bytes k (rw k at h))
 
 -- one record more at the front, whose log is m if it is accepted
 module _ (l : Log) (r : List ℕ) (rs : List (List ℕ)) where
-  abbrev said : Entered
-  said = enterReading l (readRecord r)
+  abbrev pub said : Entered
+  said = enterRecord l r
 
-  first-accepted : logAfter l (r ∷ rs) .answer ≡ accepted → said .answer ≡ accepted
+  pub first-accepted : logAfter l (r ∷ rs) .answer ≡ accepted → said .answer ≡ accepted
   unfolding logAfter
   first-accepted h = split (eqb (said .answer) accepted) refl
     where

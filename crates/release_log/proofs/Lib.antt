@@ -1,6 +1,9 @@
 pub mod AcceptedLaws
 pub mod AddLaws
 pub mod FedLaws
+pub mod LimitLaws
+pub mod Limited
+pub mod LimitedRecords
 pub mod QueryLaws
 pub mod RecordsLaws
 pub mod RowsLaws

@@ -16,16 +16,16 @@ use Rattle.host_lent.specs.Lent.{enterReading, lentLog}
 abbrev pub passing : ℕ → Check
 passing n = check n (not (eqb n accepted))
 
--- the records, then the new entry, then its place
-unfoldable pub addAnswer : List ℕ → ℕ → Numbers → ℕ
-addAnswer bytes count n =
+-- the limit, the count and the records, then the new entry, then its place
+unfoldable pub addAnswer : ℕ → List ℕ → ℕ → Numbers → ℕ
+addAnswer limit bytes count n =
     firstRefusal
-    (passing (lentLog bytes count .answer)
-    ∷ passing (enterReading (lentLog bytes count .log) (readNumbers n) .answer)
+    (passing (lentLog limit bytes count .answer)
+    ∷ passing (enterReading (lentLog limit bytes count .log) (readNumbers limit n) .answer)
     ∷ check noPlace (ltb (length bytes) (suc count * recordSize))
     ∷ [])
 
 -- the lent buffer afterwards: the new record after the others, or all as it was
-unfoldable pub addBytes : List ℕ → ℕ → Numbers → List ℕ
-addBytes bytes count n =
-    cond (eqb (addAnswer bytes count n) accepted) (sets bytes (count * recordSize) (recordOf (entryOf n))) bytes
+unfoldable pub addBytes : ℕ → List ℕ → ℕ → Numbers → List ℕ
+addBytes limit bytes count n =
+    cond (eqb (addAnswer limit bytes count n) accepted) (sets bytes (count * recordSize) (recordOf (entryOf n))) bytes

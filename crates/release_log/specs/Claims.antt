@@ -1,5 +1,6 @@
 -- The claims on the buffers that hosts lend. `proofs/Theorems.antt` proves them.
 use Prim.Native.Nat.{ℕ, suc, _<_}
+use mathlib.Core.Bool.{false}
 use mathlib.Core.List.{List}
 use mathlib.Core.Path.{_≡_}
 use lib.ListN.{drop, getD, length}
@@ -7,31 +8,33 @@ use Rattle.log_entry.specs.Limits.{updates}
 use Rattle.log_entry.specs.Refusal.{accepted}
 use Rattle.log_core.specs.declared.Replayed.{Replayed}
 use Rattle.log_core.specs.Enter.{answered, enter, feed}
-use Rattle.log_core.specs.Log.{emptyLog}
+use Rattle.log_core.specs.Log.{opened}
 use Rattle.host_records.specs.declared.Numbers.{Numbers}
 use Rattle.host_records.specs.Numbers.{entryOf}
 use Rattle.host_records.specs.Record.{fromLowFirst}
-use Rattle.host_lent.specs.Lent.{lentLog}
+use Rattle.host_lent.specs.Lent.{lentLog, noLimit}
 use Rattle.release_log.specs.Add.{addAnswer, addBytes}
 use Rattle.release_log.specs.Filled.{Filled, entriesIn}
 use Rattle.release_log.specs.Query.{rowBytes, rowUpdateAt}
 
--- The log after a buffer is the plain log fed its entries.
+-- The log after a buffer is the plain log of that limit, fed its entries.
 abbrev pub LentLogIsFed : Type 0
 LentLogIsFed =
-    (bytes : List ℕ) (count : ℕ) → lentLog bytes count .answer ≡ accepted
-    → lentLog bytes count .log ≡ feed emptyLog (entriesIn bytes count)
+    (limit : ℕ) (bytes : List ℕ) (count : ℕ) → lentLog limit bytes count .answer ≡ accepted
+    → lentLog limit bytes count .log ≡ feed (opened limit) (entriesIn bytes count)
 
 -- After an accepted add, the log after the buffer, one more counted, is the log before with the
 -- entry entered.
 abbrev pub AddedEntryIsEntered : Type 0
 AddedEntryIsEntered =
-    (bytes : List ℕ) (count : ℕ) (n : Numbers) → addAnswer bytes count n ≡ accepted
-    → lentLog (addBytes bytes count n) (suc count) ≡ answered (enter (lentLog bytes count .log) (entryOf n) .log) accepted
+    (limit : ℕ) (bytes : List ℕ) (count : ℕ) (n : Numbers) → addAnswer limit bytes count n ≡ accepted
+    → lentLog limit (addBytes limit bytes count n) (suc count) ≡ answered (enter (lentLog limit bytes count .log) (entryOf n) .log) accepted
 
--- A buffer that was filled only by accepted adds, from empty, is never refused as records.
+-- A buffer that was filled only by accepted adds of one of the limits, from empty, is never refused
+-- as records with that limit.
 abbrev pub FilledIsAccepted : Type 0
-FilledIsAccepted = (bytes : List ℕ) (count : ℕ) → Filled bytes count → lentLog bytes count .answer ≡ accepted
+FilledIsAccepted =
+    (limit : ℕ) (bytes : List ℕ) (count : ℕ) → noLimit limit ≡ false → Filled limit bytes count → lentLog limit bytes count .answer ≡ accepted
 
 -- what the bytes of a row say
 abbrev pub rowIn : List ℕ → Replayed

@@ -10,11 +10,12 @@ use Rattle.host_records.specs.Record.{entryIn}
 use Rattle.release_log.specs.Add.{addAnswer, addBytes}
 use Rattle.host_lent.specs.Lent.{recordsIn}
 
--- a buffer that was filled only by accepted adds, from empty, and the count of its records
-pub data Filled : List ℕ → ℕ → Type 0 where
-  empty : {bytes : List ℕ} → Filled bytes 0
-  added : {bytes : List ℕ} {count : ℕ} (n : Numbers) → Filled bytes count → addAnswer bytes count n ≡ accepted
-      → Filled (addBytes bytes count n) (suc count)
+-- a buffer that was filled only by accepted adds of one limit, from empty, and the count of its
+-- records
+pub data Filled (limit : ℕ) : List ℕ → ℕ → Type 0 where
+  empty : {bytes : List ℕ} → Filled limit bytes 0
+  added : {bytes : List ℕ} {count : ℕ} (n : Numbers) → Filled limit bytes count → addAnswer limit bytes count n ≡ accepted
+      → Filled limit (addBytes limit bytes count n) (suc count)
 
 -- the entries that the lent records stand for, oldest first
 abbrev pub entriesIn : List ℕ → ℕ → List Entry

@@ -1,5 +1,6 @@
 pub mod Add
 pub mod Claims
 pub mod Filled
+pub mod Limited
 pub mod Parts
 pub mod Query

@@ -2,10 +2,10 @@
 use Prim.Native.Nat.{ℕ, _+_}
 use mathlib.Core.Bool.{Bool, _||_, cond}
 use mathlib.Core.List.{List, [], _∷_, _++_}
-use lib.Dec.{eqb, leb, ltb}
+use lib.Dec.{eqb, ltb}
 use lib.ListN.{length}
 use lib.Seq.{sets}
-use Rattle.log_entry.specs.Limits.{stores, transactions, updateBytes}
+use Rattle.log_entry.specs.Limits.{noStore, noTransaction, updateBytes}
 use Rattle.log_entry.specs.Refusal.{accepted, check, firstRefusal, outsideLimits, noPlace}
 use Rattle.log_core.specs.declared.Entered.{Entered}
 use Rattle.log_core.specs.declared.Replayed.{Replayed}
@@ -24,7 +24,8 @@ pub record Query : Type 0 where
   pub outside : Bool
   pub value : List ℕ
 
--- "A query's own numbers are tried after the records; then too short a second buffer is 6."
+-- "A query's own numbers are tried after the records; then too short a second buffer is 6." They are
+-- within the log's own limits, or 2.
 unfoldable pub answerTo : Query → List ℕ → ℕ
 answerTo q out =
     firstRefusal
@@ -38,19 +39,19 @@ unfoldable pub bytesAfter : Query → List ℕ → List ℕ
 bytesAfter q out = cond (eqb (answerTo q out) accepted) (sets out 0 (q .value)) out
 
 -- "a byte for outcome (0 open, 1 commit, 2 abort)"
-abbrev pub outcomeQuery : List ℕ → ℕ → ℕ → Query
-outcomeQuery bytes count tx = record {
-  lent = lentLog bytes count;
-  outside = leb transactions tx;
-  value = outcomeNumber (outcomeOf (lentLog bytes count .log) tx) ∷ [];
+abbrev pub outcomeQuery : ℕ → List ℕ → ℕ → ℕ → Query
+outcomeQuery limit bytes count tx = record {
+  lent = lentLog limit bytes count;
+  outside = noTransaction limit tx;
+  value = outcomeNumber (outcomeOf (lentLog limit bytes count .log) tx) ∷ [];
 }
 
 -- "or involvement (0 no, 1 yes, 2 unknown)"
-abbrev pub involvementQuery : List ℕ → ℕ → ℕ → ℕ → Query
-involvementQuery bytes count tx store = record {
-  lent = lentLog bytes count;
-  outside = leb transactions tx || leb stores store;
-  value = involvementNumber (involvementOf (lentLog bytes count .log) tx store) ∷ [];
+abbrev pub involvementQuery : ℕ → List ℕ → ℕ → ℕ → ℕ → Query
+involvementQuery limit bytes count tx store = record {
+  lent = lentLog limit bytes count;
+  outside = noTransaction limit tx || noStore limit store;
+  value = involvementNumber (involvementOf (lentLog limit bytes count .log) tx store) ∷ [];
 }
 
 -- where the update begins in a row
@@ -72,9 +73,9 @@ rowsBytes (r ∷ rs) = rowBytes r ++ rowsBytes rs
 abbrev pub replayValue : List Replayed → List ℕ
 replayValue rows = length rows ∷ rowsBytes rows
 
-abbrev pub replayQuery : List ℕ → ℕ → ℕ → Query
-replayQuery bytes count store = record {
-  lent = lentLog bytes count;
-  outside = leb stores store;
-  value = replayValue (replayRows (lentLog bytes count .log) store);
+abbrev pub replayQuery : ℕ → List ℕ → ℕ → ℕ → Query
+replayQuery limit bytes count store = record {
+  lent = lentLog limit bytes count;
+  outside = noStore limit store;
+  value = replayValue (replayRows (lentLog limit bytes count .log) store);
 }

@@ -15,9 +15,9 @@ use host_records::RECORD_SIZE;
 use host_records::Reading;
 use log_core::Log;
 use log_entry::Entry;
-use log_entry::limits::STORES;
-use log_entry::limits::TRANSACTIONS;
 use log_entry::limits::Update;
+use log_entry::limits::no_store;
+use log_entry::limits::no_transaction;
 use log_entry::refusal::ACCEPTED;
 use log_entry::refusal::OUTSIDE_LIMITS;
 
@@ -46,6 +46,7 @@ fn add_entry(records: &mut [u8], count: usize, log: Log, e: Entry) -> u32
 // A new entry: its record is stored after the lent ones.
 #[no_mangle]
 pub extern "C" fn release_log_add(
+    stores: u32,
     records: &mut [u8],
     count: usize,
     kind: u32,
@@ -58,11 +59,11 @@ pub extern "C" fn release_log_add(
     turn: u32,
     update: Update,
 ) -> u32
-    ensures { λ r. ⌜ r ≡ addAnswer (now (records .entry)) count (numbers kind process by store tx list say turn update) ⌝ }
-    ensures { λ r. ⌜ now (records .exit) ≡ addBytes (now (records .entry)) count (numbers kind process by store tx list say turn update) ⌝ }
+    ensures { λ r. ⌜ r ≡ addAnswer stores (now (records .entry)) count (numbers kind process by store tx list say turn update) ⌝ }
+    ensures { λ r. ⌜ now (records .exit) ≡ addBytes stores (now (records .entry)) count (numbers kind process by store tx list say turn update) ⌝ }
 {
     let mut answer: u8 = ACCEPTED;
-    let log = lent_log(&records[..], count, &mut answer);
+    let log = lent_log(stores, &records[..], count, &mut answer);
     if answer != ACCEPTED {
         return answer as u32;
     }
@@ -77,7 +78,7 @@ pub extern "C" fn release_log_add(
         turn: turn,
         update: update,
     };
-    match numbers.read() {
+    match numbers.read(log.stores) {
         Reading::Refused(n) => n as u32,
         Reading::Of(e) => add_entry(records, count, log, e),
     }
@@ -85,16 +86,22 @@ pub extern "C" fn release_log_add(
 
 // The outcome of a transaction.
 #[no_mangle]
-pub extern "C" fn release_log_outcome(records: &[u8], count: usize, tx: u32, out: &mut [u8]) -> u32
-    ensures { λ r. ⌜ r ≡ answerTo (outcomeQuery (now (records .entry)) count tx) (now (out .entry)) ⌝ }
-    ensures { λ r. ⌜ now (out .exit) ≡ bytesAfter (outcomeQuery (now (records .entry)) count tx) (now (out .entry)) ⌝ }
+pub extern "C" fn release_log_outcome(
+    stores: u32,
+    records: &[u8],
+    count: usize,
+    tx: u32,
+    out: &mut [u8],
+) -> u32
+    ensures { λ r. ⌜ r ≡ answerTo (outcomeQuery stores (now (records .entry)) count tx) (now (out .entry)) ⌝ }
+    ensures { λ r. ⌜ now (out .exit) ≡ bytesAfter (outcomeQuery stores (now (records .entry)) count tx) (now (out .entry)) ⌝ }
 {
     let mut answer: u8 = ACCEPTED;
-    let log = lent_log(records, count, &mut answer);
+    let log = lent_log(stores, records, count, &mut answer);
     if answer != ACCEPTED {
         return answer as u32;
     }
-    if TRANSACTIONS as u32 <= tx {
+    if no_transaction(log.stores, tx) {
         return OUTSIDE_LIMITS as u32;
     }
     let t = tx as usize;
@@ -105,24 +112,22 @@ pub extern "C" fn release_log_outcome(records: &[u8], count: usize, tx: u32, out
 // Whether a store is involved in a transaction.
 #[no_mangle]
 pub extern "C" fn release_log_involvement(
+    stores: u32,
     records: &[u8],
     count: usize,
     tx: u32,
     store: u32,
     out: &mut [u8],
 ) -> u32
-    ensures { λ r. ⌜ r ≡ answerTo (involvementQuery (now (records .entry)) count tx store) (now (out .entry)) ⌝ }
-    ensures { λ r. ⌜ now (out .exit) ≡ bytesAfter (involvementQuery (now (records .entry)) count tx store) (now (out .entry)) ⌝ }
+    ensures { λ r. ⌜ r ≡ answerTo (involvementQuery stores (now (records .entry)) count tx store) (now (out .entry)) ⌝ }
+    ensures { λ r. ⌜ now (out .exit) ≡ bytesAfter (involvementQuery stores (now (records .entry)) count tx store) (now (out .entry)) ⌝ }
 {
     let mut answer: u8 = ACCEPTED;
-    let log = lent_log(records, count, &mut answer);
+    let log = lent_log(stores, records, count, &mut answer);
     if answer != ACCEPTED {
         return answer as u32;
     }
-    if TRANSACTIONS as u32 <= tx {
-        return OUTSIDE_LIMITS as u32;
-    }
-    if STORES as u32 <= store {
+    if no_transaction(log.stores, tx) | no_store(log.stores, store) {
         return OUTSIDE_LIMITS as u32;
     }
     let t = tx as usize;
@@ -133,20 +138,21 @@ pub extern "C" fn release_log_involvement(
 // A store's replay.
 #[no_mangle]
 pub extern "C" fn release_log_replay(
+    stores: u32,
     records: &[u8],
     count: usize,
     store: u32,
     out: &mut [u8],
 ) -> u32
-    ensures { λ r. ⌜ r ≡ answerTo (replayQuery (now (records .entry)) count store) (now (out .entry)) ⌝ }
-    ensures { λ r. ⌜ now (out .exit) ≡ bytesAfter (replayQuery (now (records .entry)) count store) (now (out .entry)) ⌝ }
+    ensures { λ r. ⌜ r ≡ answerTo (replayQuery stores (now (records .entry)) count store) (now (out .entry)) ⌝ }
+    ensures { λ r. ⌜ now (out .exit) ≡ bytesAfter (replayQuery stores (now (records .entry)) count store) (now (out .entry)) ⌝ }
 {
     let mut answer: u8 = ACCEPTED;
-    let log = lent_log(records, count, &mut answer);
+    let log = lent_log(stores, records, count, &mut answer);
     if answer != ACCEPTED {
         return answer as u32;
     }
-    if STORES as u32 <= store {
+    if no_store(log.stores, store) {
         return OUTSIDE_LIMITS as u32;
     }
     values::answer_rows(out, log.replay(store as u8))

@@ -102,18 +102,18 @@ distinct = record {
 }
 
 -- a text with a number beyond a byte has one outside its limits
-pub text-beyond : (s : List ℕ) (e : Entry) → IsText s e → beyond e ≡ true → outside e ≡ true
-text-beyond s e t = beyond-is-outside (t .way) e (t .hasText)
+pub text-beyond : (n : ℕ) (s : List ℕ) (e : Entry) → IsText s e → beyond e ≡ true → outside n e ≡ true
+text-beyond n s e t = beyond-is-outside n (t .way) e (t .hasText)
 
-within-bytes : (s : List ℕ) (e : Entry) → IsText s e → outside e ≡ false → beyond e ≡ false
-within-bytes s e t h = go (beyond e) refl
+within-bytes : (n : ℕ) (s : List ℕ) (e : Entry) → IsText s e → outside n e ≡ false → beyond e ≡ false
+within-bytes n s e t h = go (beyond e) refl
   where
     go : (b : Bool) → beyond e ≡ b → b ≡ false
-    go true k = absurd (true≢false (sym (text-beyond s e t k) ∙ h))
+    go true k = absurd (true≢false (sym (text-beyond n s e t k) ∙ h))
     go false k = refl
 
 pub text-within-limits-read : TextWithinLimitsRead
-text-within-limits-read s e t h = ap readingOf (every-text-reads s e t) ∙ read-by e (within-bytes s e t h)
+text-within-limits-read n s e t h = ap readingOf (every-text-reads s e t) ∙ read-by e (within-bytes n s e t h)
 
 pub read-line-is-text : ReadLineIsText
 read-line-is-text s e h = read-is-text s e (read-some Read Outside Unreadable beyond distinct (readEntry s) e h)
@@ -122,7 +122,7 @@ pub outside-line-is-text : OutsideLineIsText
 outside-line-is-text s h =
     let t = outside-some Read Outside Unreadable beyond distinct (readEntry s) h in
     let r = read-is-text s (t .0) (t .1) in
-    (t .0, r, text-beyond s (t .0) r (t .2))
+    (t .0, r, λ n. text-beyond n s (t .0) r (t .2))
 
 pub unreadable-is-no-text : UnreadableIsNoText
 unreadable-is-no-text s h e t =

@@ -9,7 +9,8 @@ use lib.Dec.{eqb, leb, ltb}
 use borrow.Author.Tests.{leb-true, le-leb, lt-ltb}
 use Rattle.log_entry.specs.declared.Entry.{Entry}
 use Rattle.log_entry.specs.Entry.{noProcess, noTurn, outside}
-use Rattle.log_entry.specs.Limits.{stores, transactions, processes, turns, lists, updates}
+use Rattle.log_entry.specs.Limits.{listsOf, noList, noStore, noTransaction, processes, storesOf, transactionsOf, turns, updates}
+use Rattle.log_entry.proofs.LimitLaws.{lists-within, stores-within, transactions-within}
 use Rattle.text_entry.specs.Entry.{HasTextIn, Way, beyond, numbers}
 use Rattle.text_entry.specs.Table.{anyBeyond, noByte}
 
@@ -42,10 +43,10 @@ no-such-process p h = elim (eqb p 0) as (λ x. (x || ltb processes p) ≡ true) 
 pub no-such-turn : (t : ℕ) → 256 ≤ t → noTurn t ≡ true
 no-such-turn t h = elim (eqb t 0) as (λ x. (x || ltb turns t) ≡ true) [ true ↦ refl | false ↦ lt-ltb turns t (omega arith) ]
 
--- the parts of a vote's limits that a take has none of
-module _ (e : Entry) where
-  vote-limits : Bool
-  vote-limits = not (e .take) && (leb stores (e .by) || leb transactions (e .tx) || leb lists (e .participants) || leb updates (e .update))
+-- the parts of a vote's limits that a take has none of, in a log of limit n
+module _ (n : ℕ) (e : Entry) where
+  others : Bool
+  others = noStore n (e .by) || noTransaction n (e .tx) || noList n (e .participants) || leb updates (e .update)
 
   abbrev process : Bool
   process = noProcess (e .process)
@@ -54,52 +55,55 @@ module _ (e : Entry) where
   turn = noTurn (e .turn)
 
   abbrev store : Bool
-  store = leb stores (e .store)
+  store = noStore n (e .store)
 
-  one-outside : (process || turn || store) ≡ true → outside e ≡ true
-  unfolding outside vote-limits
-  one-outside h = ap (λ (b : Bool). b || vote-limits) h
+  one-outside : (process || turn || store) ≡ true → outside n e ≡ true
+  unfolding outside others
+  one-outside h = ap (λ (b : Bool). b || not (e .take) && others) h
 
-  process-outside : 256 ≤ e .process → outside e ≡ true
+  process-outside : 256 ≤ e .process → outside n e ≡ true
   process-outside h = one-outside (first-of process turn store (no-such-process (e .process) h))
 
-  turn-outside : 256 ≤ e .turn → outside e ≡ true
+  turn-outside : 256 ≤ e .turn → outside n e ≡ true
   turn-outside h = one-outside (second-of process turn store (no-such-turn (e .turn) h))
 
-  store-outside : 256 ≤ e .store → outside e ≡ true
-  store-outside h = one-outside (third-of process turn store (le-leb stores (e .store) (omega arith)))
+  store-outside : 256 ≤ e .store → outside n e ≡ true
+  store-outside h = one-outside (third-of process turn store (le-leb (storesOf n) (e .store) (omega (arith, stores-within n))))
 
-  others-outside : (leb stores (e .by) || leb transactions (e .tx) || leb lists (e .participants) || leb updates (e .update)) ≡ true → e .take ≡ false → outside e ≡ true
-  unfolding outside vote-limits
-  others-outside h t = third-of (process || turn) store vote-limits (rw t h)
+  others-outside : others ≡ true → e .take ≡ false → outside n e ≡ true
+  unfolding outside others
+  others-outside h t = third-of (process || turn) store (not (e .take) && others) (rw t h)
 
-  by-outside : 256 ≤ e .by → e .take ≡ false → outside e ≡ true
-  by-outside h = others-outside (rw (le-leb stores (e .by) (omega arith)))
+  by-outside : 256 ≤ e .by → e .take ≡ false → outside n e ≡ true
+  unfolding others
+  by-outside h = others-outside (rw (le-leb (storesOf n) (e .by) (omega (arith, stores-within n))))
 
-  tx-outside : 256 ≤ e .tx → e .take ≡ false → outside e ≡ true
+  tx-outside : 256 ≤ e .tx → e .take ≡ false → outside n e ≡ true
+  unfolding others
   tx-outside h =
       others-outside
-      (ap (λ (b : Bool). b || leb updates (e .update)) (second-of (leb stores (e .by)) (leb transactions (e .tx)) (leb lists (e .participants)) (le-leb transactions (e .tx) (omega arith))))
+      (ap (λ (b : Bool). b || leb updates (e .update)) (second-of (noStore n (e .by)) (noTransaction n (e .tx)) (noList n (e .participants)) (le-leb (transactionsOf n) (e .tx) (omega (arith, transactions-within n)))))
 
-  list-outside : 256 ≤ e .participants → e .take ≡ false → outside e ≡ true
+  list-outside : 256 ≤ e .participants → e .take ≡ false → outside n e ≡ true
+  unfolding others
   list-outside h =
       others-outside
-      (ap (λ (b : Bool). b || leb updates (e .update)) (third-of (leb stores (e .by)) (leb transactions (e .tx)) (leb lists (e .participants)) (le-leb lists (e .participants) h)))
+      (ap (λ (b : Bool). b || leb updates (e .update)) (third-of (noStore n (e .by)) (noTransaction n (e .tx)) (noList n (e .participants)) (le-leb (listsOf n) (e .participants) (omega (arith, lists-within n)))))
 
 -- what a take does not use is no number beyond a byte
 no-number : (n : ℕ) → n ≡ 0 → 256 ≤ n → ⊥
 no-number n h k = omega arith
 
-pub beyond-is-outside : (w : Way) (e : Entry) → HasTextIn w e → beyond e ≡ true → outside e ≡ true
-beyond-is-outside w e (t, inl h) =
-    beyond-cases (outside e ≡ true) (numbers e) (
-      process-outside e,
+pub beyond-is-outside : (n : ℕ) (w : Way) (e : Entry) → HasTextIn w e → beyond e ≡ true → outside n e ≡ true
+beyond-is-outside n w e (t, inl h) =
+    beyond-cases (outside n e ≡ true) (numbers e) (
+      process-outside n e,
       (
-        turn-outside e,
+        turn-outside n e,
         (
           (λ m. absurd (no-number (e .by) (ap (λ (x : Entry). x .by) h) m)),
           (
-            store-outside e,
+            store-outside n e,
             (
               (λ m. absurd (no-number (e .tx) (ap (λ (x : Entry). x .tx) h) m)),
               ((λ m. absurd (no-number (e .participants) (ap (λ (x : Entry). x .participants) h) m)), tt),
@@ -108,11 +112,11 @@ beyond-is-outside w e (t, inl h) =
         ),
       ),
     )
-beyond-is-outside w e (t, inr h) =
-    beyond-cases (outside e ≡ true) (numbers e) (
-      process-outside e,
+beyond-is-outside n w e (t, inr h) =
+    beyond-cases (outside n e ≡ true) (numbers e) (
+      process-outside n e,
       (
-        turn-outside e,
-        ((λ m. by-outside e m (h .0)), (store-outside e, ((λ m. tx-outside e m (h .0)), ((λ m. list-outside e m (h .0)), tt)))),
+        turn-outside n e,
+        ((λ m. by-outside n e m (h .0)), (store-outside n e, ((λ m. tx-outside n e m (h .0)), ((λ m. list-outside n e m (h .0)), tt)))),
       ),
     )

@@ -28,18 +28,18 @@ TextReadsBack = (e : Entry) → HasText e → readEntry (text e) ≡ some e
 abbrev pub ReadsExactly : Type 0
 ReadsExactly = (s : List ℕ) (e : Entry) → (readEntry s ≡ some e → IsText s e) × (IsText s e → readEntry s ≡ some e)
 
--- A text of an entry within the limits is read as that entry.
+-- A text of an entry within the limits of some log is read as that entry.
 abbrev pub TextWithinLimitsRead : Type 0
-TextWithinLimitsRead = (s : List ℕ) (e : Entry) → IsText s e → outside e ≡ false → reading s ≡ Read e
+TextWithinLimitsRead = (n : ℕ) (s : List ℕ) (e : Entry) → IsText s e → outside n e ≡ false → reading s ≡ Read e
 
 -- A line read as an entry is a text of that entry, to the byte.
 abbrev pub ReadLineIsText : Type 0
 ReadLineIsText = (s : List ℕ) (e : Entry) → reading s ≡ Read e → IsText s e
 
 -- A line answered `Outside` is a text of an entry with natural numbers of any size, one of them
--- outside its limits.
+-- outside its limits, of whichever log.
 abbrev pub OutsideLineIsText : Type 0
-OutsideLineIsText = (s : List ℕ) → reading s ≡ Outside → (e : Entry) × IsText s e × (outside e ≡ true)
+OutsideLineIsText = (s : List ℕ) → reading s ≡ Outside → (e : Entry) × IsText s e × ((n : ℕ) → outside n e ≡ true)
 
 -- A line is `Unreadable` only if it is a text of no entry.
 abbrev pub UnreadableIsNoText : Type 0

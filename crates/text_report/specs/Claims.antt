@@ -34,6 +34,7 @@ withoutTurns l = record {
   latest = [];
   groups = l .groups;
   remembered = l .remembered;
+  stores = l .stores;
 }
 
 -- "No output line of `plain` [..] shows a turn": a log is printed as it is without its turns.

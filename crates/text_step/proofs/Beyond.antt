@@ -8,7 +8,7 @@ use lib.Dec.{eqb, leb, ltb}
 use borrow.Author.Tests.{le-leb, leb-true, lt-ltb, ne-eqb}
 use Rattle.log_entry.specs.declared.Entry.{Entry}
 use Rattle.log_entry.specs.Entry.{noProcess, noTurn, outside}
-use Rattle.log_entry.specs.Limits.{transactions}
+use Rattle.log_entry.specs.Limits.{stores, transactions}
 use Rattle.model_steps.specs.declared.Role.{Role}
 use Rattle.model_steps.specs.declared.Role.the-variants.{Acceptor, Coord, Proc}
 use Rattle.model_steps.specs.declared.Step.{Step}
@@ -55,12 +55,12 @@ party-beyond n k Coord id h = coordinator-beyond id h
 party-beyond n k Proc id h = no-such-process id h
 
 -- the entry or its receiver
-request-beyond : (w : Way) (e : Entry) (to : ℕ) → entry.HasTextIn w e → anyBeyond (entry.numbers e ++ to ∷ []) ≡ true → (outside e || noCoordinator to) ≡ true
+request-beyond : (w : Way) (e : Entry) (to : ℕ) → entry.HasTextIn w e → anyBeyond (entry.numbers e ++ to ∷ []) ≡ true → (outside stores e || noCoordinator to) ≡ true
 request-beyond w e to t h = go (entry.beyond e) (noByte to) refl refl (sym (beyond-last (entry.numbers e) to) ∙ h)
   where
-    go : (b c : Bool) → entry.beyond e ≡ b → noByte to ≡ c → (b || c) ≡ true → (outside e || noCoordinator to) ≡ true
-    go true c k m z = or-left (outside e) (noCoordinator to) (texts.beyond-is-outside w e t k)
-    go false c k m z = or-right (outside e) (noCoordinator to) (coordinator-beyond to (leb-true byteNumbers to (m ∙ z)))
+    go : (b c : Bool) → entry.beyond e ≡ b → noByte to ≡ c → (b || c) ≡ true → (outside stores e || noCoordinator to) ≡ true
+    go true c k m z = or-left (outside stores e) (noCoordinator to) (texts.beyond-is-outside stores w e t k)
+    go false c k m z = or-right (outside stores e) (noCoordinator to) (coordinator-beyond to (leb-true byteNumbers to (m ∙ z)))
 
 -- a coordinator, a process or a transaction
 tell-beyond : (c p tx : ℕ) → anyBeyond (c ∷ p ∷ tx ∷ []) ≡ true → (noCoordinator c || noProcess p || leb transactions tx) ≡ true

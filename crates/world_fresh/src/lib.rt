@@ -8,6 +8,7 @@ ghost use Rattle.model_protocol.specs.World.{allUp, emptySlot, freshCoordinator
 use log_core::Log;
 use log_core::Replay;
 use log_entry::Entry;
+use log_entry::Limit;
 use log_entry::limits::FIRST_TURN;
 use log_entry::limits::PROCESS_PLACES;
 use log_entry::limits::TRANSACTION_PLACES;
@@ -170,7 +171,7 @@ pub fn fresh_world() -> World
 {
     let slot = empty_slot();
     let coordinator = fresh_coordinator();
-    let log = Log::empty();
+    let log = Log::empty(Limit::Full);
     let process = started_in(FIRST_TURN);
     let none = no_message();
     let replay = Replay::none();

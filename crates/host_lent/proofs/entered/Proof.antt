@@ -36,16 +36,16 @@ use Rattle.host_lent.proofs.entered.Statement.{statement}
 use Rattle.host_lent.proofs.entered.Tie as tie
 
 -- the log of its parts
-abbrev logOf : List Row → List ℕ → List ℕ → List ℕ → List ℕ → ℕ → List ℕ → Log
-logOf rows holders turns takers latest groups remembered =
-    record { rows = rows; holders = holders; turns = turns; takers = takers; latest = latest; groups = groups; remembered = remembered }
+abbrev logOf : ℕ → List Row → List ℕ → List ℕ → List ℕ → List ℕ → ℕ → List ℕ → Log
+logOf stores rows holders turns takers latest groups remembered =
+    record { rows = rows; holders = holders; turns = turns; takers = takers; latest = latest; groups = groups; remembered = remembered; stores = stores }
 
 -- what stands beside the log
 abbrev Inv-loop : tie.InvT-loop
-Inv-loop lent count answer₀ rows₀ holders₀ turns₀ takers₀ latest₀ groups₀ remembered₀ summaries₀ last₀ running₀ at₀ left₀ answer rows holders turns takers latest groups remembered summaries last running at left =
+Inv-loop stores lent count answer₀ rows₀ holders₀ turns₀ takers₀ latest₀ groups₀ remembered₀ summaries₀ last₀ running₀ at₀ left₀ answer rows holders turns takers latest groups remembered summaries last running at left =
     (answer ≡ accepted)
     × (at + left * recordSize ≤ length lent)
-    × (logAfter (logOf rows₀ holders₀ turns₀ takers₀ latest₀ groups₀ remembered₀) (recordsIn lent count) ≡ logAfter (logOf rows holders turns takers latest groups remembered) (recordsIn (drop at lent) left))
+    × (logAfter (logOf stores rows₀ holders₀ turns₀ takers₀ latest₀ groups₀ remembered₀) (recordsIn lent count) ≡ logAfter (logOf stores rows holders turns takers latest groups remembered) (recordsIn (drop at lent) left))
     × (length rows ≡ transactions)
     × (running ≡ runningSet rows)
     × AllOf summaries rows
@@ -53,12 +53,12 @@ Inv-loop lent count answer₀ rows₀ holders₀ turns₀ takers₀ latest₀ gr
     × (last ≡ cond (eqb groups 0) 0 (getD remembered (groups - 1) 0))
 
 abbrev μ-loop : tie.MeasureT-loop
-μ-loop lent count answer₀ rows₀ holders₀ turns₀ takers₀ latest₀ groups₀ remembered₀ summaries₀ last₀ running₀ at₀ left₀ answer rows holders turns takers latest groups remembered summaries last running at left =
+μ-loop stores lent count answer₀ rows₀ holders₀ turns₀ takers₀ latest₀ groups₀ remembered₀ summaries₀ last₀ running₀ at₀ left₀ answer rows holders turns takers latest groups remembered summaries last running at left =
     left
 
 -- the log of the turn, and the records
 abbrev log-of : tie.At-loop Inv-loop μ-loop → Log
-log-of c = logOf (c .loop .rows) (c .loop .holders) (c .loop .turns) (c .loop .takers) (c .loop .latest) (c .loop .groups) (c .loop .remembered)
+log-of c = logOf (c .before .before .before .args .stores) (c .loop .rows) (c .loop .holders) (c .loop .turns) (c .loop .takers) (c .loop .latest) (c .loop .groups) (c .loop .remembered)
 
 abbrev bytes-of : tie.At-loop Inv-loop μ-loop → List ℕ
 bytes-of c = c .before .before .before .args .lent .now
@@ -69,19 +69,19 @@ left-of c = recordsIn (drop (c .loop .at) (bytes-of c)) (c .loop .left)
 abbrev next-of : tie.At-loop Inv-loop μ-loop → List (List ℕ)
 next-of c = recordsIn (drop (c .loop .at + recordSize) (bytes-of c)) (c .loop .left - 1)
 
-whole : (c : tie.At-loop Inv-loop μ-loop) → logAfter (log-of c) (left-of c) ≡ recordsEntered (bytes-of c) (c .before .before .before .args .count)
+whole : (c : tie.At-loop Inv-loop μ-loop) → logAfter (log-of c) (left-of c) ≡ recordsEntered (c .before .before .before .args .stores) (bytes-of c) (c .before .before .before .args .count)
 whole c =
     sym (c .loop .inv .2)
-    ∙ ap (λ (l : Log). logAfter l (recordsIn (bytes-of c) (c .before .before .before .args .count))) (rows-without-votes (c .before .before .before .args .none) (c .before .before .before .pre .0))
+    ∙ ap (λ (l : Log). logAfter l (recordsIn (bytes-of c) (c .before .before .before .args .count))) (rows-without-votes refl (c .before .before .before .args .none) (c .before .before .before .pre .0))
 
 -- the record at hand
 abbrev record-of : tie.At-loop Inv-loop μ-loop → List ℕ
 record-of c = take recordSize (drop (c .loop .at) (bytes-of c))
 
-at-hand : (c : tie.After-read Inv-loop μ-loop) → c .read .result ≡ readRecord (record-of (c .before .before .before))
+at-hand : (c : tie.After-read Inv-loop μ-loop) → c .read .result ≡ readRecord (log-of (c .before .before .before) .stores) (record-of (c .before .before .before))
 at-hand c =
     c .read .ensures
-    ∙ ap (λ (n : ℕ). readRecord (take n (drop (c .before .before .before .loop .at) (bytes-of (c .before .before .before))))) (add-sub-cancel-left (c .before .before .before .loop .at) recordSize)
+    ∙ ap (λ (n : ℕ). readRecord (log-of (c .before .before .before) .stores) (take n (drop (c .before .before .before .loop .at) (bytes-of (c .before .before .before))))) (add-sub-cancel-left (c .before .before .before .loop .at) recordSize)
 
 -- what it reads as
 abbrev entry : tie.After-reading Inv-loop μ-loop → Entry
@@ -90,15 +90,15 @@ entry c = c .reading .given .0 .0
 abbrev log : tie.After-reading Inv-loop μ-loop → Log
 log c = log-of (c .before .before .before .before .before)
 
-read-so : (c : tie.After-reading Inv-loop μ-loop) → readRecord (record-of (c .before .before .before .before .before)) ≡ Of (entry c)
+read-so : (c : tie.After-reading Inv-loop μ-loop) → readRecord (log c .stores) (record-of (c .before .before .before .before .before)) ≡ Of (entry c)
 read-so c = sym (at-hand (c .before .before)) ∙ c .reading .given .1
 
-inside : (c : tie.After-reading Inv-loop μ-loop) → outside (entry c) ≡ false
-inside c = record-inside _ (read-so c)
+inside : (c : tie.After-reading Inv-loop μ-loop) → outside (log c .stores) (entry c) ≡ false
+inside c = record-inside (log c .stores) _ (read-so c)
 
 -- the log refuses it
 refused-so : (c : tie.After-reading Inv-loop μ-loop) {n : ℕ} → answered (log c) n ≡ enter (log c) (entry c)
-    → (n ≡ accepted → ⊥) → answered (log c) n ≡ recordsEntered (bytes-of (c .before .before .before .before .before)) (c .before .before .before .before .before .before .before .before .args .count)
+    → (n ≡ accepted → ⊥) → answered (log c) n ≡ recordsEntered (log c .stores) (bytes-of (c .before .before .before .before .before)) (c .before .before .before .before .before .before .before .before .args .count)
 refused-so c h wrong =
     sym (record-refused (log c) (bytes-of (c .before .before .before .before .before)) (c .before .before .before .before .before .loop .at) (entered (log c) (read-so c) h) (c .before .before .before .before .before .loop .left) (omega (arith, c .before .before .before .before .loop-test .taken)) wrong)
     ∙ whole (c .before .before .before .before .before)
@@ -115,7 +115,7 @@ take-so c = c .take-refusal .ensures ∙ answer-take (partsOf (log (c .before .b
 
 -- a vote's transaction, and the summary of its row
 tx-inside : (c : tie.Else1 Inv-loop μ-loop) → entry (c .before .before .before) .tx < transactions
-tx-inside c = inside-vote (entry (c .before .before .before)) (inside (c .before .before .before)) (c .if1 .left) .tx
+tx-inside c = inside-vote (log (c .before .before .before) .stores) (entry (c .before .before .before)) (inside (c .before .before .before)) (c .if1 .left) .tx
 
 summary-so : (c : tie.Else1 Inv-loop μ-loop) → IsOf (getD (c .before .before .before .before .before .before .before .before .loop .summaries) (entry (c .before .before .before) .tx) noSummary) (rowOf (log (c .before .before .before)) (entry (c .before .before .before) .tx))
 summary-so c = c .before .before .before .before .before .before .before .before .loop .inv .5 .1 (entry (c .before .before .before) .tx) (tx-inside c)
@@ -189,40 +189,40 @@ mul-take-refusal : tie.Need-mul-take-refusal Inv-loop μ-loop
 mul-take-refusal c = search needs
 
 array-read-take-refusal : tie.Need-array-read-take-refusal Inv-loop μ-loop
-array-read-take-refusal c = inside-store (entry (c .before .before .before .before)) (inside (c .before .before .before .before))
+array-read-take-refusal c = inside-store (log (c .before .before .before .before) .stores) (entry (c .before .before .before .before)) (inside (c .before .before .before .before))
 
 array-read-take-refusal-2 : tie.Need-array-read-take-refusal-2 Inv-loop μ-loop
-array-read-take-refusal-2 c = omega (arith, inside-process (entry (c .before .before .before .before)) (inside (c .before .before .before .before)))
+array-read-take-refusal-2 c = omega (arith, inside-process (log (c .before .before .before .before) .stores) (entry (c .before .before .before .before)) (inside (c .before .before .before .before)))
 
 take-refusal-requires : tie.Need-take-refusal-requires Inv-loop μ-loop
 take-refusal-requires c κs = search needs
 
 array-write-holders : tie.Need-array-write-holders Inv-loop μ-loop
-array-write-holders c = inside-store (entry (c .before .before .before .before .before .before)) (inside (c .before .before .before .before .before .before))
+array-write-holders c = inside-store (log (c .before .before .before .before .before .before) .stores) (entry (c .before .before .before .before .before .before)) (inside (c .before .before .before .before .before .before))
 
 array-write-turns : tie.Need-array-write-turns Inv-loop μ-loop
-array-write-turns c = inside-store (entry (c .before .before .before .before .before .before)) (inside (c .before .before .before .before .before .before))
+array-write-turns c = inside-store (log (c .before .before .before .before .before .before) .stores) (entry (c .before .before .before .before .before .before)) (inside (c .before .before .before .before .before .before))
 
 mul-takers : tie.Need-mul-takers Inv-loop μ-loop
 mul-takers c = search needs
 
 array-read-takers : tie.Need-array-read-takers Inv-loop μ-loop
-array-read-takers c = inside-store (entry (c .before .before .before .before .before .before)) (inside (c .before .before .before .before .before .before))
+array-read-takers c = inside-store (log (c .before .before .before .before .before .before) .stores) (entry (c .before .before .before .before .before .before)) (inside (c .before .before .before .before .before .before))
 
 cast-takers : tie.Need-cast-takers Inv-loop μ-loop
 cast-takers c = search needs
 
 shl-takers : tie.Need-shl-takers Inv-loop μ-loop
-shl-takers c = omega (arith, inside-process (entry (c .before .before .before .before .before .before .before)) (inside (c .before .before .before .before .before .before .before)))
+shl-takers c = omega (arith, inside-process (log (c .before .before .before .before .before .before .before) .stores) (entry (c .before .before .before .before .before .before .before)) (inside (c .before .before .before .before .before .before .before)))
 
 mul-takers-2 : tie.Need-mul-takers-2 Inv-loop μ-loop
 mul-takers-2 c = search needs
 
 array-write-takers : tie.Need-array-write-takers Inv-loop μ-loop
-array-write-takers c = inside-store (entry (c .before .before .before .before .before .before .before)) (inside (c .before .before .before .before .before .before .before))
+array-write-takers c = inside-store (log (c .before .before .before .before .before .before .before) .stores) (entry (c .before .before .before .before .before .before .before)) (inside (c .before .before .before .before .before .before .before))
 
 array-write-latest : tie.Need-array-write-latest Inv-loop μ-loop
-array-write-latest c = omega (arith, inside-process (entry (c .before .before .before .before .before .before .before)) (inside (c .before .before .before .before .before .before .before)))
+array-write-latest c = omega (arith, inside-process (log (c .before .before .before .before .before .before .before) .stores) (entry (c .before .before .before .before .before .before .before)) (inside (c .before .before .before .before .before .before .before)))
 
 loop-less : tie.Need-loop-less Inv-loop μ-loop
 loop-less c = omega (arith, c .before .before .before .before .before .before .before .before .before .before .before .loop-test .taken)
@@ -236,7 +236,7 @@ loop-again c =
       omega (arith, c .before .before .before .before .before .before .before .before .before .before .before .loop-test .taken, inv .1),
       inv .2
           ∙ taken-so (c .before .before .before .before .before .before .before)
-          (take-stored l e (c .before .before .before .before .if1 .taken) (omega (arith, inside-process e (inside (c .before .before .before .before .before .before .before)))) (sym (take-so (c .before .before)) ∙ c .before .if2 .left)),
+          (take-stored l e (c .before .before .before .before .if1 .taken) (omega (arith, inside-process (log (c .before .before .before .before .before .before .before) .stores) e (inside (c .before .before .before .before .before .before .before)))) (sym (take-so (c .before .before)) ∙ c .before .if2 .left)),
       inv .3,
       inv .4,
       inv .5,
@@ -257,10 +257,10 @@ cast-by : tie.Need-cast-by Inv-loop μ-loop
 cast-by c = search needs
 
 array-read-parts : tie.Need-array-read-parts Inv-loop μ-loop
-array-read-parts c = inside-vote (entry (c .before .before .before .before .before .before)) (inside (c .before .before .before .before .before .before)) (c .before .before .before .if1 .left) .by
+array-read-parts c = inside-vote (log (c .before .before .before .before .before .before) .stores) (entry (c .before .before .before .before .before .before)) (inside (c .before .before .before .before .before .before)) (c .before .before .before .if1 .left) .by
 
 array-read-parts-2 : tie.Need-array-read-parts-2 Inv-loop μ-loop
-array-read-parts-2 c = inside-vote (entry (c .before .before .before .before .before .before)) (inside (c .before .before .before .before .before .before)) (c .before .before .before .if1 .left) .by
+array-read-parts-2 c = inside-vote (log (c .before .before .before .before .before .before) .stores) (entry (c .before .before .before .before .before .before)) (inside (c .before .before .before .before .before .before)) (c .before .before .before .if1 .left) .by
 
 parts-requires : tie.Need-parts-requires Inv-loop μ-loop
 parts-requires c κs = search needs
@@ -304,7 +304,7 @@ runs-so c =
     let f = c .before .before .before .before .before .decide .result in
     let row = rowOf l (e .tx) in
     let here : e .store < length (keeping row e .votes) =
-    omega (arith, length-set (row .votes) (e .store) (voteOfEntry e), summary-so (c .before .before .before .before .before .before .before .before .before .before) .3, inside-store e (inside (c .before .before .before .before .before .before .before .before .before .before .before .before .before))) in
+    omega (arith, length-set (row .votes) (e .store) (voteOfEntry e), summary-so (c .before .before .before .before .before .before .before .before .before .before) .3, inside-store (log (c .before .before .before .before .before .before .before .before .before .before .before .before .before) .stores) e (inside (c .before .before .before .before .before .before .before .before .before .before .before .before .before))) in
     effect-runs (partsOf l e) e f (effect-so (c .before .before .before .before .before)) (c .before .before .before .if3 .left) (c .before .before .before .before .before .before .before .before .before .before .if1 .left)
     ∙ vote-runs row e (f .group) here
     ∙ ap (λ (r : Row). running (inGroup r (f .group))) (sym (c .keeping2 .ensures))
@@ -332,7 +332,7 @@ summaries-so c =
     let e = entry (c .before .before .before .before .before .before .before .before .before .before .before .before .before .before .before) in
     let f = c .before .before .before .before .before .before .before .decide .result in
     let agrees = vote-agrees l e (c .before .before .before .before .before .before .before .before .before .before .before .before .if1 .left) f (effect-so (c .before .before .before .before .before .before .before)) (inside (c .before .before .before .before .before .before .before .before .before .before .before .before .before .before .before)) (c .before .before .before .before .before .if3 .left) in
-    let is = c .before .before .before .before .keeping .ensures (rowOf l (e .tx)) (summary-so (c .before .before .before .before .before .before .before .before .before .before .before .before)) (inside-store e (inside (c .before .before .before .before .before .before .before .before .before .before .before .before .before .before .before))) (agrees .0) (agrees .1) in
+    let is = c .before .before .before .before .keeping .ensures (rowOf l (e .tx)) (summary-so (c .before .before .before .before .before .before .before .before .before .before .before .before)) (inside-store (log (c .before .before .before .before .before .before .before .before .before .before .before .before .before .before .before) .stores) e (inside (c .before .before .before .before .before .before .before .before .before .before .before .before .before .before .before))) (agrees .0) (agrees .1) in
     all-set (c .before .before .before .before .before .before .before .before .before .before .before .before .before .before .before .before .before .before .before .before .loop .summaries) (l .rows) (c .before .before .before .before .before .before .before .before .before .before .before .before .before .before .before .before .before .before .before .before .loop .inv .5) (c .before .before .before .before .before .before .before .before .before .before .before .before .before .before .before .before .before .before .before .before .loop .inv .3) (e .tx) (tx-inside (c .before .before .before .before .before .before .before .before .before .before .before .before)) (c .before .before .before .before .keeping .result) (row-of-vote (c .before .before))
     (row-of (c .before .before .before .before .keeping .result) (ap (λ (r : Row). inGroup r (f .group)) (sym (c .before .before .keeping2 .ensures))) is)
 
@@ -401,10 +401,10 @@ returns-2 : tie.Need-returns-2 Inv-loop μ-loop
 returns-2 c =
     let s = c .before .before .before .before .before .before in
     let told = c .before .enum-told .given in
-    let reads : readRecord (record-of s) ≡ Refused (told .0 .0) = sym (at-hand (c .before .before .before)) ∙ told .1 in
+    let reads : readRecord (log-of s .stores) (record-of s) ≡ Refused (told .0 .0) = sym (at-hand (c .before .before .before)) ∙ told .1 in
     let same : c .refusal-in .result ≡ told .0 .0 = c .refusal-in .ensures ∙ ap refusalIn (told .1) in
     parts
-    (sym (record-refused (log-of s) (bytes-of s) (s .loop .at) (ap (λ (n : ℕ). answered (log-of s) n) same ∙ refused (log-of s) reads) (s .loop .left) (omega (arith, c .before .before .before .before .before .loop-test .taken)) (λ k. record-refusal _ reads (sym same ∙ k)))
+    (sym (record-refused (log-of s) (bytes-of s) (s .loop .at) (ap (λ (n : ℕ). answered (log-of s) n) same ∙ refused (log-of s) reads) (s .loop .left) (omega (arith, c .before .before .before .before .before .loop-test .taken)) (λ k. record-refusal (log-of s .stores) _ reads (sym same ∙ k)))
     ∙ whole s)
 
 returns-3 : tie.Need-returns-3 Inv-loop μ-loop

@@ -5,8 +5,9 @@ use Rattle.host_records.proofs.read.Tie as tie
 
 returns-2 : tie.Need-returns-2
 returns-2 c =
-    let bytes = c .before .before .before .before .before .before .before .before .before .before .before .before .before .before .before .before .before .before .before .before .before .args .bytes .now in
-    read-as-numbers bytes (search needs) (c .read .ensures)
+    let a = c .before .before .before .before .before .before .before .before .before .before .before .before .before .before .before .before .before .before .before .before .before .args in
+    let bytes = a .bytes .now in
+    read-as-numbers (a .stores) bytes (search needs) (c .read .ensures)
     (numbers-read bytes (search needs) (search needs) (search needs) (search needs) (search needs) (search needs) (search needs) (search needs) (c .before .from-low-first .ensures))
 
 pub read-spec : {M : Type 1} → statement M

@@ -1,33 +1,34 @@
 use borrow.Author.Needs.{needs}
 use mathlib.Core.Path.{sym, _∙_}
-use Rattle.release_log.proofs.AddLaws.{count-fits, entry-added, numbers-refused, records-refused}
-use Rattle.host_lent.proofs.LentLaws.{whole-of}
+use Rattle.host_lent.proofs.LentLaws.{count-fits, whole-of}
+use Rattle.release_log.proofs.AddLaws.{entry-added, numbers-refused, records-refused}
+use Rattle.release_log.proofs.LimitLaws.{read-by-limit}
 use Rattle.release_log.proofs.release_log_add.Statement.{statement}
 use Rattle.release_log.proofs.release_log_add.Tie as tie
 
 returns : tie.Need-returns
-returns c = let a = c .before .before .before .before .before .before .args in records-refused (a .records .now) (a .count) _ (whole-of (c .before .before .lent-log .ensures .0) (c .before .before .lent-log .ensures .1)) (c .before .if1 .taken)
+returns c = let a = c .before .before .before .before .before .before .args in records-refused (a .stores) (a .records .now) (a .count) _ (whole-of (c .before .before .lent-log .ensures .0) (c .before .before .lent-log .ensures .1)) (c .before .if1 .taken)
 
 add-entry-requires : tie.Need-add-entry-requires
 add-entry-requires c κs =
     let a = c .before .before .before .before .before .before .before .before .before .before .args in
-    count-fits (a .records .now) (a .count) (sym (c .before .before .before .before .before .before .lent-log .ensures .1) ∙ c .before .before .before .before .before .if1 .left)
+    count-fits (a .stores) (a .records .now) (a .count) (sym (c .before .before .before .before .before .before .lent-log .ensures .1) ∙ c .before .before .before .before .before .if1 .left)
 
 returns-2 : tie.Need-returns-2
 returns-2 c =
     let a = c .before .before .before .before .before .before .before .before .before .args in
-    numbers-refused (a .records .now) (a .count) _ (whole-of (c .before .before .before .before .before .lent-log .ensures .0) (c .before .before .before .before .before .lent-log .ensures .1)) (c .before .before .before .before .if1 .left) (c .before .before .before .read .ensures) (c .before .n .given .1)
+    let lent = whole-of (c .before .before .before .before .before .lent-log .ensures .0) (c .before .before .before .before .before .lent-log .ensures .1) in
+    let accept = c .before .before .before .before .if1 .left in
+    numbers-refused (a .stores) (a .records .now) (a .count) _ lent accept
+    (c .before .before .before .read .ensures ∙ read-by-limit (a .stores) (a .records .now) (a .count) lent accept _) (c .before .n .given .1)
 
 returns-3 : tie.Need-returns-3
 returns-3 c =
     let a = c .before .before .before .before .before .before .before .before .before .before .before .before .before .args in
-    entry-added
-    (a .records .now)
-    (a .count)
-    _
-    (whole-of (c .before .before .before .before .before .before .before .before .before .lent-log .ensures .0) (c .before .before .before .before .before .before .before .before .before .lent-log .ensures .1))
-    (c .before .before .before .before .before .before .before .before .if1 .left)
-    (c .before .before .before .before .before .before .before .read .ensures)
+    let lent = whole-of (c .before .before .before .before .before .before .before .before .before .lent-log .ensures .0) (c .before .before .before .before .before .before .before .before .before .lent-log .ensures .1) in
+    let accept = c .before .before .before .before .before .before .before .before .if1 .left in
+    entry-added (a .stores) (a .records .now) (a .count) _ lent accept
+    (c .before .before .before .before .before .before .before .read .ensures ∙ read-by-limit (a .stores) (a .records .now) (a .count) lent accept _)
     (c .before .before .before .before .before .e .given .1)
     (c .before .before .add-entry .ensures .0)
     (c .before .before .add-entry .ensures .1)

@@ -1,13 +1,17 @@
 use borrow.Author.Needs.{needs}
-use borrow.Author.Tests.{le-leb, lt-leb}
-use Prim.Native.Nat.{ℕ}
+use borrow.Author.Tests.{leb-false}
+use Prim.Native.Nat.{ℕ, _<_}
 use mathlib.Core.List.{[], _∷_}
-use mathlib.Core.Path.{ap, _∙_}
-use Rattle.log_entry.specs.Limits.{transactions}
+use mathlib.Core.Path.{ap, sym, _∙_}
+use native.Mathlib.Nat.{lt-of-lt-of-le}
+use native.Mathlib.Omega.{arith}
+use Rattle.log_entry.proofs.LimitLaws.{transactions-within}
+use Rattle.log_entry.specs.Limits.{noTransaction, transactions, transactionsOf}
 use Rattle.log_core.specs.declared.Log.{Log}
 use Rattle.log_votes.specs.Outcome.{outcomeNumber}
 use Rattle.log_core.specs.Log.{outcomeOf}
 use Rattle.host_lent.proofs.LentLaws.{whole-of}
+use Rattle.release_log.proofs.LimitLaws.{tried-by-limit}
 use Rattle.release_log.proofs.QueryLaws.{numbers-outside, records-refused, value-placed}
 use Rattle.release_log.proofs.release_log_outcome.Statement.{statement}
 use Rattle.release_log.proofs.release_log_outcome.Tie as tie
@@ -16,21 +20,32 @@ returns : tie.Need-returns
 returns c = records-refused _ _ (whole-of (c .before .before .lent-log .ensures .0) (c .before .before .lent-log .ensures .1)) (c .before .if1 .taken)
 
 returns-2 : tie.Need-returns-2
-returns-2 c = numbers-outside _ _ (whole-of (c .before .before .lent-log .ensures .0) (c .before .before .lent-log .ensures .1)) (c .before .if1 .left) (le-leb transactions (c .before .before .before .before .before .before .args .tx) (c .if2 .taken))
+returns-2 c =
+    let a = c .before .before .before .before .before .before .before .args in
+    let lent = whole-of (c .before .before .before .lent-log .ensures .0) (c .before .before .before .lent-log .ensures .1) in
+    let accept = c .before .before .if1 .left in
+    numbers-outside _ _ lent accept
+    (tried-by-limit (a .stores) (a .records .now) (a .count) lent accept (λ (n : ℕ). noTransaction n (a .tx)) (c .before .no-transaction .ensures) (c .if2 .taken))
+
+-- the transaction has a row
+tx-inside : (c : tie.Else2) → c .before .before .before .before .before .before .before .args .tx < transactions
+tx-inside c =
+    let n = c .before .before .before .lent-log .result .stores in
+    lt-of-lt-of-le (leb-false (transactionsOf n) _ (sym (c .before .no-transaction .ensures) ∙ c .if2 .left)) (transactions-within n)
 
 returns-3 : tie.Need-returns-3
 returns-3 c =
-    let a = c .before .before .before .before .before .before .before .before .before .before .before .before .before .args in
-    value-placed
-    _
-    _
-    (whole-of (c .before .before .before .before .before .before .before .before .before .lent-log .ensures .0) (c .before .before .before .before .before .before .before .before .before .lent-log .ensures .1))
-    (c .before .before .before .before .before .before .before .before .if1 .left)
-    (lt-leb transactions (a .tx) (c .before .before .before .before .before .before .before .if2 .left))
+    let tried = c .before .before .before .before .before .before .before in
+    let called = tried .before .before .before in
+    let a = called .before .before .before .before .args in
+    let lent = whole-of (called .lent-log .ensures .0) (called .lent-log .ensures .1) in
+    let accept = tried .before .before .if1 .left in
+    value-placed _ _ lent accept
+    (tried-by-limit (a .stores) (a .records .now) (a .count) lent accept (λ (n : ℕ). noTransaction n (a .tx)) (tried .before .no-transaction .ensures) (tried .if2 .left))
     (ap (λ (n : ℕ). n ∷ [])
     (c .before .before .before .number .ensures
     ∙ ap outcomeNumber (c .before .before .before .before .outcome .ensures)
-    ∙ ap (λ (l : Log). outcomeNumber (outcomeOf l (a .tx))) (c .before .before .before .before .before .before .before .before .before .lent-log .ensures .0)))
+    ∙ ap (λ (l : Log). outcomeNumber (outcomeOf l (a .tx))) (called .lent-log .ensures .0)))
     (c .before .before .answer-byte .ensures)
 
 pub release-log-outcome-spec : {M : Type 1} → statement M
@@ -39,8 +54,8 @@ release-log-outcome-spec =
     (tie.spec
     (λ c κs. search needs)
     returns
-    (λ c. search needs) (λ c. search needs)
+    (λ c κs. search needs) (λ c. search needs)
     returns-2
-    (λ c. search needs) (λ c. search needs) (λ c κs. search needs) (λ c κs. search needs)
+    (λ c. omega (arith, tx-inside c)) tx-inside (λ c κs. search needs) (λ c κs. search needs)
     (λ c κs. search needs) (λ c. search needs)
     returns-3)

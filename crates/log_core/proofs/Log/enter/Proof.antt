@@ -11,26 +11,26 @@ use Rattle.log_core.proofs.EnterLaws.{enter-outside, enter-refused, ent
 use Rattle.log_core.proofs.Log.enter.Statement.{statement}
 use Rattle.log_core.proofs.Log.enter.Tie as tie
 
-inside : (c : tie.Else1) → outside (c .before .before .args .e) ≡ false
+inside : (c : tie.Else1) → outside (c .before .before .args .t1 .stores) (c .before .before .args .e) ≡ false
 inside c = sym (c .before .outside .ensures) ∙ c .if1 .left
 
 returns : tie.Need-returns
 returns c = enter-outside (c .before .before .args .t1) (c .before .before .args .e) (sym (c .before .outside .ensures) ∙ c .if1 .taken)
 
 row-inside : (c : tie.After-row-place) → c .row-place .result < transactions
-row-inside c = place-inside (c .before .before .before .before .before .args .e) (inside (c .before .before .before)) (c .row-place .ensures)
+row-inside c = place-inside (c .before .before .before .before .before .args .t1 .stores) (c .before .before .before .before .before .args .e) (inside (c .before .before .before)) (c .row-place .ensures)
 
-mul-t12 : tie.Need-mul-t12
-mul-t12 c = omega (arith, row-inside (c .before))
+mul-t13 : tie.Need-mul-t13
+mul-t13 c = omega (arith, row-inside (c .before))
 
-element-copy-out-t15 : tie.Need-element-copy-out-t15
-element-copy-out-t15 c = row-inside (c .before)
+element-copy-out-t16 : tie.Need-element-copy-out-t16
+element-copy-out-t16 c = row-inside (c .before)
 
-element-copy-out-t21 : tie.Need-element-copy-out-t21
-element-copy-out-t21 c = inside-store (c .before .before .before .before .before .before .before .before .before .args .e) (inside (c .before .before .before .before .before .before .before))
+element-copy-out-t22 : tie.Need-element-copy-out-t22
+element-copy-out-t22 c = inside-store (c .before .before .before .before .before .before .before .before .before .args .t1 .stores) (c .before .before .before .before .before .before .before .before .before .args .e) (inside (c .before .before .before .before .before .before .before))
 
-element-copy-out-t24 : tie.Need-element-copy-out-t24
-element-copy-out-t24 c = omega (arith, inside-process (c .before .before .before .before .before .before .before .before .before .before .args .e) (inside (c .before .before .before .before .before .before .before .before)))
+element-copy-out-t11 : tie.Need-element-copy-out-t11
+element-copy-out-t11 c = omega (arith, inside-process (c .before .before .before .before .before .before .before .before .before .before .args .t1 .stores) (c .before .before .before .before .before .before .before .before .before .before .args .e) (inside (c .before .before .before .before .before .before .before .before)))
 
 returns-2 : tie.Need-returns-2
 returns-2 c =
@@ -63,11 +63,11 @@ enter-spec =
     (λ c κs. search needs)
     returns
     (λ c. search needs) (λ c. search needs) (λ c κs. search needs)
-    mul-t12
-    element-copy-out-t15
+    mul-t13
+    element-copy-out-t16
     (λ c. search needs)
-    element-copy-out-t21
-    element-copy-out-t24
+    element-copy-out-t22
+    element-copy-out-t11
     (λ c κs. search needs) (λ c κs. search needs)
     returns-2
     stored-requires

@@ -13,7 +13,7 @@ use Rattle.log_core.proofs.Lengths.{row-length}
 use Rattle.log_core.proofs.Parts.decide.Statement.{statement}
 use Rattle.log_core.proofs.Parts.decide.Tie as tie
 
-inside : (c : tie.Else1) → outside (c .before .before .before .args .e) ≡ false
+inside : (c : tie.Else1) → outside (c .before .before .before .args .self .stores) (c .before .before .before .args .e) ≡ false
 inside c = sym (c .before .outside .ensures) ∙ c .if1 .left
 
 returns : tie.Need-returns
@@ -28,7 +28,7 @@ returns-2 c =
 
 -- the store in `by`
 by-inside : (c : tie.After-any-clash) → c .before .before .before .before .before .before .before .before .before .args .e .by < stores
-by-inside c = inside-vote (c .before .before .before .before .before .before .before .before .before .args .e) (inside (c .before .before .before .before .before .before)) (c .before .before .before .before .if2 .left) .by
+by-inside c = inside-vote (c .before .before .before .before .before .before .before .before .before .args .self .stores) (c .before .before .before .before .before .before .before .before .before .args .e) (inside (c .before .before .before .before .before .before)) (c .before .before .before .before .if2 .left) .by
 
 returns-3 : tie.Need-returns-3
 returns-3 c =

@@ -7,7 +7,7 @@ use Rattle.log_core.proofs.DecideLaws.{answer-outside, answer-take, ans
 use Rattle.log_core.proofs.Parts.refusal.Statement.{statement}
 use Rattle.log_core.proofs.Parts.refusal.Tie as tie
 
-inside : (c : tie.Else1) → outside (c .before .before .args .e) ≡ false
+inside : (c : tie.Else1) → outside (c .before .before .args .self .stores) (c .before .before .args .e) ≡ false
 inside c = sym (c .before .outside .ensures) ∙ c .if1 .left
 
 returns : tie.Need-returns
@@ -19,10 +19,10 @@ returns-2 c =
     c .take-refusal .ensures ∙ answer-take (a .self) (a .e) (inside (c .before .before .before)) (c .before .if2 .taken)
 
 array-read-vote-refusal : tie.Need-array-read-vote-refusal
-array-read-vote-refusal c = inside-vote (c .before .before .before .before .before .before .args .e) (inside (c .before .before .before .before)) (c .before .before .if2 .left) .by
+array-read-vote-refusal c = inside-vote (c .before .before .before .before .before .before .args .self .stores) (c .before .before .before .before .before .before .args .e) (inside (c .before .before .before .before)) (c .before .before .if2 .left) .by
 
 array-read-vote-refusal-2 : tie.Need-array-read-vote-refusal-2
-array-read-vote-refusal-2 c = inside-vote (c .before .before .before .before .before .before .args .e) (inside (c .before .before .before .before)) (c .before .before .if2 .left) .by
+array-read-vote-refusal-2 c = inside-vote (c .before .before .before .before .before .before .args .self .stores) (c .before .before .before .before .before .before .args .e) (inside (c .before .before .before .before)) (c .before .before .if2 .left) .by
 
 returns-3 : tie.Need-returns-3
 returns-3 c =

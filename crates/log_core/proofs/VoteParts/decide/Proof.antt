@@ -23,12 +23,12 @@ answered c p so = c .refusal .ensures (p .row) (ap (λ (v : VoteParts). v .tally
 
 -- and the outcome with the vote
 outcome-so : (c : tie.After-outcome-with) (p : Parts) → c .before .before .before .before .args .self ≡ votePartsOf p (c .before .before .before .before .args .e)
-    → length (p .row .votes) ≡ stores → outside (c .before .before .before .before .args .e) ≡ false → c .before .before .before .before .args .e .take ≡ false
+    → length (p .row .votes) ≡ stores → outside (p .stores) (c .before .before .before .before .args .e) ≡ false → c .before .before .before .before .args .e .take ≡ false
     → c .outcome-with .result ≡ outcomeOfVotes (keeping (p .row) (c .before .before .before .before .args .e) .votes)
 outcome-so c p so size inside vote =
     let e = c .before .before .before .before .args .e in
     let fits = vote-fits p e vote so (answered (c .before .before) p so) (c .before .if1 .left) in
-    c .outcome-with .ensures (p .row) (ap (λ (v : VoteParts). v .tally) so) size (inside-store e inside) (fits .0) (fits .1)
+    c .outcome-with .ensures (p .row) (ap (λ (v : VoteParts). v .tally) so) size (inside-store (p .stores) e inside) (fits .0) (fits .1)
 
 returns : tie.Need-returns
 returns c p so size inside vote =

@@ -1,0 +1,16 @@
+-- The table of entries for logs of both limits, by computation.
+use mathlib.Core.Path.{refl}
+use Rattle.log_entry.specs.Entry.{illFormed, outside}
+use Rattle.log_entry.specs.Refusal.{firstRefusal}
+use Rattle.log_votes.specs.Outcome.{outcomeOfVotes, running}
+use Rattle.log_votes.specs.Scan.{allFrom, anyFrom, setOf}
+use Rattle.log_core.specs.Decide.{effectOf, refusal}
+use Rattle.log_core.specs.Enter.{answersTo, enter, entered, stored}
+use Rattle.log_core.specs.Group.{remembered}
+use Rattle.log_core.specs.LimitCases.{LimitCasesHold, limitCases}
+use Rattle.log_core.specs.Log.{opened}
+use Rattle.log_core.specs.Refusal.{wrongTurn}
+
+pub limit-cases-hold : LimitCasesHold
+unfolding limitCases answersTo enter entered stored effectOf refusal firstRefusal wrongTurn outside illFormed remembered setOf running outcomeOfVotes anyFrom allFrom opened
+limit-cases-hold = refl
