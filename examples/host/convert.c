@@ -22,7 +22,8 @@
 #define _XOPEN_SOURCE 700
 #include "slots.h"
 
-static struct slots old;
+/* An earlier host had the full limit. */
+static struct slots old = {.stores = RELEASE_LOG_STORES};
 
 /* What is removed at the end: the file as it was written, under another name, and NEW unless all
    went well. */

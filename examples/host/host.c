@@ -2,7 +2,7 @@
  * An example host: it keeps its records in a file, and answers what it is
  * asked on standard input.
  *
- *     host FILE
+ *     host [-s] FILE
  *
  * Each line of the input is a command, and each command is answered. The
  * commands are in the table `commands` below. Between two words is one space.
@@ -10,6 +10,12 @@
  * as two lower-case hexadecimal digits, UPDATE as sixteen or eight of them.
  * TURN may be left out: then it is 1. A line that is no such command is
  * answered by an error and changes nothing.
+ *
+ * With -s the log is a small one: its stores are 0 to 2, its transactions 0 to
+ * 7. The file does not say which limit its log has, so -s is given at each
+ * start. A file that has a record outside the small limits is left as it is
+ * then, and the host says so. A file of a small log may be opened without -s:
+ * all its records are accepted, and from then on it may get larger numbers.
  *
  * The file is a row of slots, one for each record: slots.h says what is in
  * them, and how many there can be. When the file is full, an entry that the log
@@ -33,7 +39,7 @@
 #define LINE_MOST 100
 #define WORDS_MOST 9
 
-static struct slots kept;
+static struct slots kept = {.stores = RELEASE_LOG_STORES};
 
 /* --- The file ----------------------------------------------------------- */
 
@@ -179,8 +185,8 @@ static void take(char *const *words)
 	uint32_t process, store, turn;
 	if (!decimal(words[1], &process) || !decimal(words[2], &store) || !turn_or_1(words[3], &turn))
 		return;
-	answer_entry(
-	    release_log_add_take(kept.records, sizeof kept.records, kept.count, process, store, turn));
+	answer_entry(release_log_add_take(kept.stores, kept.records, sizeof kept.records, kept.count,
+	    process, store, turn));
 }
 
 static void vote(char *const *words)
@@ -191,7 +197,8 @@ static void vote(char *const *words)
 	    !commit_or_abort(words[6], &v.say) || !update(words[7], &v.update) ||
 	    !turn_or_1(words[8], &v.turn))
 		return;
-	answer_entry(release_log_add_vote(kept.records, sizeof kept.records, kept.count, &v));
+	answer_entry(
+	    release_log_add_vote(kept.stores, kept.records, sizeof kept.records, kept.count, &v));
 }
 
 static void outcome(char *const *words)
@@ -205,7 +212,8 @@ static void outcome(char *const *words)
 	uint8_t value;
 	if (!decimal(words[1], &tx))
 		return;
-	answer = release_log_outcome(kept.records, sizeof kept.records, kept.count, tx, &value, 1);
+	answer = release_log_outcome(kept.stores, kept.records, sizeof kept.records, kept.count, tx,
+	    &value, 1);
 	if (answer == RELEASE_LOG_OK)
 		printf("tx=%" PRIu32 " outcome=%s\n", tx, names[value]);
 	else
@@ -223,8 +231,8 @@ static void involvement(char *const *words)
 	uint8_t value;
 	if (!decimal(words[1], &tx) || !decimal(words[2], &store))
 		return;
-	answer = release_log_involvement(kept.records, sizeof kept.records, kept.count, tx, store,
-	    &value, 1);
+	answer = release_log_involvement(kept.stores, kept.records, sizeof kept.records, kept.count, tx,
+	    store, &value, 1);
 	if (answer == RELEASE_LOG_OK)
 		printf("tx=%" PRIu32 " store=%" PRIu32 " involved=%s\n", tx, store, names[value]);
 	else
@@ -246,8 +254,8 @@ static void replay(char *const *words)
 	uint32_t store, answer;
 	if (!decimal(words[1], &store))
 		return;
-	answer = release_log_replay(kept.records, sizeof kept.records, kept.count, store, out,
-	    sizeof out);
+	answer = release_log_replay(kept.stores, kept.records, sizeof kept.records, kept.count, store,
+	    out, sizeof out);
 	if (answer != RELEASE_LOG_OK) {
 		print_answer(answer);
 		return;
@@ -346,12 +354,15 @@ int main(int argc, char **argv)
 {
 	char line[LINE_MOST + 1];
 	size_t length;
-	if (argc != 2) {
-		fprintf(stderr, "usage: %s FILE\n", argv[0]);
+	int option;
+	while ((option = getopt(argc, argv, "s")) == 's')
+		kept.stores = RELEASE_LOG_SMALL_STORES;
+	if (option != -1 || optind != argc - 1) {
+		fprintf(stderr, "usage: %s [-s] FILE\n", argv[0]);
 		return 2;
 	}
 	/* One host at a time, since each has the records in memory. */
-	open_slots(&kept, argv[1], O_RDWR | O_CREAT, LOCK_EX);
+	open_slots(&kept, argv[optind], O_RDWR | O_CREAT, LOCK_EX);
 	load();
 	while (read_line(line, &length)) {
 		obey(line, length);

@@ -62,8 +62,10 @@ struct form {
 static const struct form form_now = {RELEASE_LOG_RECORD_SIZE, SLOT_SIZE, 1};
 static const struct form form_before = {12, 16, 0};
 
-/* An open file, and its records as release_log.h has them, whatever the form of the file. */
+/* An open file, and its records as release_log.h has them, whatever the form of the file. The limit
+   of the log is not in the file: `stores` is what whoever opens it says. */
 struct slots {
+	uint32_t stores;
 	const char *path;
 	int fd;
 	size_t count;
@@ -279,12 +281,19 @@ static inline const char *slot_fault(const struct form *form, size_t index, cons
 	return NULL;
 }
 
+/* What the library says of the first records, as those of a log with this limit. */
+static inline uint32_t answer_to_records(const struct slots *slots, uint32_t stores, size_t count)
+{
+	uint8_t value;
+	/* Every query goes through the records first, so any will do. */
+	return release_log_outcome(stores, slots->records, sizeof slots->records, count, 0, &value, 1);
+}
+
 /* The slot becomes the next record, or the program ends. Behind a record of 12 bytes come zeros:
    the high half of its update. */
 static inline void load_slot(struct slots *slots, const struct form *form, const uint8_t *slot)
 {
 	size_t index = slots->count;
-	uint8_t value;
 	if (index == SLOTS_MOST) {
 		fprintf(stderr, "%s: no room for record %zu; make SLOTS_MOST in slots.h larger than %d\n",
 		    slots->path, index + 1, SLOTS_MOST);
@@ -293,9 +302,13 @@ static inline void load_slot(struct slots *slots, const struct form *form, const
 	memset(record_at(slots, index), 0, RELEASE_LOG_RECORD_SIZE);
 	memcpy(record_at(slots, index), slot, form->record_size);
 	const char *fault = slot_fault(form, index, slot);
-	/* Every query goes through the records first, so any will do. */
-	uint32_t answer = release_log_outcome(slots->records, sizeof slots->records, index + 1, 0,
-	    &value, 1);
+	uint32_t answer = answer_to_records(slots, slots->stores, index + 1);
+	if (fault == NULL && answer == RELEASE_LOG_OUTSIDE &&
+	    answer_to_records(slots, RELEASE_LOG_STORES, index + 1) == RELEASE_LOG_OK) {
+		fprintf(stderr, "%s: record %zu is outside the limits of a small log; start without -s\n",
+		    slots->path, index + 1);
+		exit(1);
+	}
 	if (fault != NULL || answer != RELEASE_LOG_OK) {
 		fprintf(stderr, "%s: record %zu is damaged: %s, answer=%" PRIu32 " %s\n", slots->path,
 		    index + 1, fault == NULL ? "checksum right" : fault, answer, meaning(answer));

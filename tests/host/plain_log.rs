@@ -1,6 +1,6 @@
-//! The plain log of document 01, with the updates of document 02, request 3, and the turns of
-//! request 4, and the hosts' calls on it, written from the documents by themselves. The tests set
-//! the library and the example host beside it, and the benchmarks measure with it.
+//! The plain log of document 01 with requests 3 to 6 of document 02 (updates, turns, involvement,
+//! the two limits), and the hosts' calls on it, written from the documents by themselves. The tests
+//! set the library and the example host beside it, and the benchmarks measure with it.
 
 // A program that uses this module need not use all of it.
 #![allow(dead_code)]
@@ -12,6 +12,7 @@ pub const ROW: usize = 10;
 pub const TURN: usize = 7;
 const UPDATE: usize = 8;
 
+/// The most stores and transactions of a log.
 pub const STORES: usize = 8;
 pub const TRANSACTIONS: usize = 32;
 pub const PROCESSES: u8 = 15;
@@ -31,6 +32,47 @@ pub mod answer {
     pub const WRONG_TURN: u32 = 12;
 }
 use answer::*;
+
+/// The stores and the transactions of a log are those below these numbers.
+#[derive(Clone, Copy, PartialEq, Eq, Debug)]
+pub struct Limit {
+    pub stores: u8,
+    pub transactions: u8,
+}
+
+/// The limit of the full service, and that of a one-saw workshop.
+pub const FULL: Limit = Limit { stores: STORES as u8, transactions: TRANSACTIONS as u8 };
+pub const SMALL: Limit = Limit { stores: 3, transactions: 8 };
+
+impl Limit {
+    /// The limit that a call carries as a number of stores, or refusal 2.
+    pub fn of(stores: u32) -> Result<Limit, u32> {
+        [FULL, SMALL].into_iter().find(|limit| limit.stores as u32 == stores).ok_or(OUTSIDE)
+    }
+
+    fn has_store(self, store: u32) -> bool {
+        store < self.stores.min(STORES as u8) as u32
+    }
+
+    fn has_transaction(self, tx: u32) -> bool {
+        tx < self.transaction_count() as u32
+    }
+
+    /// `min` changes no number, here and above. It tells the compiler that a log has the places.
+    fn transaction_count(self) -> u8 {
+        self.transactions.min(TRANSACTIONS as u8)
+    }
+
+    /// Whether the list names no other stores.
+    fn has_list(self, list: u32) -> bool {
+        list >> self.stores == 0
+    }
+
+    /// The list of all its stores.
+    pub fn list(self) -> u8 {
+        0xff >> (STORES as u8 - self.stores)
+    }
+}
 
 #[derive(Clone, Copy, PartialEq, Eq, Debug)]
 pub enum Outcome {
@@ -86,8 +128,8 @@ pub struct Numbers {
 }
 
 impl Entry {
-    /// The entry that the numbers stand for, or refusal 1 or 2.
-    pub fn read(n: &Numbers) -> Result<Entry, u32> {
+    /// The entry that the numbers stand for in a log of that limit, or refusal 1 or 2.
+    pub fn read(n: &Numbers, limit: Limit) -> Result<Entry, u32> {
         let [kind, process, by, store, tx, list, say, turn] = n.first;
         match kind {
             0 if by | tx | list | say == 0 && n.update == 0 => {}
@@ -96,10 +138,10 @@ impl Entry {
         }
         if process == 0
             || process > PROCESSES as u32
-            || store >= STORES as u32
-            || by >= STORES as u32
-            || tx >= TRANSACTIONS as u32
-            || list > 0xff
+            || !limit.has_store(store)
+            || !limit.has_store(by)
+            || !limit.has_transaction(tx)
+            || !limit.has_list(list)
             || turn > TURNS as u32
         {
             return Err(OUTSIDE);
@@ -130,10 +172,10 @@ impl Entry {
         Numbers { first: first.map(u32::from), update }
     }
 
-    pub fn from_record(r: &[u8]) -> Result<Entry, u32> {
+    pub fn from_record(r: &[u8], limit: Limit) -> Result<Entry, u32> {
         let first = std::array::from_fn(|i| r[i] as u32);
         let update = u64::from_le_bytes(r[UPDATE..RECORD].try_into().expect("eight bytes"));
-        Entry::read(&Numbers { first, update })
+        Entry::read(&Numbers { first, update }, limit)
     }
 
     pub fn to_record(&self) -> [u8; RECORD] {
@@ -149,6 +191,7 @@ impl Entry {
 
 #[derive(Clone)]
 pub struct Log {
+    pub limit: Limit,
     votes: [[Option<Vote>; STORES]; TRANSACTIONS],
     holders: [u8; STORES],
     /// The turn in which the holder took the store.
@@ -175,8 +218,15 @@ impl Default for Log {
 }
 
 impl Log {
+    /// An empty log of the full limit.
     pub fn new() -> Log {
+        Log::open(FULL)
+    }
+
+    /// An empty log. It is given entries within its limit.
+    pub fn open(limit: Limit) -> Log {
         Log {
+            limit,
             votes: [[None; STORES]; TRANSACTIONS],
             holders: [0; STORES],
             turns: [0; STORES],
@@ -232,7 +282,7 @@ impl Log {
 
     fn running(&self) -> u32 {
         let mut set = 0;
-        for tx in 0..TRANSACTIONS as u8 {
+        for tx in 0..self.limit.transaction_count() {
             if self.has_vote(tx) && self.outcome(tx) == Outcome::Open {
                 set |= 1 << tx;
             }
@@ -328,14 +378,15 @@ impl Log {
     }
 }
 
-/// The log after the lent records, or the first refusal found.
-pub fn log_behind(records: &[u8], count: usize) -> Result<Log, u32> {
+/// The log of that many stores after the lent records, or the first refusal found.
+pub fn log_behind(stores: u32, records: &[u8], count: usize) -> Result<Log, u32> {
+    let limit = Limit::of(stores)?;
     if count > records.len() / RECORD {
         return Err(OUTSIDE);
     }
-    let mut log = Log::new();
+    let mut log = Log::open(limit);
     for r in records.chunks_exact(RECORD).take(count) {
-        let answer = log.enter(&Entry::from_record(r)?);
+        let answer = log.enter(&Entry::from_record(r, limit)?);
         if answer != ACCEPTED {
             return Err(answer);
         }
@@ -352,10 +403,10 @@ fn write(out: &mut [u8], value: &[u8]) -> Result<(), u32> {
     Ok(())
 }
 
-pub fn add(records: &mut [u8], count: usize, n: &Numbers) -> u32 {
+pub fn add(stores: u32, records: &mut [u8], count: usize, n: &Numbers) -> u32 {
     answered((|| {
-        let mut log = log_behind(records, count)?;
-        let e = Entry::read(n)?;
+        let mut log = log_behind(stores, records, count)?;
+        let e = Entry::read(n, log.limit)?;
         match log.enter(&e) {
             ACCEPTED => write(&mut records[count * RECORD..], &e.to_record()),
             refused => Err(refused),
@@ -363,10 +414,10 @@ pub fn add(records: &mut [u8], count: usize, n: &Numbers) -> u32 {
     })())
 }
 
-pub fn outcome(records: &[u8], count: usize, tx: u32, out: &mut [u8]) -> u32 {
+pub fn outcome(stores: u32, records: &[u8], count: usize, tx: u32, out: &mut [u8]) -> u32 {
     answered((|| {
-        let log = log_behind(records, count)?;
-        if tx >= TRANSACTIONS as u32 {
+        let log = log_behind(stores, records, count)?;
+        if !log.limit.has_transaction(tx) {
             return Err(OUTSIDE);
         }
         let value = match log.outcome(tx as u8) {
@@ -378,20 +429,27 @@ pub fn outcome(records: &[u8], count: usize, tx: u32, out: &mut [u8]) -> u32 {
     })())
 }
 
-pub fn involvement(records: &[u8], count: usize, tx: u32, store: u32, out: &mut [u8]) -> u32 {
+pub fn involvement(
+    stores: u32,
+    records: &[u8],
+    count: usize,
+    tx: u32,
+    store: u32,
+    out: &mut [u8],
+) -> u32 {
     answered((|| {
-        let log = log_behind(records, count)?;
-        if tx >= TRANSACTIONS as u32 || store >= STORES as u32 {
+        let log = log_behind(stores, records, count)?;
+        if !log.limit.has_transaction(tx) || !log.limit.has_store(store) {
             return Err(OUTSIDE);
         }
         write(out, &[log.involvement(tx as u8, store as u8)])
     })())
 }
 
-pub fn replay(records: &[u8], count: usize, store: u32, out: &mut [u8]) -> u32 {
+pub fn replay(stores: u32, records: &[u8], count: usize, store: u32, out: &mut [u8]) -> u32 {
     answered((|| {
-        let log = log_behind(records, count)?;
-        if store >= STORES as u32 {
+        let log = log_behind(stores, records, count)?;
+        if !log.limit.has_store(store) {
             return Err(OUTSIDE);
         }
         let rows = log.replay(store as u8);

@@ -3,7 +3,7 @@
 // A program that uses this module need not use all of it.
 #![allow(dead_code)]
 
-use crate::plain_log::{Entry, Log, Vote};
+use crate::plain_log::{Entry, Limit, Log, Vote, SMALL};
 
 /// splitmix64
 pub struct Random(pub u64);
@@ -36,13 +36,14 @@ impl Random {
 }
 
 /// Lists that the votes of a transaction use, so that many agree.
-fn list_of(r: &mut Random, tx: u8) -> u8 {
+fn list_of(r: &mut Random, tx: u8, limit: Limit) -> u8 {
     const LISTS: [u8; 8] = [0x03, 0x01, 0x07, 0xff, 0x18, 0x82, 0x0f, 0x41];
+    const SMALL_LISTS: [u8; 8] = [0x03, 0x01, 0x07, 0x06, 0x02, 0x05, 0x07, 0x04];
     if r.once_in(8) {
-        r.next() as u8
-    } else {
-        LISTS[tx as usize % 8]
+        return r.next() as u8 & limit.list();
     }
+    let lists = if limit == SMALL { SMALL_LISTS } else { LISTS };
+    lists[tx as usize % 8]
 }
 
 /// An update whose low half, high half or both are set, or one at a border.
@@ -67,13 +68,14 @@ fn turn_near(r: &mut Random, turn: u8) -> u8 {
     }
 }
 
-/// An entry within its limits that the log may well accept.
+/// An entry within the log's limits that it may well accept.
 pub fn sensible(r: &mut Random, log: &Log) -> Entry {
-    let tx = r.below(32) as u8;
-    let list = list_of(r, tx);
-    let mut store = r.below(8) as u8;
+    let Limit { stores, transactions } = log.limit;
+    let tx = r.below(transactions as usize) as u8;
+    let list = list_of(r, tx, log.limit);
+    let mut store = r.below(stores as usize) as u8;
     while list >> store & 1 == 0 && !r.once_in(8) {
-        store = (store + 1) % 8;
+        store = (store + 1) % stores;
     }
     if r.once_in(6) || log.holder(store) == 0 {
         let own_again = r.once_in(3) && log.holder(store) != 0;
@@ -83,7 +85,7 @@ pub fn sensible(r: &mut Random, log: &Log) -> Entry {
         return Entry::Take { process, store, turn: turn_near(r, turn) };
     }
     let commit = !r.once_in(8);
-    let by = if commit { store } else { r.below(8) as u8 };
+    let by = if commit { store } else { r.below(stores as usize) as u8 };
     let held_by = log.holder(by);
     Entry::Vote(Vote {
         process: if held_by == 0 { r.below(15) as u8 + 1 } else { held_by },
@@ -97,15 +99,16 @@ pub fn sensible(r: &mut Random, log: &Log) -> Entry {
     })
 }
 
-/// Entries that a log accepts in turn.
+/// Entries that a log of the limit accepts in turn.
 pub struct History {
+    pub limit: Limit,
     pub entries: Vec<Entry>,
 }
 
 impl History {
-    pub fn grown(r: &mut Random) -> History {
+    pub fn grown(r: &mut Random, limit: Limit) -> History {
         let length = r.pick(&[3, 20, 60, 120, 400]);
-        let (mut log, mut entries) = (Log::new(), Vec::new());
+        let (mut log, mut entries) = (Log::open(limit), Vec::new());
         for _ in 0..length * 4 {
             let e = sensible(r, &log);
             if log.enter(&e) == 0 {
@@ -115,12 +118,12 @@ impl History {
                 break;
             }
         }
-        History { entries }
+        History { limit, entries }
     }
 
-    /// The log after the first n entries.
-    pub fn log(&self, n: usize) -> Log {
-        let mut log = Log::new();
+    /// The log after the first n entries, with its own limit or a larger one.
+    pub fn log(&self, n: usize, limit: Limit) -> Log {
+        let mut log = Log::open(limit);
         for e in &self.entries[..n] {
             log.enter(e);
         }

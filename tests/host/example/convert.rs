@@ -8,7 +8,7 @@ use crate::host::{
     write_in_place, Bench, Ran, SLOT,
 };
 use crate::longest::{longest, longest_of_turn_1, OF_TURN_1};
-use crate::plain_log::{Entry, Log, RECORD, TURN};
+use crate::plain_log::{Entry, Log, FULL, RECORD, TURN};
 use crate::random::{History, Random};
 use std::fs;
 use std::os::fd::AsRawFd;
@@ -146,7 +146,7 @@ impl Folder<'_> {
 fn whole(f: &Folder, seed: u64) {
     let mut r = Random(seed);
     let mut logs: Vec<Vec<Entry>> = SIZES.iter().map(|&n| first(n)).collect();
-    logs.extend((0..HISTORIES).map(|_| narrow(History::grown(&mut r).entries)));
+    logs.extend((0..HISTORIES).map(|_| narrow(History::grown(&mut r, FULL).entries)));
     for entries in logs {
         f.converted(f.convert(), &old_slots(&entries), &entries, "");
         let (asked, expected) = queries(&log_of(&entries));
@@ -470,7 +470,7 @@ fn coincidence(b: &Bench) {
             let file: Vec<u8> = (0..2).flat_map(|i| slot(i, &records[i])).collect();
             b.put(&file);
             let (asked, expected) =
-                queries(&log_of(&records.map(|r| Entry::from_record(&r).expect("an entry"))));
+                queries(&log_of(&records.map(|r| Entry::from_record(&r, FULL).expect("an entry"))));
             let ran = b.run(asked.as_bytes());
             assert_eq!((ran.code, &ran.err[..], ran.out), (Some(0), "", expected));
             assert_eq!(b.bytes(), file);

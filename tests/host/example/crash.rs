@@ -207,8 +207,15 @@ fn no_file(b: &Bench) {
         assert_eq!((ran.code, &ran.out[..]), (Some(1), ""));
         assert!(ran.err.ends_with(&format!("{why}\n")), "{}", ran.err);
     }
-    let ran = b.run_with(Command::new(&b.program), b"");
-    assert!(ran.code == Some(2) && ran.err.starts_with("usage: "), "{}", ran.err);
+    let _ = fs::remove_file(b.dir.join("no"));
+    for words in [&[][..], &["-s"], &["-x", "no"], &["no", "more"], &["-s", "no", "more"]] {
+        let mut command = Command::new(&b.program);
+        command.args(words).current_dir(&b.dir);
+        let ran = b.run_with(command, b"outcome 0\n");
+        assert_eq!((ran.code, &ran.out[..]), (Some(2), ""), "{words:?}");
+        assert!(ran.err.contains("usage: ") && ran.err.ends_with(" [-s] FILE\n"), "{}", ran.err);
+        assert!(!b.dir.join("no").exists(), "{words:?}");
+    }
     let _ = fs::remove_file(b.file());
     assert_eq!(b.run(b"take 1 0\n").out, answer(0) + "\n");
     assert_eq!(b.bytes().len(), SLOT);

@@ -5,7 +5,7 @@ use crate::host::{
     answer, checksum, crc32, slot, slots, slots_without_turns, Bench, FILLED, SLOT, SLOTS,
 };
 use crate::longest::{longest, longest_of_turn_1};
-use crate::plain_log::{Entry, Vote, RECORD, TURN};
+use crate::plain_log::{Entry, Limit, Vote, FULL, RECORD, SMALL, TURN};
 use std::collections::HashSet;
 
 /// The host starts, says that it drops this record, and leaves the file so.
@@ -22,12 +22,16 @@ fn dropped(b: &Bench, bytes: &[u8], record: usize, left: &[u8]) {
 
 /// The host names this record and stops; it answers nothing and leaves the file as it was.
 fn damaged(b: &Bench, bytes: &[u8], record: usize, why: &str) {
+    stopped(b, FULL, bytes, &format!("record {record} is damaged: {why}"));
+}
+
+/// The host with that limit says this and stops; it answers nothing and leaves the file as it was.
+fn stopped(b: &Bench, limit: Limit, bytes: &[u8], said: &str) {
     b.put(bytes);
-    let ran = b.run(b"take 15 7\noutcome 0\n");
-    let said = format!("record {record} is damaged: {why}");
-    assert!(ran.err.contains(&said), "{:?}, not {said:?}, of {bytes:?}", ran.err);
+    let ran = b.run_with(b.with_limit(limit), b"take 15 7\noutcome 0\n");
+    assert!(ran.err.contains(said), "{:?}, not {said:?}, of {bytes:?}", ran.err);
     assert_eq!((ran.code, &ran.out[..]), (Some(1), ""));
-    assert!(b.bytes() == bytes, "the host changed a damaged file");
+    assert!(b.bytes() == bytes, "the host changed a file that it cannot use");
 }
 
 fn with_tail(entries: &[Entry], tail: &[u8]) -> Vec<u8> {
@@ -244,6 +248,53 @@ fn refused(b: &Bench) {
     }
 }
 
+/// Records that a full log accepts after BEFORE_REFUSED, and a small one refuses, by their first
+/// eight bytes.
+const OUTSIDE_SMALL: [[u8; 8]; 6] = [
+    [0, 3, 0, 3, 0, 0, 0, 1],
+    [0, 3, 0, 7, 0, 0, 0, 1],
+    [1, 1, 0, 3, 5, 9, 0, 1],
+    [1, 1, 0, 0, 8, 1, 1, 1],
+    [1, 1, 0, 0, 31, 1, 1, 1],
+    [1, 1, 0, 0, 5, 9, 1, 1],
+];
+
+/// A file of a full log, given to a host with the small limit: it names the first record that is
+/// outside, wherever this stands. What is wrong with a slot goes before.
+fn of_a_full_log(b: &Bench) {
+    let file = |firsts: &[[u8; 8]]| -> Vec<u8> {
+        firsts.iter().enumerate().flat_map(|(i, first)| slot(i, &padded(first))).collect()
+    };
+    let outside = "record 4 is outside the limits of a small log; start without -s\n";
+    for first in OUTSIDE_SMALL {
+        let firsts = [&BEFORE_REFUSED[..], &[first]].concat();
+        let good = file(&firsts);
+        stopped(b, SMALL, &good, outside);
+        b.put(&good);
+        let ran = b.run(b"");
+        assert_eq!((ran.code, &ran.err[..]), (Some(0), ""), "the full log of {first:?}");
+        let more = [0, 4, 0, 4, 0, 0, 0, 1];
+        stopped(b, SMALL, &file(&[&firsts[..], &[more]].concat()), outside);
+        stopped(b, SMALL, &[&good[..], &[0; SLOT]].concat(), outside);
+        let mut spoiled = good.clone();
+        spoiled[3 * SLOT + RECORD] ^= 0x10;
+        let why = "record 4 is damaged: checksum wrong, answer=2 ";
+        stopped(b, SMALL, &spoiled, why);
+    }
+    /* Outside both limits, and refused for another reason by both. */
+    for (first, refusal) in [([0, 3, 0, 8, 0, 0, 0, 1], 2), ([1, 2, 1, 1, 4, 7, 1, 1], 9)] {
+        let why = format!("record 4 is damaged: checksum right, {}\n", answer(refusal));
+        stopped(b, SMALL, &file(&[&BEFORE_REFUSED[..], &[first]].concat()), &why);
+    }
+    /* A last slot that was not written to its end was not answered, whatever its record. */
+    let good = file(&BEFORE_REFUSED);
+    b.put(&[&good[..], &slot(3, &padded(&OUTSIDE_SMALL[0]))[..5]].concat());
+    let ran = b.run_with(b.with_limit(SMALL), b"outcome 7\n");
+    let said = "record 4 was not written to its end and is dropped\n";
+    assert!(ran.err.ends_with(said), "{}", ran.err);
+    assert_eq!((ran.out, b.bytes()), ("tx=7 outcome=open\n".to_string(), good));
+}
+
 /// More than the host has room for.
 fn too_many(b: &Bench) {
     let entries = longest();
@@ -293,6 +344,7 @@ pub fn all(b: &Bench) {
     misplaced(b);
     garbage(b);
     refused(b);
+    of_a_full_log(b);
     too_many(b);
     println!("it drops what was not written to its end, and names any other damage");
 }

@@ -1,6 +1,6 @@
 //! Runs of the example host, and the bytes of its file as the comment of slots.h has them.
 
-use crate::plain_log::{Entry, Log, RECORD, STORES, TRANSACTIONS, TURN};
+use crate::plain_log::{Entry, Limit, Log, FULL, RECORD, SMALL, TURN};
 use std::fs;
 use std::io::{BufRead, BufReader, Write};
 use std::path::{Path, PathBuf};
@@ -51,6 +51,13 @@ impl Bench {
     pub fn command(&self, file: &Path) -> Command {
         let mut command = Command::new(&self.program);
         command.arg(file);
+        command
+    }
+
+    /// The host with its log of that limit.
+    pub fn with_limit(&self, limit: Limit) -> Command {
+        let mut command = Command::new(&self.program);
+        command.args((limit == SMALL).then_some("-s")).arg(self.file());
         command
     }
 
@@ -171,17 +178,22 @@ pub fn lines(entries: &[Entry]) -> String {
     entries.iter().map(|e| line(e) + "\n").collect()
 }
 
-/// The log after these entries, all accepted.
-pub fn log_of(entries: &[Entry]) -> Log {
-    let mut log = Log::new();
+/// The log of the limit after these entries, all accepted.
+pub fn log_in(limit: Limit, entries: &[Entry]) -> Log {
+    let mut log = Log::open(limit);
     entries.iter().for_each(|e| assert_eq!(log.enter(e), 0));
     log
+}
+
+/// That of the full limit.
+pub fn log_of(entries: &[Entry]) -> Log {
+    log_in(FULL, entries)
 }
 
 /// Every query of a log, and what the host prints.
 pub fn queries(log: &Log) -> (String, String) {
     let (mut asked, mut expected) = (String::new(), String::new());
-    for store in 0..STORES as u8 {
+    for store in 0..log.limit.stores {
         let rows = log.replay(store);
         asked += &format!("replay {store}\n");
         for (group, tx, upd) in &rows {
@@ -189,10 +201,10 @@ pub fn queries(log: &Log) -> (String, String) {
         }
         expected += &format!("rows={}\n", rows.len());
     }
-    for tx in 0..TRANSACTIONS as u8 {
+    for tx in 0..log.limit.transactions {
         asked += &format!("outcome {tx}\n");
         expected += &format!("tx={tx} outcome={}\n", log.outcome(tx).word());
-        for store in 0..STORES as u8 {
+        for store in 0..log.limit.stores {
             let involved = ["no", "yes", "unknown"][log.involvement(tx, store) as usize];
             asked += &format!("involvement {tx} {store}\n");
             expected += &format!("tx={tx} store={store} involved={involved}\n");

@@ -1,8 +1,10 @@
 //! Lines, good and bad: what they are answered, and that a bad one changes nothing.
 
-use crate::host::{answer, line, lines, log_of, queries, slots, slots_without_turns, Bench, SLOTS};
-use crate::longest::{longest, longest_of_turn_1};
-use crate::plain_log::{Entry, Vote};
+use crate::host::{
+    answer, line, lines, log_in, log_of, queries, slots, slots_without_turns, Bench, SLOTS,
+};
+use crate::longest::{longest, longest_in, longest_of_turn_1, longest_of_turn_1_in};
+use crate::plain_log::{Entry, Limit, Vote, FULL, SMALL};
 
 const TAKES: [Entry; 2] =
     [Entry::Take { process: 1, store: 0, turn: 1 }, Entry::Take { process: 2, store: 1, turn: 1 }];
@@ -13,9 +15,14 @@ const USAGE: &str = "error: unknown command; usage: take PROCESS STORE [TURN], \
 
 /// Each line is given to a host that has TAKES. It must be answered so, and the file must stay.
 fn unchanged(b: &Bench, cases: &[(Vec<u8>, String)]) {
+    unchanged_in(b, FULL, cases);
+}
+
+/// The same, with a log of that limit.
+fn unchanged_in(b: &Bench, limit: Limit, cases: &[(Vec<u8>, String)]) {
     b.put(&slots(&TAKES));
     let input: Vec<u8> = cases.iter().flat_map(|(line, _)| [&line[..], b"\n"].concat()).collect();
-    let ran = b.run(&input);
+    let ran = b.run_with(b.with_limit(limit), &input);
     let out: Vec<&str> = ran.out.lines().collect();
     for (i, (line, expected)) in cases.iter().enumerate() {
         let line = String::from_utf8_lossy(line);
@@ -249,6 +256,64 @@ fn limits(b: &Bench) {
     unchanged(b, &cases);
 }
 
+/// Lines that are answered 2 with the small limit, and how the answer with the full one begins.
+const OUTSIDE_SMALL: [(&str, &str); 21] = [
+    ("take 3 3", "answer=0 "),
+    ("take 3 7 255", "answer=0 "),
+    ("take 1 3", "answer=11 "),
+    ("take 3 8", "answer=2 "),
+    ("take 3 258", "answer=2 "),
+    ("vote 1 3 0 4 09 abort 00000000", "answer=8 "),
+    ("vote 1 0 3 4 09 abort 00000000", "answer=0 "),
+    ("vote 1 0 0 8 01 commit 0000000a", "answer=0 "),
+    ("vote 1 0 0 31 01 commit 0000000a", "answer=0 "),
+    ("vote 1 0 0 32 01 commit 0000000a", "answer=2 "),
+    ("vote 1 0 0 4 09 commit 0000000a", "answer=0 "),
+    ("vote 1 0 0 4 ff commit 0000000a", "answer=0 "),
+    ("vote 1 0 0 4 08 commit 0000000a", "answer=7 "),
+    ("vote 2 0 0 4 81 commit 0000000a", "answer=8 "),
+    ("vote 1 0 0 4 11 commit 0000000a 2", "answer=12 "),
+    ("outcome 8", "tx=8 outcome=open\n"),
+    ("outcome 32", "answer=2 "),
+    ("involvement 8 0", "tx=8 store=0 involved=unknown\n"),
+    ("involvement 7 3", "tx=7 store=3 involved=unknown\n"),
+    ("replay 3", "rows=0\n"),
+    ("replay 8", "answer=2 "),
+];
+
+/// Lines outside the small limits, with either limit; and lines at the borders within them.
+fn small_limits(b: &Bench) {
+    let cases: Vec<_> = OUTSIDE_SMALL.iter().map(|(line, _)| case(line, &answer(2))).collect();
+    unchanged_in(b, SMALL, &cases);
+    for (line, full) in OUTSIDE_SMALL {
+        b.put(&slots(&TAKES));
+        let ran = b.run(format!("{line}\n").as_bytes());
+        assert!(ran.out.starts_with(full), "{line}: {}", ran.out);
+    }
+    b.put(&slots(&TAKES));
+    let within =
+        "take 3 2\nvote 3 2 2 7 07 commit 0000000a\noutcome 7\ninvolvement 7 2\nreplay 2\n";
+    let expected = "answer=0 accepted\nanswer=0 accepted\ntx=7 outcome=open\n\
+        tx=7 store=2 involved=yes\nrows=0\n";
+    assert_eq!(b.run_with(b.with_limit(SMALL), within.as_bytes()).out, expected);
+}
+
+/// A workshop that grows: its file is opened without -s from then on, and goes on there. Then it is
+/// no file of a small log any more.
+fn grows(b: &Bench) {
+    let (few, more) = (longest_of_turn_1_in(SMALL), Entry::Take { process: 1, store: 3, turn: 1 });
+    b.put(&slots(&few));
+    let ran = b.run((line(&more) + "\n").as_bytes());
+    assert_eq!((ran.out, &ran.err[..]), (answer(0) + "\n", ""));
+    let grown = slots(&[&few[..], &[more]].concat());
+    assert_eq!(b.bytes(), grown);
+    let ran = b.run_with(b.with_limit(SMALL), b"outcome 0\n");
+    let why = "record 70 is outside the limits of a small log; start without -s\n";
+    assert_eq!((ran.code, &ran.out[..]), (Some(1), ""));
+    assert!(ran.err.ends_with(why), "{}", ran.err);
+    assert_eq!(b.bytes(), grown);
+}
+
 /// No command, words missing and words too many; one space between two.
 fn words(b: &Bench) {
     let unknown = [
@@ -358,18 +423,21 @@ fn last_line(b: &Bench) {
     assert_eq!(b.run(&long).out, "error: a line of more than 100 bytes\n");
 }
 
-/// These entries one after the other; a new host then tells of them what the plain log does.
-fn whole_log(b: &Bench, entries: &[Entry]) {
+/// These entries one after the other, in a log of the limit; a new host then tells of them what the
+/// plain log does. So does one with the full limit.
+fn whole_log(b: &Bench, entries: &[Entry], limit: Limit) {
     b.put(b"");
-    let ran = b.run(lines(entries).as_bytes());
+    let ran = b.run_with(b.with_limit(limit), lines(entries).as_bytes());
     assert_eq!(ran.out, (answer(0) + "\n").repeat(entries.len()));
     assert!(b.bytes() == slots(entries), "other records than those answered");
-    let log = log_of(entries);
+    let log = log_in(limit, entries);
     let (asked, expected) = queries(&log);
-    assert_eq!(b.run(asked.as_bytes()).out, expected);
     let again: String = entries.iter().map(|e| answer(log.clone().enter(e)) + "\n").collect();
-    assert_eq!(b.run(lines(entries).as_bytes()).out, again);
-    assert!(b.bytes() == slots(entries), "a refused entry changed the file");
+    for limit in [SMALL, FULL].into_iter().filter(|other| other.stores >= limit.stores) {
+        assert_eq!(b.run_with(b.with_limit(limit), asked.as_bytes()).out, expected);
+        assert_eq!(b.run_with(b.with_limit(limit), lines(entries).as_bytes()).out, again);
+        assert!(b.bytes() == slots(entries), "a refused entry changed the file");
+    }
 }
 
 /// A full file: what the log would accept has no place, and all else is as before.
@@ -393,11 +461,15 @@ pub fn all(b: &Bench) {
     without_turns(b);
     numbers(b);
     limits(b);
+    small_limits(b);
+    grows(b);
     words(b);
     lengths(b);
     last_line(b);
-    whole_log(b, &longest_of_turn_1());
-    whole_log(b, &longest()[..SLOTS]);
+    for limit in [FULL, SMALL] {
+        whole_log(b, &longest_of_turn_1_in(limit), limit);
+        whole_log(b, &longest_in(limit)[..SLOTS], limit);
+    }
     full(b);
     println!("the example host answers good lines, and refuses bad ones without a change");
 }
