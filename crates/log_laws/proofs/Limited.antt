@@ -15,6 +15,7 @@ use Rattle.log_core.specs.Enter.{answersTo, enter, feed}
 use Rattle.log_core.specs.Follow.{awaitedOf}
 use Rattle.log_core.specs.Log.{emptyLog, groupOf, holderOf, involvementOf, latestOf, opened, outcomeOf, turnOf, voteAt, withLimit}
 use Rattle.log_core.specs.Replay.{replayRows}
+use Rattle.log_core.specs.Group.{runningSet}
 use Rattle.log_core.specs.Limit.{AllInside}
 use Rattle.log_core.proofs.Limit.{feed-limit, keeps-limit}
 use Rattle.log_core.proofs.TwoLimits.{full-after, inside-same, outside-same}
@@ -69,6 +70,7 @@ every-limit-as-full n es h = record {
   turn = λ store k. ap (λ (l : Log). turnOf l store) same;
   latest = λ process. ap (λ (l : Log). latestOf l process) same;
   replay = λ store k. ap (λ (l : Log). replayRows l store) same;
+  running = ap (λ (l : Log). runningSet (l .rows)) same;
   awaited = λ store k. ap (λ (l : Log). awaitedOf l store) same;
 }
   where

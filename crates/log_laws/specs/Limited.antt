@@ -13,6 +13,7 @@ use Rattle.log_entry.specs.Refusal.{outsideLimits}
 use Rattle.log_core.specs.declared.Log.{Log}
 use Rattle.log_core.specs.Enter.{answersTo, enter, feed}
 use Rattle.log_core.specs.Follow.{awaitedOf}
+use Rattle.log_core.specs.Group.{runningSet}
 use Rattle.log_core.specs.Limit.{AllInside}
 use Rattle.log_core.specs.Log.{emptyLog, groupOf, holderOf, involvementOf, latestOf, opened, outcomeOf, turnOf, voteAt, withLimit}
 use Rattle.log_core.specs.Replay.{replayRows}
@@ -36,6 +37,7 @@ pub record AnswersAsFull (n : ℕ) (es : List Entry) : Type 0 where
   pub turn : (store : ℕ) → store < storesOf n → turnOf (limited n es) store ≡ turnOf (reached es) store
   pub latest : (process : ℕ) → latestOf (limited n es) process ≡ latestOf (reached es) process
   pub replay : (store : ℕ) → store < storesOf n → replayRows (limited n es) store ≡ replayRows (reached es) store
+  pub running : runningSet (limited n es .rows) ≡ runningSet (reached es .rows)
   pub awaited : (store : ℕ) → store < storesOf n → awaitedOf (limited n es) store ≡ awaitedOf (reached es) store
 
 abbrev pub AsFull : ℕ → Type 0
