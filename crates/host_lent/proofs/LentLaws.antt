@@ -1,12 +1,12 @@
 -- The log after lent records, record by record.
 use Prim.Native.Nat.{ℕ, zero, suc, _%_, _+_, _-_, _*_, _/_, _<_, _^_, _≤_}
-use mathlib.Core.Bool.{Bool, cond, false, true}
+use mathlib.Core.Bool.{Bool, cond, false, true, _||_}
 use mathlib.Core.List.{List, [], _∷_}
 use mathlib.Core.Logic.{_⊎_, inl, inr, ⊎-elim}
 use mathlib.Core.Path.{_≡_, ap, refl, sym, _∙_}
 use native.Mathlib.Nat.{suc-sub-suc, sub-zero}
 use native.Mathlib.Omega.{arith}
-use borrow.Author.Tests.{eq-eqb, eqb-true, le-ltb, lt-ltb, ltb-false, ne-eqb, not-false}
+use borrow.Author.Tests.{eq-eqb, eqb-true, le-ltb, lt-ltb, ltb-false, ltb-true, ne-eqb, not-false}
 use lib.Bits.{bitOr}
 use lib.Dec.{eqb, ltb}
 use lib.ListN.{drop, getD, length, set, take}
@@ -15,7 +15,7 @@ use Rattle.log_entry.specs.declared.Entry.{Entry}
 use Rattle.log_entry.specs.Entry.{outside}
 use Rattle.log_entry.specs.Limits.{smallStores, stores, transactions}
 use Rattle.log_entry.specs.Refusal.{accepted, outsideLimits}
-use Rattle.log_entry.proofs.Tests.{by-test, is-false, or-cases}
+use Rattle.log_entry.proofs.Tests.{by-test, either, is-false, neither-left, neither-right, or-cases}
 use Rattle.log_votes.specs.Refusal.{anyClash}
 use Rattle.log_votes.specs.Row.{voteOfStore}
 use Rattle.log_votes.proofs.RefusalLaws.{accepted-vote}
@@ -132,6 +132,24 @@ module _ (limit : ℕ) (bytes : List ℕ) (count : ℕ) where
     unfolding lentLog
     count-within k = rw (h, le-ltb (length bytes) (count * recordSize) (omega arith))
 
+-- both tests in one, as the code has them; b is the first
+module _ (limit : ℕ) (bytes : List ℕ) (count : ℕ) {b : Bool} (is : b ≡ noLimit limit) where
+  pub lent-refused : (b || ltb (length bytes / recordSize) count) ≡ true → answered emptyLog outsideLimits ≡ lentLog limit bytes count
+  lent-refused h =
+      ⊎-elim (λ (k : noLimit limit ≡ true). no-such-limit limit bytes count k)
+      (λ k. count-beyond limit bytes count k (ltb-true (length bytes / recordSize) count (or-second b _ (is ∙ k) h)))
+      (either (noLimit limit))
+    where
+      or-second : (a c : Bool) → a ≡ false → (a || c) ≡ true → c ≡ true
+      or-second a c k h = rw k at h
+
+  module _ (h : (b || ltb (length bytes / recordSize) count) ≡ false) where
+    pub limit-tried : noLimit limit ≡ false
+    limit-tried = sym is ∙ neither-left b (ltb (length bytes / recordSize) count) h
+
+    pub count-tried : count ≤ length bytes / recordSize
+    count-tried = ltb-false (length bytes / recordSize) count (neither-right b (ltb (length bytes / recordSize) count) h)
+
 module _ (l : Log) where
   pub none-left : (bytes : List ℕ) (left : ℕ) → left ≤ 0 → answered l accepted ≡ logAfter l (recordsIn bytes left)
   unfolding logAfter recordsIn
@@ -174,6 +192,9 @@ module _ (limit : ℕ) (bytes : List ℕ) (count : ℕ) (h : lentLog limit bytes
   pub limit-fits : noLimit limit ≡ false
   unfolding lentLog
   limit-fits = is-false (noLimit limit) (λ k. let z : _≡_ {A = ℕ} outsideLimits accepted = rw k at h in let y : ⊥ = omega arith in y)
+
+  pub limit-byte : limit < 256
+  limit-byte = limit-is-byte limit limit-fits
 
   pub count-fits : count * recordSize ≤ length bytes
   unfolding lentLog

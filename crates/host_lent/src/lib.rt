@@ -162,11 +162,7 @@ pub fn lent_log(stores: u32, lent: &[u8], count: usize, answer: &mut u8) -> Log
     ensures { λ r. ⌜ r ≡ lentLog stores (now (lent .entry)) count .log ⌝ }
     ensures { λ r. ⌜ now (answer .exit) ≡ lentLog stores (now (lent .entry)) count .answer ⌝ }
 {
-    if no_limit(stores) {
-        *answer = OUTSIDE_LIMITS;
-        return Log::empty(Limit::Full);
-    }
-    if lent.len() / RECORD_SIZE < count {
+    if no_limit(stores) | (lent.len() / RECORD_SIZE < count) {
         *answer = OUTSIDE_LIMITS;
         return Log::empty(Limit::Full);
     }

@@ -1,7 +1,6 @@
 pub mod AcceptedLaws
 pub mod AddLaws
 pub mod FedLaws
-pub mod LimitLaws
 pub mod Limited
 pub mod LimitedRecords
 pub mod QueryLaws

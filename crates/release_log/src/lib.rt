@@ -78,7 +78,7 @@ pub extern "C" fn release_log_add(
         turn: turn,
         update: update,
     };
-    match numbers.read(log.stores) {
+    match numbers.read(stores as u8) {
         Reading::Refused(n) => n as u32,
         Reading::Of(e) => add_entry(records, count, log, e),
     }
@@ -101,7 +101,7 @@ pub extern "C" fn release_log_outcome(
     if answer != ACCEPTED {
         return answer as u32;
     }
-    if no_transaction(log.stores, tx) {
+    if no_transaction(stores as u8, tx) {
         return OUTSIDE_LIMITS as u32;
     }
     let t = tx as usize;
@@ -127,7 +127,8 @@ pub extern "C" fn release_log_involvement(
     if answer != ACCEPTED {
         return answer as u32;
     }
-    if no_transaction(log.stores, tx) | no_store(log.stores, store) {
+    let limit = stores as u8;
+    if no_transaction(limit, tx) | no_store(limit, store) {
         return OUTSIDE_LIMITS as u32;
     }
     let t = tx as usize;
@@ -152,7 +153,7 @@ pub extern "C" fn release_log_replay(
     if answer != ACCEPTED {
         return answer as u32;
     }
-    if no_store(log.stores, store) {
+    if no_store(stores as u8, store) {
         return OUTSIDE_LIMITS as u32;
     }
     values::answer_rows(out, log.replay(store as u8))
