@@ -1,8 +1,8 @@
 -- An entry is inside the limits of a log exactly if each of its numbers is.
-use Prim.Native.Nat.{ℕ, zero, suc, _+_, _*_, _/_, _%_, _<_, _≤_, _^_}
+use Prim.Native.Nat.{ℕ, zero, suc, _+_, _/_, _%_, _<_, _≤_, _^_}
 use mathlib.Core.Bool.{Bool, true, false, not, _&&_, _||_}
 use mathlib.Core.Logic.{_↔_, ⊎-elim}
-use mathlib.Core.Path.{_≡_, refl, sym, ap, _∙_}
+use mathlib.Core.Path.{_≡_, refl, sym, ap}
 use native.Mathlib.Nat.{div-eq-of-lt-le, lt-of-lt-of-le, suc-add, two-pow-succ, zero-add}
 use native.Mathlib.Omega.{arith}
 use borrow.Author.Tests.{eq-eqb, le-ltb, lt-leb, ne-eqb}
@@ -10,9 +10,9 @@ use lib.Dec.{eqb, leb, ltb}
 use lib.Pow.{pow-pos}
 use Rattle.log_entry.specs.declared.Entry.{Entry}
 use Rattle.log_entry.specs.Bits.{has}
-use Rattle.log_entry.specs.Claims.{InLimits, InsideIsInFull, OutsideExactly, VoteInLimits}
+use Rattle.log_entry.specs.Claims.{InLimits, InsideIsInFull, OutsideExactly}
 use Rattle.log_entry.specs.Entry.{noProcess, noTurn, outside}
-use Rattle.log_entry.specs.Limits.{listsOf, noList, noStore, noTransaction, processes, storesOf, stores, transactions, transactionsOf, turns, updates}
+use Rattle.log_entry.specs.Limits.{listsOf, noList, noStore, noTransaction, processes, storesOf, transactionsOf, turns, updates}
 use Rattle.log_entry.proofs.InsideLaws.{inside-process, inside-turn, own-store, own-vote}
 use Rattle.log_entry.proofs.LimitLaws.{stores-within, transactions-within}
 use Rattle.log_entry.proofs.SetLaws.{beyond}

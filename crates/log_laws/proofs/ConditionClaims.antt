@@ -1,16 +1,14 @@
 -- What the tests of the refusals say.
-use Prim.Native.Nat.{ℕ, _≤_, _<_}
+use Prim.Native.Nat.{ℕ, _<_}
 use mathlib.Core.Path.{_≡_, refl, sym, ap, _∙_}
 use mathlib.Core.Bool.{Bool, true, false, not, _&&_, _||_, cond}
 use mathlib.Core.Logic.{_↔_, inl, inr, ⊎-elim}
 use native.Mathlib.Omega.{arith}
-use lib.Dec.{eqb, leb, ltb}
-use borrow.Author.Tests.{eq-eqb, eqb-true, le-ltb, lt-leb, lt-ltb, ltb-true, ne-eqb, not-false, not-true}
-use Rattle.log_entry.proofs.InsideLaws.{inside-process, inside-store, inside-turn, inside-vote}
+use lib.Dec.{eqb, ltb}
+use borrow.Author.Tests.{eq-eqb, eqb-true, lt-ltb, ltb-true, not-false, not-true}
 use Rattle.log_entry.specs.declared.Entry.{Entry}
 use Rattle.log_entry.specs.Bits.{has, within}
-use Rattle.log_entry.specs.Entry.{illFormed, noProcess, noTurn, outside}
-use Rattle.log_entry.specs.Limits.{lists, processes, stores, transactions, turns, updates}
+use Rattle.log_entry.specs.Entry.{illFormed}
 use Rattle.log_votes.specs.Outcome.{isCommit}
 use Rattle.log_votes.specs.Refusal.{clashes, isClash}
 use Rattle.log_votes.specs.Row.{noVote}

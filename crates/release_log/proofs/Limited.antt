@@ -1,8 +1,7 @@
 -- Calls with the one limit and with the other.
-use Prim.Native.Nat.{ℕ, suc, _*_, _<_, _≤_}
+use Prim.Native.Nat.{ℕ, _*_}
 use mathlib.Core.Bool.{Bool, true, false, cond, not, _||_}
 use mathlib.Core.List.{List, [], _∷_}
-use mathlib.Core.Logic.{_≢_}
 use mathlib.Core.Path.{_≡_, ap, refl, subst, sym, _∙_}
 use native.Mathlib.Omega.{arith}
 use borrow.Author.Tests.{le-leb, le-ltb, lt-leb, ne-eqb}
@@ -11,7 +10,7 @@ use lib.ListN.{length}
 use Rattle.log_entry.specs.declared.Entry.{Entry}
 use Rattle.log_entry.specs.Entry.{outside}
 use Rattle.log_entry.specs.Limits.{noStore, noTransaction, smallStores, stores, storesOf, transactionsOf}
-use Rattle.log_entry.specs.Refusal.{accepted, firstRefusal, outsideLimits}
+use Rattle.log_entry.specs.Refusal.{accepted, outsideLimits}
 use Rattle.log_entry.proofs.Tests.{neither, or-left, or-right}
 use Rattle.log_core.specs.declared.Entered.{Entered}
 use Rattle.log_core.specs.declared.Log.{Log}
@@ -24,15 +23,14 @@ use Rattle.log_votes.specs.Outcome.{outcomeNumber}
 use Rattle.host_records.proofs.ReadingLaws.{entry-read, read-within}
 use Rattle.host_records.specs.declared.Numbers.{Numbers}
 use Rattle.host_records.specs.declared.Reading.{Reading}
-use Rattle.host_records.specs.declared.Reading.the-variants.{Of}
 use Rattle.host_records.specs.Numbers.{entryOf, readNumbers}
 use Rattle.host_records.specs.Record.{recordSize}
 use Rattle.host_lent.proofs.LentLaws.{after-limit, lent-after, no-such-limit, opened-limit}
 use Rattle.host_lent.specs.Lent.{enterReading, lentLog, logAfter, noLimit, recordsEntered, recordsIn}
 use Rattle.release_log.specs.Add.{addAnswer, addBytes}
 use Rattle.release_log.specs.Filled.{entriesIn}
-use Rattle.release_log.specs.Limited.{AcceptedWithThree, CallsAsFull, OtherLimitIsRefused, OutsideQueries, QueriesByOwnLimits, Refused, SameQuery, SmallCallsAsFull, TwoLimitsAreTaken}
-use Rattle.release_log.specs.Query.{Query, answerTo, bytesAfter, involvementQuery, outcomeQuery, replayQuery, replayValue}
+use Rattle.release_log.specs.Limited.{AcceptedWithThree, OtherLimitIsRefused, OutsideQueries, QueriesByOwnLimits, Refused, SameQuery, SmallCallsAsFull, TwoLimitsAreTaken}
+use Rattle.release_log.specs.Query.{Query, answerTo, bytesAfter, replayValue}
 use Rattle.release_log.proofs.AddLaws as adds
 use Rattle.release_log.proofs.LimitedRecords.{after-same, all-inside, limited, reading-same}
 use Rattle.release_log.proofs.QueryLaws.{numbers-outside, records-refused}

@@ -11,7 +11,7 @@ use Rattle.log_entry.specs.Limits.{stores}
 use Rattle.log_entry.specs.Refusal.{accepted, unreadable as unreadableNumber}
 use Rattle.log_core.specs.declared.Entered.{Entered}
 use Rattle.log_core.specs.declared.Log.{Log}
-use Rattle.log_core.specs.Enter.{answered, enter}
+use Rattle.log_core.specs.Enter.{answered}
 use Rattle.log_core.specs.Limit.{AllInside}
 use Rattle.log_core.specs.Log.{withLimit}
 use Rattle.log_core.proofs.EnterLaws.{accepted-inside, answer-is}

@@ -12,7 +12,7 @@ use Rattle.log_entry.specs.Limits.{updateBytes}
 use Rattle.log_entry.specs.Refusal.{accepted}
 use Rattle.log_core.specs.declared.Entered.{Entered}
 use Rattle.log_core.specs.declared.Log.{Log}
-use Rattle.log_core.specs.Enter.{answered, enter, feed}
+use Rattle.log_core.specs.Enter.{answered, enter}
 use Rattle.log_core.specs.Log.{opened}
 use Rattle.host_records.proofs.LowFirst.{low-first-back}
 use Rattle.host_records.proofs.Theorems.{read-is-proper, record-reads-back}
@@ -27,7 +27,7 @@ use Rattle.release_log.proofs.RecordsLaws.{records-stored}
 use Rattle.release_log.specs.Add.{addAnswer, addBytes}
 use Rattle.release_log.specs.Claims.{AddedEntryIsEntered, FilledIsAccepted, LentLogIsFed, RowReadsBack}
 use Rattle.host_lent.specs.Lent.{enterReading, enterRecord, lentLog, logAfter, noLimit, recordsIn}
-use Rattle.release_log.specs.Filled.{Filled, added, empty, entriesIn}
+use Rattle.release_log.specs.Filled.{Filled, added, empty}
 use Rattle.release_log.specs.Limited.{AcceptedWithThree, OtherLimitIsRefused, QueriesByOwnLimits, SmallCallsAsFull, TwoLimitsAreTaken}
 use Rattle.release_log.proofs.Limited
 

@@ -1,6 +1,5 @@
-use mathlib.Core.Path.{_≡_}
 use borrow.Author.Tests.{le-leb, lt-leb}
-use Rattle.log_entry.specs.Limits.{smallStores, transactionsOf}
+use Rattle.log_entry.specs.Limits.{smallStores}
 use Rattle.log_entry.proofs.limits.transactions_of.Statement.{statement}
 use Rattle.log_entry.proofs.limits.transactions_of.Tie as tie
 
