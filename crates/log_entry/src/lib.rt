@@ -114,13 +114,12 @@ impl Entry {
         ensures { λ r. ⌜ r ≡ outside n self ⌝ }
     {
         let stores = stores_of(n);
-        let beyond = (stores <= self.by)
-            | (transactions_of(n) <= self.tx)
-            | no_list(n, self.participants);
-        no_process(self.process)
-            | no_turn(self.turn)
-            | (stores <= self.store)
-            | (!self.take & beyond)
+        let three = no_process(self.process) | no_turn(self.turn) | (stores <= self.store);
+        if self.take {
+            return three;
+        }
+        let beyond = (stores <= self.by) | (transactions_of(n) <= self.tx);
+        three | beyond | no_list(n, self.participants)
     }
 
     // Refusal 7, of a vote.
