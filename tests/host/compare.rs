@@ -1,7 +1,7 @@
 //! Random calls of the library beside the Rust implementation: answers and both buffers must be
 //! equal. What a call with the small limit is answered, and what it writes, must be the same with
-//! the full one, unless it is 2. Prints how often each answer occurred with each limit, and fails if
-//! one that can occur never did.
+//! the full one, unless it is 2. Prints how often each answer occurred with each limit, and fails
+//! if one that can occur never did.
 
 mod library;
 mod longest;

@@ -1,5 +1,5 @@
--- Document 02, "A one-saw workshop": a table of entries with the answers of a log of 3 stores and of
--- one of 8, that follow from its words.
+-- Document 02, "A one-saw workshop": a table of entries, and the answers of a log of 3 stores and
+-- of one of 8 that follow from its words.
 use Prim.Native.Nat.{ℕ}
 use mathlib.Core.Path.{_≡_}
 use mathlib.Core.Bool.{true, false}

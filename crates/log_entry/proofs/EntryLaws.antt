@@ -14,7 +14,8 @@ pub no-turn-is : (t : ℕ) → t ≤ turns → eqb t 0 ≡ noTurn t
 no-turn-is t h = simp (le-ltb turns t h, or-false)
 
 module _ (e : Entry) where
-  -- What the tests come to: of a take three, of a vote all. An update of its width is within its limits.
+  -- What the tests come to: of a take three, of a vote all. An update of its width is within its
+  -- limits.
   module _ (n : ℕ) {no none : Bool} {stores : ℕ} (process : no ≡ noProcess (e .process)) (turn : none ≡ noTurn (e .turn)) (s : stores ≡ storesOf n) where
     pub outside-take : e .take ≡ true → (no || none || leb stores (e .store)) ≡ outside n e
     unfolding outside

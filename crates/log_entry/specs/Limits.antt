@@ -1,5 +1,6 @@
--- Document 01, "Numbers in use": the limits of what an entry names. Document 02: "Each log is opened
--- with one of the two limits and keeps it." `src/limits.rt` has the same numbers for the code.
+-- Document 01, "Numbers in use": the limits of what an entry names. Document 02: "Each log is
+-- opened with one of the two limits and keeps it." `src/limits.rt` has the same numbers for the
+-- code.
 use Prim.Native.Nat.{ℕ, _+_, _*_, _^_, min}
 use mathlib.Core.Bool.{Bool, cond}
 use lib.Dec.{leb}

@@ -1,5 +1,6 @@
--- What the conditions of the refusals say, in the documents' own words. `Answers` says which of them
--- gives the answer. 2 looks at the entry alone: see `OutsideExactly` of log_entry.
+-- What the conditions of the refusals say, in the documents' own words. `Answers` says which of
+-- them gives the answer. Of 2 it is said in log_entry (`OutsideExactly`): it looks at the entry and
+-- the limit alone.
 use Prim.Native.Nat.{ℕ, _≤_, _<_}
 use mathlib.Core.Path.{_≡_}
 use mathlib.Core.Bool.{true, false}

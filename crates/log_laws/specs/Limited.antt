@@ -23,8 +23,8 @@ use Rattle.log_laws.specs.Reached.{reached}
 abbrev pub limited : ℕ → List Entry → Log
 limited n es = feed (opened n) es
 
--- The log of limit n and the full one give equal answers to each of the entries, to each further one
--- within the limits, and to every query within them. A process is within every limit.
+-- The log of limit n and the full one give equal answers to each of the entries, to each further
+-- one within the limits, and to every query within them. A process is within every limit.
 pub record AnswersAsFull (n : ℕ) (es : List Entry) : Type 0 where
   pub entries : answersTo (opened n) es ≡ answersTo emptyLog es
   pub next : (e : Entry) → outside n e ≡ false → enter (limited n es) e .answer ≡ enter (reached es) e .answer
@@ -60,8 +60,8 @@ LimitedIsFull = (n : ℕ) (es : List Entry) → limited n es ≡ withLimit n (re
 
 -- ---- an entry outside
 
--- It is refused 2 and changes nothing, and no other entry is refused 2. Any other gets the answer of
--- the full log.
+-- It is refused 2 and changes nothing, and no other entry is refused 2. Any other gets the answer
+-- of the full log.
 pub record OutsideRefused (n : ℕ) (es : List Entry) (e : Entry) : Type 0 where
   pub is-2 : (enter (limited n es) e .answer ≡ outsideLimits) ↔ (outside n e ≡ true)
   pub unchanged : outside n e ≡ true → enter (limited n es) e .log ≡ limited n es

@@ -1,6 +1,6 @@
--- Document 02, "A one-saw workshop", of the calls: "In C each call carries the limit, 8 or 3 stores,
--- else 2, tried first", and "Fed the same entries from empty, all within the small limits, both give
--- equal answers, to queries within them too".
+-- Document 02, "A one-saw workshop", of the calls: "In C each call carries the limit, 8 or 3
+-- stores, else 2, tried first", and "Fed the same entries from empty, all within the small limits,
+-- both give equal answers, to queries within them too".
 use Prim.Native.Nat.{ℕ, _<_, _≤_}
 use mathlib.Core.Bool.{false}
 use mathlib.Core.List.{List}
@@ -40,8 +40,8 @@ TwoLimitsAreTaken = (bytes : List ℕ) → (lentLog 8 bytes 0 .answer ≡ accept
 
 -- ---- a query's own numbers
 
--- with accepted records, a tx or a store outside the log's own limits is 2: from 32 and 8 on, or from
--- 8 and 3 on
+-- with accepted records, a tx or a store outside the log's own limits is 2: of a log of so many
+-- stores and transactions
 pub record OutsideQueries (limit stores transactions : ℕ) : Type 0 where
   pub outcome : (bytes : List ℕ) (count tx : ℕ) → lentLog limit bytes count .answer ≡ accepted → transactions ≤ tx
       → Refused (outcomeQuery limit bytes count tx)
@@ -75,6 +75,7 @@ pub record CallsAsFull (bytes : List ℕ) (count : ℕ) : Type 0 where
 abbrev pub SmallCallsAsFull : Type 0
 SmallCallsAsFull = (bytes : List ℕ) (count : ℕ) → AllInside 3 (entriesIn bytes count) → CallsAsFull bytes count
 
--- Records that are accepted with 3 are such. So a workshop that grows lends them with 8 from then on.
+-- Records that are accepted with 3 are such. So a workshop that grows lends them with 8 from then
+-- on.
 abbrev pub AcceptedWithThree : Type 0
 AcceptedWithThree = (bytes : List ℕ) (count : ℕ) → lentLog 3 bytes count .answer ≡ accepted → AllInside 3 (entriesIn bytes count)

@@ -24,8 +24,8 @@ pub record Query : Type 0 where
   pub outside : Bool
   pub value : List ℕ
 
--- "A query's own numbers are tried after the records; then too short a second buffer is 6." They are
--- within the log's own limits, or 2.
+-- "A query's own numbers are tried after the records; then too short a second buffer is 6." Their
+-- limits are those of the log.
 unfoldable pub answerTo : Query → List ℕ → ℕ
 answerTo q out =
     firstRefusal
