@@ -21,7 +21,7 @@ use Rattle.log_votes.specs.Row.{voteOfStore}
 use Rattle.log_votes.proofs.RefusalLaws.{accepted-vote}
 use Rattle.log_core.proofs.DecideLaws.{answer-vote}
 use Rattle.log_core.proofs.EnterLaws.{enter-accepted, enter-refused, enter-stored, holder-stored, refusalOf}
-use Rattle.log_core.proofs.Limit.{enter-limit}
+use Rattle.log_core.proofs.Limit.{enter-limit, opened-limit}
 use Rattle.log_core.specs.declared.Effect.{Effect}
 use Rattle.log_core.specs.declared.Entered.{Entered}
 use Rattle.log_core.specs.declared.Log.{Log}
@@ -183,10 +183,6 @@ after-limit l (r ∷ rs) =
     by-test (λ (t : Entered). t .log .stores ≡ l .stores) (eqb (enterRecord l r .answer) accepted) _ _
     (λ h. after-limit (enterRecord l r .log) rs ∙ reading-limit l (readRecord (l .stores) r))
     (λ h. reading-limit l (readRecord (l .stores) r))
-
-pub opened-limit : (limit : ℕ) → opened limit .stores ≡ limit
-unfolding opened
-opened-limit limit = refl
 
 module _ (limit : ℕ) (bytes : List ℕ) (count : ℕ) (h : lentLog limit bytes count .answer ≡ accepted) where
   pub limit-fits : noLimit limit ≡ false

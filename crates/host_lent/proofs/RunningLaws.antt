@@ -3,12 +3,11 @@ use Prim.Native.Nat.{ℕ, _%_, _*_, _+_, _-_, _<_, _^_, _≤_}
 use mathlib.Core.Bool.{Bool, cond, false, true}
 use mathlib.Core.List.{List}
 use mathlib.Core.Path.{_≡_, ap, refl, sym, _∙_}
-use native.Mathlib.Nat.{mod-eq-of-lt, one-mul}
 use native.Mathlib.Omega.{arith}
 use lib.ListN.{getD, length, length-set, replicate, set}
-use lib.Pow.{pow-lt}
 use Rattle.log_entry.specs.declared.Entry.{Entry}
 use Rattle.log_entry.specs.Bits.{has}
+use Rattle.log_entry.proofs.SetLaws.{one-shifted}
 use Rattle.log_entry.specs.Limits.{transactions}
 use Rattle.log_votes.specs.declared.Row.{Row}
 use Rattle.log_votes.specs.Outcome.{isKept, isOpen, outcomeOfVotes, running}
@@ -20,7 +19,7 @@ use Rattle.log_core.specs.Group.{runningSet}
 
 -- a shifted one is the power
 pub bit-shifted : (k : ℕ) → k < 32 → 1 * 2 ^ k % 4294967296 ≡ 2 ^ k
-bit-shifted k h = rw (one-mul (2 ^ k)) (mod-eq-of-lt (pow-lt {j = 32} h))
+bit-shifted k h = one-shifted 32 k h
 
 -- a set n with the bit w in it if a, and to have it if b
 pub same-in : (n w : ℕ) (a b : Bool) → cond a w 0 ≤ n → a ≡ b → n ≡ n - cond a w 0 + cond b w 0

@@ -12,7 +12,7 @@ use Rattle.log_entry.specs.Entry.{outside}
 use Rattle.log_entry.specs.Limits.{transactions}
 use Rattle.log_entry.specs.Refusal.{accepted, firstRefusal, outsideLimits}
 use Rattle.log_entry.proofs.InsideLaws.{inside-vote}
-use Rattle.log_entry.proofs.LimitLaws.{one-shifted}
+use Rattle.log_entry.proofs.SetLaws.{one-shifted}
 use Rattle.log_votes.specs.declared.Row.{Row}
 use Rattle.log_votes.specs.Row.{inGroup, keeping}
 use Rattle.log_core.specs.declared.Effect.{Effect}

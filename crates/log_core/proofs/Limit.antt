@@ -1,4 +1,5 @@
 -- No entry changes the limit of a log.
+use Prim.Native.Nat.{ℕ}
 use mathlib.Core.Path.{_≡_, refl, _∙_}
 use mathlib.Core.List.{List, [], _∷_}
 use lib.Dec.{eqb}
@@ -32,6 +33,9 @@ unfolding feed
 feed-limit l [] = refl
 feed-limit l (e ∷ es) = feed-limit (enter l e .log) es ∙ enter-limit l e
 
-pub keeps-limit : KeepsLimit
+pub opened-limit : (n : ℕ) → opened n .stores ≡ n
 unfolding opened
-keeps-limit n es = feed-limit (opened n) es
+opened-limit n = refl
+
+pub keeps-limit : KeepsLimit
+keeps-limit n es = feed-limit (opened n) es ∙ opened-limit n

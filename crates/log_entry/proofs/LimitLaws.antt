@@ -1,11 +1,11 @@
 -- The limits of a log of limit n: none is above the full one, and how the code tells a list.
-use Prim.Native.Nat.{ℕ, _%_, _*_, _<_, _≤_, _^_}
+use Prim.Native.Nat.{ℕ, _%_, _*_, _≤_, _^_}
 use mathlib.Core.Path.{_≡_}
-use native.Mathlib.Nat.{mod-eq-of-lt, one-mul}
 use native.Mathlib.Omega.{arith}
 use lib.Dec.{leb}
-use lib.Pow.{pow-lt, pow-mono}
+use lib.Pow.{pow-mono}
 use Rattle.log_entry.specs.Limits.{lists, listsOf, noList, smallStores, smallTransactions, stores, storesOf, transactions, transactionsOf}
+use Rattle.log_entry.proofs.SetLaws.{one-shifted}
 use Rattle.log_entry.proofs.Tests.{by-test}
 
 pub stores-within : (n : ℕ) → storesOf n ≤ stores
@@ -16,10 +16,6 @@ transactions-within n = by-test (λ (t : ℕ). t ≤ transactions) (leb n smallS
 
 pub lists-within : (n : ℕ) → listsOf n ≤ lists
 lists-within n = pow-mono (stores-within n)
-
--- a shifted one is the power, as long as it fits
-pub one-shifted : (width p : ℕ) → p < width → 1 * 2 ^ p % 2 ^ width ≡ 2 ^ p
-one-shifted width p h = rw (one-mul (2 ^ p)) (mod-eq-of-lt (pow-lt h))
 
 pub list-shifted : (n list : ℕ) {s : ℕ} → s ≡ storesOf n → leb (1 * 2 ^ s % 2 ^ 16) list ≡ noList n list
 list-shifted n list is = rw (is, one-shifted 16 (storesOf n) (omega arith))

@@ -17,12 +17,11 @@ use Rattle.log_core.specs.Log.{emptyLog, groupOf, holderOf, involvementOf, late
 use Rattle.log_core.specs.Replay.{replayRows}
 use Rattle.log_core.specs.Group.{runningSet}
 use Rattle.log_core.specs.Limit.{AllInside}
-use Rattle.log_core.proofs.Limit.{feed-limit, keeps-limit}
+use Rattle.log_core.proofs.Limit.{keeps-limit, opened-limit}
 use Rattle.log_core.proofs.TwoLimits.{full-after, inside-same, outside-same}
 use Rattle.log_laws.specs.Limited.{EveryLimitAsFull, LimitedIsFull, OutsideIsRefused, inside, limited}
 use Rattle.log_laws.specs.Reached.{reached}
 use Rattle.log_laws.proofs.AnswerClaims.{take-exactly, vote-exactly}
-use Rattle.log_laws.proofs.WithoutTurns.{full-empty}
 
 -- ---- a list of entries
 
@@ -52,15 +51,15 @@ all-inside n (e ∷ es) h =
 
 pub limited-is-full : LimitedIsFull
 unfolding opened
-limited-is-full n es = fed-same n emptyLog es full-empty
+limited-is-full n es = fed-same n emptyLog es (opened-limit stores)
 
 full-reached : (es : List Entry) → reached es .stores ≡ stores
-full-reached es = feed-limit emptyLog es ∙ full-empty
+full-reached es = keeps-limit stores es
 
 pub every-limit-as-full : EveryLimitAsFull
 unfolding opened awaitedOf
 every-limit-as-full n es h = record {
-  entries = answers-same n emptyLog es full-empty h;
+  entries = answers-same n emptyLog es (opened-limit stores) h;
   next = λ e k. ap (λ (l : Log). enter l e .answer) same ∙ ap (λ (x : Entered). x .answer) (inside-same n (reached es) e (full-reached es) k);
   outcome = λ tx k. ap (λ (l : Log). outcomeOf l tx) same;
   group = λ tx k. ap (λ (l : Log). groupOf l tx) same;

@@ -14,7 +14,7 @@ use Rattle.log_entry.specs.Limits.{processPlaces, stores}
 use Rattle.log_entry.specs.Refusal.{accepted}
 use Rattle.log_core.specs.declared.Log.{Log}
 use Rattle.log_entry.proofs.Theorems.{outside-exactly}
-use Rattle.log_core.proofs.Limit.{enter-limit, keeps-limit}
+use Rattle.log_core.proofs.Limit.{enter-limit, keeps-limit, opened-limit}
 use Rattle.log_core.proofs.EnterLaws.{answer-is, refusalOf, stored-holder}
 use Rattle.log_core.specs.Decide.{effectOf, partsOf}
 use Rattle.log_core.specs.Enter.{enter, entered, feed, stored}
@@ -81,10 +81,6 @@ early-enter l e early first p =
     holder-cases (λ (x : Holders). getD (x .latest) p 0 ≤ 1) l e (early p)
     (λ ok. set-either (λ (x : ℕ). x ≤ 1) (l .latest) (e .process) p (e .turn) 0 (λ k. omega (arith, first)) (early p))
 
-pub full-empty : emptyLog .stores ≡ stores
-unfolding opened
-full-empty = refl
-
 early-empty : Early emptyLog
 unfolding opened
 early-empty p = replicate-cases (λ (x : ℕ). x ≤ 1) processPlaces p 0 0 (omega arith) (omega arith)
@@ -130,7 +126,7 @@ without-turns es first = record {
     early = early-feed emptyLog es early-empty first
 
     same : reached es ≡ baseReached es
-    same = feed-same emptyLog es full-empty wf-empty early-empty first
+    same = feed-same emptyLog es (opened-limit stores) wf-empty early-empty first
 
     now : (e : Entry) → refusalOf (reached es) e ≡ enter (reached es) e .answer
     now e = sym (answer-is (reached es) e)

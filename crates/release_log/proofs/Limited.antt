@@ -25,7 +25,8 @@ use Rattle.host_records.specs.declared.Numbers.{Numbers}
 use Rattle.host_records.specs.declared.Reading.{Reading}
 use Rattle.host_records.specs.Numbers.{entryOf, readNumbers}
 use Rattle.host_records.specs.Record.{recordSize}
-use Rattle.host_lent.proofs.LentLaws.{after-limit, lent-after, no-such-limit, opened-limit}
+use Rattle.log_core.proofs.Limit.{opened-limit}
+use Rattle.host_lent.proofs.LentLaws.{after-limit, lent-after, no-such-limit}
 use Rattle.host_lent.specs.Lent.{enterReading, lentLog, logAfter, noLimit, recordsEntered, recordsIn}
 use Rattle.release_log.specs.Add.{addAnswer, addBytes}
 use Rattle.release_log.specs.Filled.{entriesIn}
