@@ -446,7 +446,7 @@ extends-run [] w h G = extends-same h
 extends-run (s ∷ steps) w h G =
     extends-trans (extends-step G (trans w h (G .shape .room) (G .few) (λ _ _ a. G .range .sent a) s)) (extends-run steps (stepOf w s .world) (noted w s h) (good-step s w h G))
 
-history-append : (steps next : List Step) (w : World) (h : List Event)
+pub history-append : (steps next : List Step) (w : World) (h : List Event)
     → historyFrom w h (steps ++ next) ≡ historyFrom (run w steps) (historyFrom w h steps) next
 unfolding run historyFrom
 history-append [] next w h = refl

@@ -70,7 +70,7 @@ begins s t x P Q =
     prefix noBatch s t (all-below (length s) (length t) (λ j g. Q .all (decided-later x (P .decided j g .1)) .0))
     (λ j g. sym (Q .all (decided-later x (P .decided j g .1)) .1))
 
-one-sequence : {h : List Event} (s t : List Batch) → IsSequence h s → IsSequence h t → s ≡ t
+pub one-sequence : {h : List Event} (s t : List Batch) → IsSequence h s → IsSequence h t → s ≡ t
 one-sequence s t P Q =
     ext-getD noBatch s t
     (le-antisymm

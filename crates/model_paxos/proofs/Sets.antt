@@ -1,6 +1,6 @@
 -- Sets of acceptors as the binary digits of a number, majorities, and that two of them meet.
 use Prim.Native.Nat.{ℕ, zero, suc, _+_, _*_, _/_, _%_, _^_, max, _≤_, _<_}
-use mathlib.Core.Path.{_≡_, refl, ap, _∙_}
+use mathlib.Core.Path.{_≡_, refl, sym, ap, _∙_}
 use mathlib.Core.Logic.{_⊎_, inl, inr}
 use native.Mathlib.Decide.{ℕ-discrete}
 use native.Mathlib.Omega.{arith}
@@ -122,6 +122,20 @@ ones-in : (n q : ℕ) → q < 2 ^ n → ones q ≡ onesIn n q
 unfolding onesIn ones
 ones-in zero q h = let e : q ≡ 0 = omega arith in rw e refl
 ones-in (suc n) q h = ones-step q ∙ ap (λ x. q % 2 + x) (ones-in n (q / 2) (omega arith))
+
+-- a set with one more has one more
+ones-join : (n a q : ℕ) → a < n → (Has q a → ⊥) → onesIn n (join a q) ≡ suc (onesIn n q)
+unfolding onesIn
+ones-join zero a q h out = absurd (omega arith)
+ones-join (suc n) zero q h out = rw (low-half q) (omega arith)
+ones-join (suc n) (suc a) q h out = rw (high-half (join a (q / 2)) q) (omega (arith, ones-join n a (q / 2) (omega arith) out))
+
+pub ones-with : (n a q : ℕ) → a < n → q < 2 ^ n → (Has q a → ⊥) → ones (with q a) ≡ suc (ones q)
+ones-with n a q h g out =
+    ones-in n (with q a) (with-lt n a q h g)
+    ∙ ap (onesIn n) (with-join q a)
+    ∙ ones-join n a q h out
+    ∙ ap suc (sym (ones-in n q g))
 
 pub majority→ : (n q : ℕ) → q < 2 ^ n → T (majority n q) → Majority n q
 unfolding Majority

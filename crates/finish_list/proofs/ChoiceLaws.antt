@@ -1,0 +1,158 @@
+-- The choice, coordinator by coordinator.
+use Prim.Native.Nat.{ℕ, suc, _+_, _*_, _-_, _<_, _≤_, max, min}
+use mathlib.Core.Bool.{Bool, true, false, _&&_, cond, not, true≢false}
+use mathlib.Core.Logic.{_⊎_, inl, inr}
+use mathlib.Core.Path.{_≡_, refl, ap, sym, _∙_}
+use native.Mathlib.Numerals.{add-one}
+use native.Mathlib.Omega.{arith}
+use borrow.Author.Tests.{eq-eqb, eqb-true, leb-true, ltb-false, ltb-true, ne-eqb, not-true}
+use lib.Dec.{eqb, leb, ltb}
+use lib.ListN.{length}
+use Rattle.log_entry.proofs.Tests.{and-left, and-right, or-cases}
+use Rattle.model_steps.specs.declared.Role.the-variants.{Coord}
+use Rattle.model_steps.specs.Limits.{coordinators, fewestAcceptors, instances, messages, mostAcceptors}
+use Rattle.model_protocol.specs.declared.Coordinator.{Coordinator}
+use Rattle.model_protocol.specs.declared.World.{World}
+use Rattle.model_protocol.specs.Send.{lacksNumbers}
+use Rattle.model_protocol.specs.World.{coordinatorOf, isDown}
+use Rattle.model_finish.specs.declared.Choice.{Choice}
+use Rattle.model_finish.specs.Choice.{allows, ballotOf, choiceOf, chosen, firstFrom, hasWork, highestPromised, isSetUp, lowestOwn}
+use Rattle.model_finish.specs.Such.{numbersNeeded, quorum, upAcceptors, upBelow}
+use Rattle.finish_list.specs.declared.acceptors.Up.{Up}
+use Rattle.finish_list.specs.Up.{Lists}
+use Rattle.finish_list.proofs.UpLaws.{counted}
+
+-- ---- what is asked for whichever the coordinator
+
+pub set-up-few : (n : ℕ) → isSetUp n ≡ true → n ≤ mostAcceptors
+set-up-few n h = go (or-cases (eqb n fewestAcceptors) (eqb n mostAcceptors) h)
+  where
+    go : (eqb n fewestAcceptors ≡ true) ⊎ (eqb n mostAcceptors ≡ true) → n ≤ mostAcceptors
+    go (inl e) = omega (arith, eqb-true n fewestAcceptors e)
+    go (inr e) = omega (arith, eqb-true n mostAcceptors e)
+
+pub not-set-up : (s a b : Bool) → s ≡ false → false ≡ (s && a && b)
+not-set-up true a b h = absurd (true≢false h)
+not-set-up false a b h = refl
+
+pub set-up : (s : Bool) (n m up sent : ℕ) (l : Bool) → s ≡ true → m ≡ quorum n → l ≡ ltb (messages - sent) (2 * n + 2 * m)
+    → (leb m up && not l) ≡ (s && leb (quorum n) up && not (lacksNumbers sent (numbersNeeded n)))
+set-up s n m up sent l h e k = rw (h, k, e)
+
+-- where there are at most five acceptors, all count
+pub allows-is : (w : World) (u : Up) → Lists u (upBelow (w .down) (min (w .acceptors) mostAcceptors))
+    → (isSetUp (w .acceptors) && leb (quorum (w .acceptors)) (u .count) && not (lacksNumbers (w .sent) (numbersNeeded (w .acceptors)))) ≡ allows w
+unfolding allows
+allows-is w u is = go (isSetUp (w .acceptors)) refl
+  where
+    go : (s : Bool) → isSetUp (w .acceptors) ≡ s
+        → (s && leb (quorum (w .acceptors)) (u .count) && not (lacksNumbers (w .sent) (numbersNeeded (w .acceptors))))
+        ≡ (s && leb (quorum (w .acceptors)) (length (upAcceptors w)) && not (lacksNumbers (w .sent) (numbersNeeded (w .acceptors))))
+    go true e =
+        let h = set-up-few (w .acceptors) e in
+        let k : min (w .acceptors) mostAcceptors ≡ w .acceptors = omega (arith, h) in
+        ap (λ (n : ℕ). leb (quorum (w .acceptors)) n && not (lacksNumbers (w .sent) (numbersNeeded (w .acceptors))))
+        (counted u _ is ∙ ap (λ (n : ℕ). length (upBelow (w .down) n)) k)
+    go false e = refl
+
+-- what it says
+pub record Allowed (w : World) : Type 0 where
+  pub few : w .acceptors ≤ mostAcceptors
+  pub quorum-up : quorum (w .acceptors) ≤ length (upAcceptors w)
+  pub numbers : w .sent + numbersNeeded (w .acceptors) ≤ messages
+
+pub allowed : (w : World) → allows w ≡ true → Allowed w
+unfolding allows
+allowed w h =
+    let n = w .acceptors in
+    let s = isSetUp n in
+    let q = leb (quorum n) (length (upAcceptors w)) in
+    let l = lacksNumbers (w .sent) (numbersNeeded n) in
+    let sq : (s && q) ≡ true = and-left (s && q) (not l) h in
+    let r = ltb-false (messages - w .sent) (numbersNeeded n) (not-true l (and-right (s && q) (not l) h)) in
+    record {
+      few = set-up-few n (and-left s q sq);
+      quorum-up = leb-true _ _ (and-right s q sq);
+      numbers = omega (arith, r);
+    }
+
+-- ---- the ballot of a coordinator
+
+pub work-inside : (k : Coordinator) → hasWork k ≡ true → k .applied < instances
+work-inside k h = ltb-true (k .applied) instances (and-right (ltb 0 (k .queue .count)) (ltb (k .applied) instances) h)
+
+pub ballot-of-down : (w : World) (c : ℕ) → isDown (w .down) Coord c ≡ true → 0 ≡ ballotOf w c
+unfolding ballotOf
+ballot-of-down w c h = rw h
+
+module _ (w : World) (c : ℕ) {k : Coordinator} (is : k ≡ coordinatorOf w c) where
+  pub ballot-without-work : isDown (w .down) Coord c ≡ false → hasWork k ≡ false → 0 ≡ ballotOf w c
+  unfolding ballotOf
+  ballot-without-work h g = let e : hasWork (coordinatorOf w c) ≡ false = ap hasWork (sym is) ∙ g in rw (h, e)
+
+  pub ballot-is : {p q r : ℕ} → isDown (w .down) Coord c ≡ false → hasWork k ≡ true → p ≡ highestPromised w (k .applied) (w .acceptors)
+      → q ≡ max (k .round .ballot) p → r ≡ lowestOwn c q → r ≡ ballotOf w c
+  unfolding ballotOf
+  ballot-is h g ep eq er =
+      let e : hasWork (coordinatorOf w c) ≡ true = ap hasWork (sym is) ∙ g in
+      rw (h, e)
+      (er
+      ∙ ap (lowestOwn c) eq
+      ∙ ap (λ (x : ℕ). lowestOwn c (max (k .round .ballot) x)) ep
+      ∙ ap (λ (x : Coordinator). lowestOwn c (max (x .round .ballot) (highestPromised w (x .applied) (w .acceptors)))) is)
+
+-- ---- the first coordinator that can
+
+module _ (w : World) (c : ℕ) where
+  module _ (h : c < coordinators) {b : ℕ} (is : b ≡ ballotOf w c) where
+    one-more : coordinators - c ≡ suc (coordinators - (c + 1))
+    one-more = omega arith
+
+    pub first-found : (b ≡ 0 → ⊥) → chosen c b ≡ firstFrom w c (coordinators - c)
+    unfolding firstFrom
+    first-found k = rw (one-more, sym is, ne-eqb b 0 k)
+
+    pub first-next : b ≡ 0 → firstFrom w c (coordinators - c) ≡ firstFrom w (c + 1) (coordinators - (c + 1))
+    unfolding firstFrom
+    first-next k =
+        rw (one-more, sym is, eq-eqb b 0 k) (ap (λ (x : ℕ). firstFrom w x (coordinators - (c + 1))) (sym (add-one c)))
+
+  pub none-first : coordinators ≤ c → chosen 0 0 ≡ firstFrom w c (coordinators - c)
+  unfolding firstFrom
+  none-first h = let e : coordinators - c ≡ 0 = omega arith in rw e
+
+-- ---- the choice
+
+module _ (w : World) where
+  pub none-chosen : allows w ≡ false → chosen 0 0 ≡ choiceOf w
+  unfolding choiceOf
+  none-chosen h = rw h
+
+  pub first-chosen : {x : Choice} → allows w ≡ true → x ≡ firstFrom w 0 coordinators → x ≡ choiceOf w
+  unfolding choiceOf
+  first-chosen h e = rw h e
+
+  first-coordinator : (c k : ℕ) → c + k ≤ coordinators → firstFrom w c k .coord < coordinators
+  unfolding firstFrom
+  first-coordinator c ℕ.zero h = omega arith
+  first-coordinator c (suc k) h = go (first-coordinator (suc c) k (omega arith)) (eqb (ballotOf w c) 0)
+    where
+      go : firstFrom w (suc c) k .coord < coordinators → (t : Bool) → cond t (firstFrom w (suc c) k) (chosen c (ballotOf w c)) .coord < coordinators
+      go later true = later
+      go later false = omega (arith, h)
+
+  pub choice-coordinator : choiceOf w .coord < coordinators
+  unfolding choiceOf
+  choice-coordinator = go (allows w)
+    where
+      go : (t : Bool) → cond t (firstFrom w 0 coordinators) (chosen 0 0) .coord < coordinators
+      go true = first-coordinator 0 coordinators (omega arith)
+      go false = omega arith
+
+  pub chosen-allows : (choiceOf w .ballot ≡ 0 → ⊥) → allows w ≡ true
+  unfolding choiceOf
+  chosen-allows h = go (allows w) h
+    where
+      go : (t : Bool) → (cond t (firstFrom w 0 coordinators) (chosen 0 0) .ballot ≡ 0 → ⊥) → t ≡ true
+      go true k = refl
+      go false k = absurd (k refl)

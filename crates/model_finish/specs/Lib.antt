@@ -1,0 +1,5 @@
+pub mod Cases
+pub mod Choice
+pub mod Claims
+pub mod Closing
+pub mod Such
