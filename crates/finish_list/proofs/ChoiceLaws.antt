@@ -55,26 +55,12 @@ allows-is w u is = go (isSetUp (w .acceptors)) refl
         (counted u _ is ∙ ap (λ (n : ℕ). length (upBelow (w .down) n)) k)
     go false e = refl
 
--- what it says
-pub record Allowed (w : World) : Type 0 where
-  pub few : w .acceptors ≤ mostAcceptors
-  pub quorum-up : quorum (w .acceptors) ≤ length (upAcceptors w)
-  pub numbers : w .sent + numbersNeeded (w .acceptors) ≤ messages
-
-pub allowed : (w : World) → allows w ≡ true → Allowed w
+pub allowed-few : (w : World) → allows w ≡ true → w .acceptors ≤ mostAcceptors
 unfolding allows
-allowed w h =
+allowed-few w h =
     let n = w .acceptors in
-    let s = isSetUp n in
-    let q = leb (quorum n) (length (upAcceptors w)) in
-    let l = lacksNumbers (w .sent) (numbersNeeded n) in
-    let sq : (s && q) ≡ true = and-left (s && q) (not l) h in
-    let r = ltb-false (messages - w .sent) (numbersNeeded n) (not-true l (and-right (s && q) (not l) h)) in
-    record {
-      few = set-up-few n (and-left s q sq);
-      quorum-up = leb-true _ _ (and-right s q sq);
-      numbers = omega (arith, r);
-    }
+    let up = leb (quorum n) (length (upAcceptors w)) in
+    set-up-few n (and-left (isSetUp n) up (and-left (isSetUp n && up) (not (lacksNumbers (w .sent) (numbersNeeded n))) h))
 
 -- ---- the ballot of a coordinator
 
@@ -131,28 +117,3 @@ module _ (w : World) where
   pub first-chosen : {x : Choice} → allows w ≡ true → x ≡ firstFrom w 0 coordinators → x ≡ choiceOf w
   unfolding choiceOf
   first-chosen h e = rw h e
-
-  first-coordinator : (c k : ℕ) → c + k ≤ coordinators → firstFrom w c k .coord < coordinators
-  unfolding firstFrom
-  first-coordinator c ℕ.zero h = omega arith
-  first-coordinator c (suc k) h = go (first-coordinator (suc c) k (omega arith)) (eqb (ballotOf w c) 0)
-    where
-      go : firstFrom w (suc c) k .coord < coordinators → (t : Bool) → cond t (firstFrom w (suc c) k) (chosen c (ballotOf w c)) .coord < coordinators
-      go later true = later
-      go later false = omega (arith, h)
-
-  pub choice-coordinator : choiceOf w .coord < coordinators
-  unfolding choiceOf
-  choice-coordinator = go (allows w)
-    where
-      go : (t : Bool) → cond t (firstFrom w 0 coordinators) (chosen 0 0) .coord < coordinators
-      go true = first-coordinator 0 coordinators (omega arith)
-      go false = omega arith
-
-  pub chosen-allows : (choiceOf w .ballot ≡ 0 → ⊥) → allows w ≡ true
-  unfolding choiceOf
-  chosen-allows h = go (allows w) h
-    where
-      go : (t : Bool) → (cond t (firstFrom w 0 coordinators) (chosen 0 0) .ballot ≡ 0 → ⊥) → t ≡ true
-      go true k = refl
-      go false k = absurd (k refl)

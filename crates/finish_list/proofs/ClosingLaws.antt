@@ -1,6 +1,5 @@
 -- The list of a coordinator that can close its current instance: its message numbers and its text.
 use Prim.Native.Nat.{ℕ, zero, suc, _+_, _<_, _≤_, min}
-use mathlib.Core.Bool.{true}
 use mathlib.Core.List.{List, [], _∷_, _++_}
 use mathlib.Core.Path.{_≡_, refl, ap, sym, _∙_}
 use native.Mathlib.Omega.{arith}
@@ -8,19 +7,21 @@ use borrow.Author.Tests.{eq-eqb, ne-eqb}
 use lib.ListN.{getD, length}
 use Rattle.model_steps.specs.declared.Step.{Step}
 use Rattle.model_steps.specs.declared.Step.the-variants.{Open, Propose}
-use Rattle.model_steps.specs.Limits.{coordinators, messages, mostAcceptors}
+use Rattle.model_steps.specs.Limits.{messages, mostAcceptors}
 use Rattle.model_protocol.specs.declared.World.{World}
 use Rattle.model_finish.specs.declared.Choice.{Choice}
-use Rattle.model_finish.specs.Choice.{allows, choiceOf}
+use Rattle.model_finish.specs.Choice.{choiceOf}
 use Rattle.model_finish.specs.Closing.{acceptNumber, acceptedNumber, closing, deliveries, prepareNumber, promiseNumber}
-use Rattle.model_finish.specs.Such.{currentOf, quorum, upAcceptor, upAcceptors, upBelow}
+use Rattle.model_finish.specs.Such.{Such, currentOf, quorum, upAcceptor, upAcceptors, upBelow}
+use Rattle.model_finish.proofs.ChoiceLaws.{choice-exactly}
+use Rattle.model_finish.proofs.SuchLaws.{few}
+use Rattle.model_finish.proofs.UpAcceptors.{asked-are-lowest}
 use Rattle.finish_list.specs.declared.acceptors.Up.{Up}
 use Rattle.finish_list.specs.Longest.{openName, proposeName}
 use Rattle.finish_list.specs.Text.{finishText, stepsText}
 use Rattle.finish_list.specs.Up.{Lists}
-use Rattle.finish_list.proofs.ChoiceLaws.{Allowed, choice-coordinator, chosen-allows}
 use Rattle.finish_list.proofs.TextLaws.{list-text, open-text, propose-text, roundLine, same-run, steps-append}
-use Rattle.finish_list.proofs.UpLaws.{below, listed}
+use Rattle.finish_list.proofs.UpLaws.{listed}
 
 -- ---- the deliveries to m acceptors and of their answers
 
@@ -53,45 +54,42 @@ module _ (first n m : ℕ) (room : first + n + m ≤ messages) where
 
 -- ---- the whole list
 
-module _ (w : World) (a : Allowed w) (u : Up) (is : Lists u (upBelow (w .down) (min (w .acceptors) mostAcceptors))) where
+module _ (w : World) {c : ℕ} (such : Such w c) (u : Up) (is : Lists u (upBelow (w .down) (min (w .acceptors) mostAcceptors))) where
   abbrev n : ℕ
   n = w .acceptors
 
   all-count : upBelow (w .down) (min n mostAcceptors) ≡ upAcceptors w
   all-count =
-      let few = a .few in
-      let e : min n mostAcceptors ≡ n = omega arith in
+      let e : min n mostAcceptors ≡ n = omega (arith, few such) in
       ap (upBelow (w .down)) e
 
   asked : (k : ℕ) → k < quorum n → getD (u .ids) k 0 ≡ upAcceptor w k
   asked k h =
       let e : length (upBelow (w .down) (min n mostAcceptors)) ≡ length (upAcceptors w) = ap length all-count in
-      listed u _ is k (omega (arith, e, a .quorum-up))
+      listed u _ is k (omega (arith, e, such .quorum-up))
       ∙ ap (λ (l : List ℕ). getD l k 0) all-count
 
   module _ {m : ℕ} (quorum-is : m ≡ quorum n) where
     pub few-asked : m ≤ quorum mostAcceptors
-    few-asked = omega (arith, a .few)
+    few-asked = omega (arith, few such)
 
     pub asked-below : (k : ℕ) → k < m → getD (u .ids) k 0 < n
-    asked-below k h =
-        let j : k < quorum n = omega arith in
-        rw (asked k j) (below (w .down) n k (omega (arith, a .quorum-up)))
+    asked-below k h = let j : k < quorum n = omega arith in rw (asked k j) (asked-are-lowest w c such .is-acceptor k j)
 
     pub first-room : w .sent + n + m ≤ messages
-    first-room = omega (arith, a .numbers)
+    first-room = omega (arith, such .numbers)
 
     pub second-room : w .sent + n + m + n + m ≤ messages
-    second-room = omega (arith, a .numbers)
+    second-room = omega (arith, such .numbers)
 
-    pub closing-text : (c b : ℕ) {i : ℕ} → i ≡ currentOf w c
+    pub closing-text : (b : ℕ) {i : ℕ} → i ≡ currentOf w c
         → roundLine openName c i b
         ++ stepsText (deliveries (λ k. w .sent + getD (u .ids) k 0) m ++ deliveries (λ k. w .sent + n + k) m)
         ++ roundLine proposeName c i b
         ++ stepsText (deliveries (λ k. w .sent + n + m + getD (u .ids) k 0) m ++ deliveries (λ k. w .sent + n + m + n + k) m)
         ≡ stepsText (closing w c b)
     unfolding closing
-    closing-text c b current =
+    closing-text b current =
         let q = quorum n in
         let prepares = same-run (λ k. w .sent + getD (u .ids) k 0) (prepareNumber w) q (λ k h. ap (λ (x : ℕ). w .sent + x) (asked k h)) in
         let accepts = same-run (λ k. w .sent + n + q + getD (u .ids) k 0) (acceptNumber w) q (λ k h. ap (λ (x : ℕ). w .sent + n + q + x) (asked k h)) in
@@ -108,11 +106,8 @@ module _ (w : World) {x : Choice} (is : x ≡ choiceOf w) where
   unfolding stepsText
   nothing-text h = rw (sym is, eq-eqb (x .ballot) 0 h)
 
-  pub chosen-can : (x .ballot ≡ 0 → ⊥) → allows w ≡ true
-  chosen-can h = chosen-allows w (λ k. h (ap (λ (y : Choice). y .ballot) is ∙ k))
-
-  pub chosen-coordinator : x .coord < coordinators
-  chosen-coordinator = rw is (choice-coordinator w)
+  pub chosen-such : (x .ballot ≡ 0 → ⊥) → Such w (x .coord)
+  chosen-such h = rw is (choice-exactly w .lowest (omega (arith, ap (λ (y : Choice). y .ballot) is)) .such)
 
   pub chosen-text : (x .ballot ≡ 0 → ⊥) → stepsText (closing w (x .coord) (x .ballot)) ≡ finishText w
   chosen-text h = rw (sym is, ne-eqb (x .ballot) 0 h)

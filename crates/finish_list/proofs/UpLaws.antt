@@ -1,14 +1,12 @@
 -- The acceptors that are up, found one after the other.
-use Prim.Native.Nat.{ℕ, suc, _+_, _-_, _<_, _≤_, min}
-use mathlib.Core.Bool.{Bool, true, false, cond}
+use Prim.Native.Nat.{ℕ, _+_, _<_, _≤_, min}
+use mathlib.Core.Bool.{true, false}
 use mathlib.Core.List.{List, [], _∷_, _++_, append-nil}
-use mathlib.Core.Logic.{_⊎_, inl, inr}
 use mathlib.Core.Path.{_≡_, refl, ap, sym, _∙_}
 use native.Mathlib.Numerals.{add-one}
 use native.Mathlib.Omega.{arith}
-use lib.ListN.{List·getD-append, getD, length, length-append, length-set, length-take, set, take}
-use lib.Seq.{getD-append-add, getD-take, take-suc-set}
-use Rattle.log_entry.proofs.Tests.{below-or-not}
+use lib.ListN.{getD, length, length-set, length-take, set, take}
+use lib.Seq.{getD-take, take-suc-set}
 use Rattle.model_steps.specs.declared.Role.the-variants.{Acceptor}
 use Rattle.model_steps.specs.Limits.{mostAcceptors}
 use Rattle.model_protocol.specs.declared.Down.{Down}
@@ -72,17 +70,3 @@ module _ (u : Up) (list : List ℕ) (is : Lists u list) where
   listed k h =
       sym (getD-take (u .count) (u .ids) k 0 (omega (arith, counted, h)))
       ∙ ap (λ (l : List ℕ). getD l k 0) (is .items)
-
--- each of the acceptors below n is below n
-pub below : (d : Down) (n k : ℕ) → k < length (upBelow d n) → getD (upBelow d n) k 0 < n
-unfolding upBelow
-below d ℕ.zero k h = absurd (omega (arith, h))
-below d (suc a) k h = go (below d a k) (isDown d Acceptor a) h (below-or-not k (length (upBelow d a)))
-  where
-    go : (k < length (upBelow d a) → getD (upBelow d a) k 0 < a) → (t : Bool) → k < length (upBelow d a ++ cond t [] (a ∷ [])) → (k < length (upBelow d a)) ⊎ (length (upBelow d a) ≤ k)
-        → getD (upBelow d a ++ cond t [] (a ∷ [])) k 0 < suc a
-    go lower t m (inl g) = let z = lower g in rw (List·getD-append (upBelow d a) (cond t [] (a ∷ [])) 0 k g) (omega (arith, z))
-    go lower true m (inr g) = absurd (omega (arith, m, length-append (upBelow d a) []))
-    go lower false m (inr g) =
-        let e : k ≡ length (upBelow d a) + 0 = omega (arith, m, length-append (upBelow d a) (a ∷ [])) in
-        rw (e, getD-append-add (upBelow d a) (a ∷ []) 0 0) (omega arith)

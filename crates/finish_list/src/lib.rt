@@ -1,13 +1,10 @@
 // The list of steps with which a coordinator closes its current instance, as lines of a step file.
 ghost use Prim.Native.Nat.{_+_, _*_, _<_, _≤_, ℕ};
-ghost use mathlib.Core.Bool.{true};
 ghost use mathlib.Core.List.{_++_};
-ghost use mathlib.Core.Path.{_≡_};
 ghost use lib.ListN.{getD};
-ghost use Rattle.model_steps.specs.Limits.{coordinators, messages, mostAcceptors};
-ghost use Rattle.model_finish.specs.Choice.{allows};
+ghost use Rattle.model_steps.specs.Limits.{messages, mostAcceptors};
 ghost use Rattle.model_finish.specs.Closing.{closing, deliveries};
-ghost use Rattle.model_finish.specs.Such.{quorum};
+ghost use Rattle.model_finish.specs.Such.{Such, quorum};
 ghost use Rattle.text_report.specs.Within.{Within};
 ghost use Rattle.finish_list.specs.Longest.{longestList, longestRun};
 ghost use Rattle.finish_list.specs.Text.{finishText, stepsText};
@@ -71,8 +68,7 @@ fn put_exchange(
 
 // The list with which the coordinator closes its current instance under the ballot.
 fn put_closing(out: &mut [u8], at: usize, w: World, coord: u8, ballot: u8) -> usize
-    requires { ⌜ allows w ≡ true ⌝ }
-    requires { ⌜ coord < coordinators ⌝ }
+    requires { ⌜ Such w coord ⌝ }
     ensures { λ r. ⌜ Within longestList (now (out .entry)) at (stepsText (closing w coord ballot)) (now (out .exit)) r ⌝ }
 {
     let c = w.coordinators[coord as usize];

@@ -4,5 +4,6 @@ pub mod ChoiceLaws
 pub mod Phases
 pub mod Running
 pub mod Sending
+pub mod SuchLaws
 pub mod Theorem
 pub mod UpAcceptors

@@ -47,6 +47,7 @@ use Rattle.model_finish.specs.Closing.{acceptNumber, acceptedNumber, clo
 use Rattle.model_finish.specs.Such.{OwnBallot, Such, currentOf, numbersNeeded, quorum, upAcceptor}
 use Rattle.model_finish.proofs.AcceptedSteps.{InRange, accept-goes, accepted-counts, accepted-learns, open-goes, prepare-goes, promise-goes, propose-goes}
 use Rattle.model_finish.proofs.Running.{Ends, Goes, Holding, ends-append, ends-as, ends-deliveries, goes-to}
+use Rattle.model_finish.proofs.SuchLaws.{few, live}
 use Rattle.model_finish.proofs.Sending.{filled-length, filled-new, filled-old}
 
 -- the rows of the world have their places
@@ -188,25 +189,11 @@ module _ (w₀ : World) (h₀ : List Event) (b : ℕ) where
     pub after : k ≡ m → coordinatorOf w c .applied ≡ i + 1
 
   module _ (such : Such w₀ c) (ballot : OwnBallot w₀ c b) (asked : LowestUp w₀) (rows₀ : Rows w₀) where
-    few : n ≤ mostAcceptors
-    few = go (such .set-up)
-      where
-        go : (n ≡ 3) ⊎ (n ≡ 5) → n ≤ mostAcceptors
-        go (inl e) = omega arith
-        go (inr e) = omega arith
-
-    live : 0 < n
-    live = go (such .set-up)
-      where
-        go : (n ≡ 3) ⊎ (n ≡ 5) → 0 < n
-        go (inl e) = omega arith
-        go (inr e) = omega arith
-
     in-range : InRange c i b
     in-range = record { coordinator = such .coordinator; instance = such .current; positive = ballot .positive; ballot = ballot .within }
 
     is-acceptor : (k : ℕ) → k < m → u k < mostAcceptors
-    is-acceptor k h = omega (arith, asked .is-acceptor k h, few)
+    is-acceptor k h = omega (arith, asked .is-acceptor k h, few such)
 
     numbers : s + n + m + n + m ≤ messages
     numbers = omega (arith, such .numbers)
@@ -248,7 +235,7 @@ module _ (w₀ : World) (h₀ : List Event) (b : ℕ) where
     opens : Goes w₀ h₀ (Open c i b) (Prepared 0)
     opens =
         goes-to (Prepared 0) w₀ h₀ (Open c i b) v
-        (open-goes w₀ c i b in-range (such .up) live refl (omega (arith, numbers)) refl (ballot .above-opened)
+        (open-goes w₀ c i b in-range (such .up) (live such) refl (omega (arith, numbers)) refl (ballot .above-opened)
         ∙ ap (λ (x : World). answered x accepted) (send-posts (withCoordinator w₀ c new) n (prepareTo i b)))
         (record {
           frame = record {
@@ -311,7 +298,7 @@ module _ (w₀ : World) (h₀ : List Event) (b : ℕ) where
     is-up f k l = ap (λ (d : Down). isDown d Acceptor (u k)) (f .down) ∙ asked .is-up k l
 
     live-in : {w : World} {h : List Event} → Frame w h → 0 < w .acceptors
-    live-in f = omega (arith, f .acceptors, live)
+    live-in f = omega (arith, f .acceptors, live such)
 
     prepares-go : (k : ℕ) → k < m → (w : World) (h : List Event) → Prepared k w h → Goes w h (Deliver (prepareNumber w₀ k)) (Prepared (suc k))
     prepares-go k l w h p =

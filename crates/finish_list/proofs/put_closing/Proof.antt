@@ -7,9 +7,8 @@ use Rattle.log_votes.proofs.InList.{in-list}
 use Rattle.model_steps.specs.Limits.{messages, mostAcceptors}
 use Rattle.model_protocol.specs.declared.Coordinator.{Coordinator}
 use Rattle.model_protocol.specs.World.{freshCoordinator}
-use Rattle.model_finish.specs.Such.{quorum}
+use Rattle.model_finish.specs.Such.{Such, quorum}
 use Rattle.text_report.proofs.Lengths.{within-as, within-more, within-room}
-use Rattle.finish_list.proofs.ChoiceLaws.{Allowed, allowed}
 use Rattle.finish_list.proofs.ClosingLaws.{asked-below, closing-text, few-asked, first-room, second-room}
 use Rattle.finish_list.proofs.Lengths.{coordinator-places}
 use Rattle.finish_list.proofs.put_closing.Statement.{statement}
@@ -23,24 +22,24 @@ Asked = tie.After-up-below
 abbrev start : Asked → tie.Start
 start u = u .before .before .before .before .before
 
-can : (u : Asked) → Allowed (start u .args .t3)
-can u = allowed _ (start u .pre .0)
+such : (u : Asked) → Such (start u .args .t3) (start u .args .coord)
+such u = start u .pre
 
 there : (s : tie.Start) → s .args .coord < length (s .args .t3 .coordinators)
-there s = omega (arith, coordinator-places (s .args .t3) _ (s .good .1 .1 .0), s .pre .1)
+there s = omega (arith, coordinator-places (s .args .t3) _ (s .good .1 .1 .0), s .pre .coordinator)
 
 few-here : (u : Asked) → u .before .quorum .result ≤ quorum mostAcceptors
-few-here u = few-asked _ (can u) _ (u .up-below .ensures) (u .before .quorum .ensures)
+few-here u = few-asked _ (such u) _ (u .up-below .ensures) (u .before .quorum .ensures)
 
 below-here : (u : Asked) (k : ℕ) → k < u .before .quorum .result → getD (u .up-below .result .ids) k 0 < start u .args .t3 .acceptors
-below-here u = asked-below _ (can u) _ (u .up-below .ensures) (u .before .quorum .ensures)
+below-here u = asked-below _ (such u) _ (u .up-below .ensures) (u .before .quorum .ensures)
 
 room : (u : Asked)
     → start u .args .t3 .sent + start u .args .t3 .acceptors + u .before .quorum .result + start u .args .t3 .acceptors + u .before .quorum .result ≤ messages
-room u = second-room _ (can u) _ (u .up-below .ensures) (u .before .quorum .ensures)
+room u = second-room _ (such u) _ (u .up-below .ensures) (u .before .quorum .ensures)
 
 put-exchange-requires : tie.Need-put-exchange-requires
-put-exchange-requires c κs = let u = c .before .before .before .before .before .before .before in (few-here u, (below-here u, first-room _ (can u) _ (u .up-below .ensures) (u .before .quorum .ensures)))
+put-exchange-requires c κs = let u = c .before .before .before .before .before .before .before in (few-here u, (below-here u, first-room _ (such u) _ (u .up-below .ensures) (u .before .quorum .ensures)))
 
 add-put-exchange : tie.Need-add-put-exchange
 add-put-exchange c = let u = c .before .before .before .before .before .before .before .before .before .before .before .before .before .before .before .before in omega (arith, room u)
@@ -57,7 +56,7 @@ returns c =
     let s = u .before .before .before .before .before in
     within-room
     (within-as
-    (closing-text _ (can u) _ (u .up-below .ensures) (u .before .quorum .ensures) _ _ (ap (λ (k : Coordinator). k .applied) (in-list (s .args .t3 .coordinators) (s .args .coord) _ freshCoordinator (there s))))
+    (closing-text _ (such u) _ (u .up-below .ensures) (u .before .quorum .ensures) _ (ap (λ (k : Coordinator). k .applied) (in-list (s .args .t3 .coordinators) (s .args .coord) _ freshCoordinator (there s))))
     (within-more (within-more (within-more (c .before .before .before .before .before .before .before .before .before .before .before .before .before .before .before .round-line .ensures) (c .before .before .before .before .before .before .before .before .before .before .before .put-exchange .ensures)) (c .before .before .before .before .before .before .round-line2 .ensures)) (c .before .before .put-exchange2 .ensures)))
     (omega arith)
 

@@ -1,7 +1,7 @@
 use borrow.Author.Needs.{needs}
 use Rattle.text_report.proofs.Lengths.{within-as, within-nothing}
 use Rattle.finish_list.specs.Longest.{longestList}
-use Rattle.finish_list.proofs.ClosingLaws.{chosen-can, chosen-coordinator, chosen-text, nothing-text}
+use Rattle.finish_list.proofs.ClosingLaws.{chosen-such, chosen-text, nothing-text}
 use Rattle.finish_list.proofs.put_finishing.Statement.{statement}
 use Rattle.finish_list.proofs.put_finishing.Tie as tie
 
@@ -11,8 +11,7 @@ returns c = within-as (nothing-text _ (c .before .before .choose .ensures) (c .i
 put-closing-requires : tie.Need-put-closing-requires
 put-closing-requires c κs =
     let e = c .before in
-    let is = e .before .before .choose .ensures in
-    (chosen-can _ is (e .if1 .left), chosen-coordinator _ is)
+    chosen-such _ (e .before .before .choose .ensures) (e .if1 .left)
 
 returns-2 : tie.Need-returns-2
 returns-2 c =
