@@ -81,7 +81,7 @@ such-closes steps c b such ballot =
 
 -- ---- with demand 3
 
-run-append : (steps next : List Step) (w : World) → run w (steps ++ next) ≡ run (run w steps) next
+pub run-append : (steps next : List Step) (w : World) → run w (steps ++ next) ≡ run (run w steps) next
 unfolding run
 run-append [] next w = refl
 run-append (s ∷ steps) next w = run-append steps next (stepOf w s .world)

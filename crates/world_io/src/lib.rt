@@ -34,7 +34,7 @@ fn read_more(fd: i32, buffer: &mut [u8], mut reading: Reading) -> Reading
 }
 
 // Fed all pieces, up to the end of the input or to line 1,001.
-fn read_all(fd: i32, buffer: &mut [u8]) -> Reading
+pub fn read_all(fd: i32, buffer: &mut [u8]) -> Reading
     ensures { λ r. ⌜ WasRead r ⌝ }
 {
     let input = Input::fresh();

@@ -1,0 +1,3 @@
+pub mod Continued
+pub mod FileLines
+pub mod LineTexts

@@ -1,0 +1,4 @@
+pub mod Claims
+pub mod Joined
+pub mod Printed
+pub mod Program
