@@ -2,6 +2,7 @@
 from plain_log import FIRST_TURN, LAST_TURN, SHORT_DIGITS, STORES, TXS, UPDATE_DIGITS, Vote
 from plain_log import update_text
 from update_texts import BORDERS
+from world_reference import BALLOTS, COORDINATORS
 from world_script import Script
 
 
@@ -109,13 +110,6 @@ def random_script(seed):
     return script
 
 
-def next_ballot(script, c):
-    """The least ballot of the coordinator's above all that its current instance has seen."""
-    now = script.world.coordinators[c]
-    ballot = max([now.opened] + [a.promised[now.applied] for a in script.world.acceptors]) + 1
-    return ballot + (c - ballot) % 3
-
-
 def guided_round(script, draw, hostile):
     """Some steps, then mostly an instance that a coordinator brings near its end, and restores."""
     world = script.world
@@ -124,7 +118,7 @@ def guided_round(script, draw, hostile):
         random_step(script, draw, hostile)
     c = draw.below(3)
     now = world.coordinators[c]
-    ballot = next_ballot(script, c)
+    ballot = world.next_ballot(c)
     first = draw.below(acceptors)
     among = [(first + k) % acceptors for k in range(acceptors // 2 + 1)]
     if draw.below(4) and ballot < 256:
@@ -262,7 +256,7 @@ def learned(script, draw, c, requests):
     first = draw.below(count)
     among = [(first + k) % count for k in range(count // 2 + 1)]
     for phase in (script.open, script.propose):
-        ballot = next_ballot(script, c) if phase == script.open else now.opened or 1
+        ballot = script.world.next_ballot(c) if phase == script.open else now.opened or 1
         sent = phase(c, now.applied, ballot)
         if sent:
             script.deliver(*script.deliver(*(sent[a] for a in among)))
@@ -459,6 +453,50 @@ def returned_script(seed):
             strays = {0: some_back, 1: other_turn, 2: other_turn}
             strays.get(draw.below(12), any_step)(script, draw)
     all_again(script, draw)
+    return script
+
+
+# Instances that stall
+
+
+def last_ballot(c):
+    return BALLOTS - (BALLOTS - c) % COORDINATORS
+
+
+def some_ballot(script, draw, c):
+    """Mostly the coordinator's next one; at times a later one, or one of its last."""
+    following = script.world.next_ballot(c)
+    later, last = following + 3 * draw.below(4), last_ballot(c) - 3 * draw.below(3)
+    return draw.of([following, following, following, later, later, last])
+
+
+def stalls(script, draw):
+    """A coordinator opens and maybe proposes; some of the messages arrive, and nobody goes on."""
+    c = draw.below(3)
+    now = script.world.coordinators[c]
+    prepares = script.open(c, now.applied, some_ballot(script, draw, c))
+    promises = script.deliver(*(number for number in prepares if draw.below(3)))
+    script.deliver(*(number for number in promises if draw.below(6)))
+    accepts = script.propose(c, now.applied, now.opened or 1)
+    acceptances = script.deliver(*(number for number in accepts if not draw.below(3)))
+    script.deliver(*(number for number in acceptances if draw.below(2)))
+
+
+def some_requests(script, draw):
+    """Takes to any coordinator, mostly delivered."""
+    for _ in range(1 + draw.below(4)):
+        sent = script.take(1 + draw.below(6), draw.below(4), draw.below(3))
+        script.deliver(*(number for number in sent if draw.below(6)))
+
+
+def stalled_script(seed):
+    """Requests, instances that stall or are learned, and crashes."""
+    draw = Draw(seed)
+    script = Script(draw.of([3, 3, 5]))
+    some_requests(script, draw)
+    for _ in range(1 + draw.below(7)):
+        parts = [stalls, stalls, stalls, some_requests, some_requests, instances, crashes]
+        draw.of(parts)(script, draw)
     return script
 
 

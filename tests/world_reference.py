@@ -4,6 +4,7 @@
     world_reference.py < STEPS          prints what `world` prints
     world_reference.py check DIR        compares each DIR/NAME.steps with DIR/NAME.out
 """
+import itertools
 from collections import namedtuple
 
 from plain_log import (
@@ -14,6 +15,7 @@ from plain_log import (
     Reader,
     Take,
     Vote,
+    answers,
     lowest,
     malformed,
     printed,
@@ -289,6 +291,13 @@ class World:
     def acceptor_count(self):
         return 5 if self.acceptors is None else len(self.acceptors)
 
+    def next_ballot(self, coord):
+        """The lowest ballot of the coordinator's above all that any acceptor, up or down, promised
+        in its current instance and above the last that it opened there. It may be past the last."""
+        c = self.coordinators[coord]
+        seen = max([c.opened] + [a.promised[c.applied] for a in self.acceptors])
+        return next(b for b in itertools.count(seen + 1) if b % COORDINATORS == coord)
+
     def lines(self):
         for i, c in enumerate(self.coordinators):
             yield "coord=%d applied=%d" % (i, c.applied)
@@ -351,6 +360,14 @@ def answer(world, line):
     if any(values[key] not in within[key] for key in values if key in within):
         return 2
     return getattr(world, name)(*values.values())
+
+
+def world_after(data):
+    """The world at the end of an input."""
+    world = World()
+    for _ in answers(world, answer, data):
+        pass
+    return world
 
 
 def run(data):

@@ -5,8 +5,8 @@ from plain_log import SHORT_DIGITS, UPDATE_DIGITS, joined, update_text
 from world_script import Script
 
 LINES, BYTES = 1000, 100
-# A piece is as long as the buffer for the output.
-PIECES = {"plain": 36230, "world": 131270}
+# The longest piece. In `plain` and `world` it is as long as the buffer for the output.
+PIECES = {"plain": 36230, "world": 131270, "finish": 4096}
 LARGEST = 2**64 - 1
 
 
@@ -30,7 +30,7 @@ def short(name):
         script.queue(script.take(1, 0))
         script.back(1, 255)
         script.take(1, 0)
-        rows = script.rows + [b"do=open coord=0 inst=0 ballot=999", b"do=crash role=proc id=2"]
+        rows = script.rows + [b"do=open coord=0 inst=0 ballot=999", b"do=crash role=acceptor id=0"]
     return joined(rows + [b"", b"x" * (BYTES + 1)])[:-1]
 
 
@@ -54,7 +54,7 @@ def whole(name):
 
 
 def longest(name):
-    rows = {"plain": longest_plain, "world": longest_world}[name]()
+    rows = {"plain": longest_plain, "world": longest_world, "finish": longest_finish}[name]()
     assert len(rows) == LINES + 1
     return [("the longest output", joined(rows))]
 
@@ -92,3 +92,13 @@ def handed_on(votes):
     for tx in range(31, 31 - votes, -1):
         script.deliver(*script.tell(0, 15, tx))
     return script
+
+
+def longest_finish():
+    """A list for five acceptors whose numbers and ballot have three digits. No output is longer:
+    with five acceptors there are numbers for no instance of two digits."""
+    script = Script(5)
+    script.queue(script.take(1, 0))
+    script.open(0, 0, 99)
+    script.leave(16)
+    return script.rows + [b"x"] * (LINES + 1 - len(script.rows))
