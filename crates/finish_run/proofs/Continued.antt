@@ -1,7 +1,7 @@
 -- The list of an input closes one more instance, and its lines continue the file.
 use Prim.Native.Nat.{ℕ, suc, _+_, _≤_, _<_}
 use native.Mathlib.Omega.{arith}
-use mathlib.Core.Bool.{Bool, true, false, cond}
+use mathlib.Core.Bool.{Bool, true, false}
 use mathlib.Core.List.{List, [], _∷_, _++_, append-assoc, map}
 use mathlib.Core.Path.{_≡_, ap, refl, subst, sym, _∙_}
 use borrow.Author.Tests.{eqb-false, eqb-true, le-ltb, lt-leb}
@@ -30,7 +30,7 @@ use Rattle.world_run.specs.Program.{answersFor, worldFor}
 use Rattle.world_run.specs.Steps.{stepOfLine, stepsIn, stepsOf}
 use Rattle.world_run.proofs.Answers.{few-counted}
 use Rattle.world_run.proofs.Meaning.{input-runs}
-use Rattle.finish_run.specs.Claims.{Continues, EveryListCloses, FileContinues, LinesLeft, ListCloses}
+use Rattle.finish_run.specs.Claims.{EveryListCloses, FileContinues, LinesLeft, ListCloses}
 use Rattle.finish_run.specs.Joined.{joined}
 use Rattle.finish_run.specs.Program.{finish, listFor}
 use Rattle.finish_run.proofs.FileLines.{Each, lines-joined, lines-of-steps, noLf}

@@ -1,22 +1,22 @@
 -- The lines of the list: none has an LF in it, none is too long, and each reads as its step.
 use Prim.Native.Nat.{ℕ, suc, _+_, _/_, _%_, _≤_, _<_}
 use native.Mathlib.Omega.{arith}
-use mathlib.Core.Bool.{Bool, true, false, _&&_, _||_, cond, not}
+use mathlib.Core.Bool.{Bool, true, false, _||_, cond, not}
 use mathlib.Core.List.{List, [], _∷_, _++_}
 use mathlib.Core.Logic.{inl}
-use mathlib.Core.Path.{_≡_, ap, refl, sym, _∙_}
+use mathlib.Core.Path.{_≡_, refl, sym, _∙_}
 use borrow.Author.Tests.{leb-false, ltb-false, ne-eqb}
 use lib.Dec.{eqb, leb, ltb}
 use lib.ListN.{length, length-append}
 use Rattle.log_entry.specs.Refusal.{accepted, firstRefusal}
-use Rattle.log_entry.proofs.Tests.{both, neither-left, neither-right}
+use Rattle.log_entry.proofs.Tests.{and-left, and-right, both, neither-left, neither-right}
 use Rattle.model_protocol.specs.declared.World.{World}
 use Rattle.model_protocol.specs.Step.{acceptorsCounted, partsOf, stepOf, stepRefusal}
 use Rattle.model_protocol.proofs.Unchanged.{answer-is-refusal}
 use Rattle.model_steps.specs.declared.Step.{Step}
 use Rattle.model_steps.specs.declared.Step.the-variants.{Setup, Request, Open, Propose, Deliver, Tell, Restore, Follow, Crash, Back}
 use Rattle.model_steps.specs.Limits.{ballots, coordinators, instances, messages, noBallot, noCoordinator, outsideStep}
-use Rattle.text_ascii.specs.Decimal.{decimal, decimalWithin, digit}
+use Rattle.text_ascii.specs.Decimal.{byteNumbers, decimal, decimalWithin, digit}
 use Rattle.text_entry.specs.Entry.{inFull}
 use Rattle.text_entry.specs.Fields.{fieldsText, lineText, valueText}
 use Rattle.text_lines.specs.Lines.{lf, maxLineBytes}
@@ -34,7 +34,7 @@ no-lf-append : (s t : List ℕ) → noLf s ≡ true → noLf t ≡ true → noLf
 unfolding noLf
 no-lf-append [] t h g = g
 no-lf-append (c ∷ s) t h g =
-    both (not (eqb c lf)) (noLf (s ++ t)) (Rattle.log_entry.proofs.Tests.and-left (not (eqb c lf)) (noLf s) h) (no-lf-append s t (Rattle.log_entry.proofs.Tests.and-right (not (eqb c lf)) (noLf s) h) g)
+    both (not (eqb c lf)) (noLf (s ++ t)) (and-left (not (eqb c lf)) (noLf s) h) (no-lf-append s t (and-right (not (eqb c lf)) (noLf s) h) g)
 
 digit-no-lf : (d : ℕ) → noLf (digit d ∷ []) ≡ true
 unfolding noLf
@@ -68,7 +68,7 @@ OfList (Follow c p tx) = ⊥
 OfList (Crash r id) = ⊥
 OfList (Back p t) = ⊥
 
-round-inside : (c i b : ℕ) → (noCoordinator c || leb instances i || noBallot b) ≡ false → (c < 256) × (i < 256) × (b < 256)
+round-inside : (c i b : ℕ) → (noCoordinator c || leb instances i || noBallot b) ≡ false → (c < byteNumbers) × (i < byteNumbers) × (b < byteNumbers)
 round-inside c i b h =
     let first : (noCoordinator c || leb instances i) ≡ false = neither-left (noCoordinator c || leb instances i) (noBallot b) h in
     let last : noBallot b ≡ false = neither-right (noCoordinator c || leb instances i) (noBallot b) h in (

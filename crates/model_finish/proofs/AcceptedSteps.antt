@@ -22,12 +22,11 @@ use Rattle.model_protocol.specs.declared.Message.{Message}
 use Rattle.model_protocol.specs.declared.Parts.{Parts}
 use Rattle.model_protocol.specs.declared.World.{World}
 use Rattle.model_protocol.specs.Acceptor.{accepting, accepts, promises, promising}
-use Rattle.model_protocol.specs.Change.{coordinatorNow, done}
 use Rattle.model_protocol.specs.Coordinator.{batchToPropose, counting, isHeard, learning, promiseHeard, proposing, withRound}
 use Rattle.model_protocol.specs.Deliver.{deliveryChange, noPlaceFor, receiverDown}
 use Rattle.model_protocol.specs.Limits.{slotPlaces}
 use Rattle.model_protocol.specs.Message.{acceptTo, acceptedFrom, prepareTo, promiseFrom}
-use Rattle.model_protocol.specs.Places.{deliveryPlaces, onlyCoordinator, onlyOwner, onlySlot, placesOf}
+use Rattle.model_protocol.specs.Places.{deliveryPlaces, onlyCoordinator, onlyOwner, placesOf}
 use Rattle.model_protocol.specs.Send.{lacksNumbers, sendToAll}
 use Rattle.model_protocol.specs.Step.{answered, changeOf, changed, messageFor, partsAt, partsOf, placesIn, replayIn, stepChecks, stepOf, stepRefusal}
 use Rattle.model_protocol.specs.World.{coordinatorOf, isDown, messageOf, newRound, replayWith, slotOf, withMessage}

@@ -1,16 +1,16 @@
 -- The choice is the lowest such coordinator with its lowest ballot, and none where no coordinator is
 -- such.
-use Prim.Native.Nat.{ℕ, suc, _+_, _-_, _≤_, _<_, max}
-use native.Mathlib.Decide.{ℕ-discrete, decLt}
+use Prim.Native.Nat.{ℕ, suc, _+_, _-_, _≤_, _<_}
+use native.Mathlib.Decide.{ℕ-discrete}
 use native.Mathlib.Omega.{arith}
 use mathlib.Core.Bool.{Bool, true, false, _&&_, not, cond}
-use mathlib.Core.List.{List, []}
+use mathlib.Core.List.{[]}
 use mathlib.Core.Logic.{_⊎_, inl, inr}
 use mathlib.Core.Path.{_≡_, ap, refl, subst, sym, _∙_}
 use borrow.Author.Tests.{eq-eqb, eqb-false, eqb-true, le-leb, le-ltb, leb-true, lt-ltb, ltb-false, ltb-true, not-true}
 use lib.Dec.{eqb, leb, ltb}
 use lib.ListN.{length}
-use Rattle.log_entry.proofs.Tests.{and-left, and-right, both, either, opposed, or-cases, or-left, or-right}
+use Rattle.log_entry.proofs.Tests.{and-left, and-right, opposed, or-cases, or-left, or-right}
 use Rattle.model_steps.specs.declared.Role.the-variants.{Coord}
 use Rattle.model_steps.specs.Limits.{ballots, coordinators, fewestAcceptors, instances, messages, mostAcceptors}
 use Rattle.model_owners.specs.Owners.{owner}
@@ -20,7 +20,7 @@ use Rattle.model_protocol.specs.Send.{lacksNumbers}
 use Rattle.model_protocol.specs.World.{coordinatorOf, isDown, slotOf}
 use Rattle.model_finish.specs.declared.Choice.{Choice}
 use Rattle.model_finish.specs.Choice.{above, allows, ballotOf, choiceOf, chosen, firstFrom, hasWork, highestPromised, isSetUp, lowestOwn, ownFrom}
-use Rattle.model_finish.specs.Claims.{ChoiceExactly, ChoiceIs, Lowest, NothingExactly}
+use Rattle.model_finish.specs.Claims.{ChoiceExactly, Lowest, NothingExactly}
 use Rattle.model_finish.specs.Closing.{closing, finishing}
 use Rattle.model_finish.specs.Such.{OwnBallot, Such, currentOf, numbersNeeded, quorum, upAcceptors}
 use Rattle.model_finish.proofs.Theorem.{closing-length}

@@ -1,6 +1,7 @@
 pub mod AcceptedSteps
 pub mod Cases
 pub mod ChoiceLaws
+pub mod Openings
 pub mod Phases
 pub mod Running
 pub mod Sending

@@ -10,7 +10,7 @@ use mathlib.Core.Path.{_≡_, ap, refl, subst, sym, _∙_}
 use borrow.Author.Tests.{le-ltb, lt-ltb}
 use lib.Count.{ones}
 use lib.Dec.{ltb}
-use lib.ListN.{getD, length, length-set, set}
+use lib.ListN.{length, length-set}
 use lib.Seq.{getD-set-other, getD-set-same}
 use Rattle.log_entry.specs.Bits.{with}
 use Rattle.log_entry.specs.Refusal.{accepted}
@@ -35,8 +35,7 @@ use Rattle.model_protocol.specs.Acceptor.{accepting, promising}
 use Rattle.model_protocol.specs.Coordinator.{batchToPropose, counting, hearing, learning, promiseHeard, proposing, withRound}
 use Rattle.model_protocol.specs.Limits.{slotPlaces}
 use Rattle.model_protocol.specs.Message.{acceptTo, acceptedFrom, noMessage, prepareTo, promiseFrom}
-use Rattle.model_protocol.specs.Send.{sendToAll}
-use Rattle.model_protocol.specs.Step.{answered, stepOf}
+use Rattle.model_protocol.specs.Step.{answered}
 use Rattle.model_protocol.specs.World.{coordinatorOf, emptySlot, freshCoordinator, isDown, messageOf, newRound, replayWith, slotOf, withMessage}
 use Rattle.model_agreement.specs.Content.{Content, contentOf, paxos}
 use Rattle.model_agreement.specs.History.{Accepts, Event, delivered, first, later, note, opened}
@@ -44,11 +43,11 @@ use Rattle.model_agreement.proofs.ChangedWorld.{withCoordinator, withLearned, w
 use Rattle.model_agreement.proofs.SentMessages.{filled, outboxOf, posted, send-posts}
 use Rattle.model_finish.specs.Claims.{LowestUp}
 use Rattle.model_finish.specs.Closing.{acceptNumber, acceptedNumber, closing, deliveries, prepareNumber, promiseNumber}
-use Rattle.model_finish.specs.Such.{OwnBallot, Such, currentOf, numbersNeeded, quorum, upAcceptor}
+use Rattle.model_finish.specs.Such.{OwnBallot, Such, currentOf, quorum, upAcceptor}
 use Rattle.model_finish.proofs.AcceptedSteps.{InRange, accept-goes, accepted-counts, accepted-learns, open-goes, prepare-goes, promise-goes, propose-goes}
 use Rattle.model_finish.proofs.Running.{Ends, Goes, Holding, ends-append, ends-as, ends-deliveries, goes-to}
 use Rattle.model_finish.proofs.SuchLaws.{few, live}
-use Rattle.model_finish.proofs.Sending.{filled-length, filled-new, filled-old}
+use Rattle.model_finish.proofs.Sending.{filled-length, filled-new}
 
 -- the rows of the world have their places
 pub record Rows (w : World) : Type 0 where

@@ -2,7 +2,7 @@
 use Prim.Native.Nat.{ℕ, suc, _<_}
 use native.Mathlib.Omega.{arith}
 use mathlib.Core.List.{List, [], _∷_, _++_}
-use mathlib.Core.Path.{_≡_, ap, refl, subst₂, sym, _∙_}
+use mathlib.Core.Path.{_≡_, ap, refl, subst₂, sym}
 use Rattle.log_entry.specs.Refusal.{accepted}
 use Rattle.model_steps.specs.declared.Step.{Step}
 use Rattle.model_steps.specs.declared.Step.the-variants.{Deliver}

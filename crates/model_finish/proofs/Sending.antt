@@ -2,8 +2,8 @@
 use Prim.Native.Nat.{ℕ, suc, _+_, _≤_, _<_}
 use native.Mathlib.Decide.{ℕ-discrete}
 use native.Mathlib.Omega.{arith}
-use mathlib.Core.Path.{_≡_, ap, refl, subst, sym, _∙_}
-use lib.ListN.{getD, length, length-set, set}
+use mathlib.Core.Path.{_≡_, refl, subst, sym, _∙_}
+use lib.ListN.{getD, length, length-set}
 use lib.Seq.{getD-set-other, getD-set-same}
 use Rattle.model_protocol.specs.declared.Message.{Message}
 use Rattle.model_protocol.specs.Message.{noMessage}
@@ -17,12 +17,7 @@ module _ (ms : Outbox) (k : ℕ) (f : ℕ → Message) where
   filled-length ℕ.zero = refl
   filled-length (suc n) = length-set (filled ms k n f .messages) (k + n) (f n) ∙ filled-length n
 
-  -- what was sent before stays
-  pub filled-old : (n j : ℕ) → j < k → messageIn (filled ms k n f) j ≡ messageIn ms j
-  filled-old ℕ.zero j h = refl
-  filled-old (suc n) j h = getD-set-other (filled ms k n f .messages) (k + n) j (f n) noMessage (omega arith) ∙ filled-old n j h
-
-  -- and those to the acceptors stand behind it, by acceptor
+  -- those to the acceptors stand behind what was sent before, by acceptor
   pub filled-new : (n a : ℕ) → k + n ≤ length (ms .messages) → a < n → messageIn (filled ms k n f) (k + a) ≡ f a
   filled-new ℕ.zero a room h = absurd (omega arith)
   filled-new (suc n) a room h = go (ℕ-discrete a n) (filled-new n a (omega arith))

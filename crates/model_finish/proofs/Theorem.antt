@@ -1,7 +1,6 @@
 -- Such a coordinator closes its current instance by its list, and what that means for the sequence.
 use Prim.Native.Nat.{ℕ, suc, _+_, _*_, _≤_, _<_}
 use native.Mathlib.Decide.{ℕ-discrete, decLt}
-use native.Mathlib.Numerals.{add-one}
 use native.Mathlib.Omega.{arith}
 use mathlib.Core.List.{List, [], _∷_, _++_}
 use mathlib.Core.Logic.{_⊎_, inl, inr, _≢_}
@@ -10,15 +9,15 @@ use lib.ListN.{getD, length, length-append, take}
 use lib.Seq.{take-all, take-suc}
 use Rattle.model_paxos.specs.Majority.{Majority}
 use Rattle.model_steps.specs.declared.Step.{Step}
-use Rattle.model_steps.specs.declared.Step.the-variants.{Deliver, Open, Propose}
+use Rattle.model_steps.specs.declared.Step.the-variants.{Deliver}
 use Rattle.model_owners.specs.Owners.{owner}
 use Rattle.model_protocol.specs.declared.Batch.{Batch}
 use Rattle.model_protocol.specs.declared.World.{World}
 use Rattle.model_protocol.specs.Batch.{noBatch}
 use Rattle.model_protocol.specs.Step.{run, stepOf}
-use Rattle.model_protocol.specs.World.{coordinatorOf, freshWorld, logOf}
+use Rattle.model_protocol.specs.World.{freshWorld}
 use Rattle.model_agreement.specs.Claim.{Claim, IsSequence, batchAt}
-use Rattle.model_agreement.specs.History.{Accepts, Applied, Decided, Event, acceptors, history, historyFrom}
+use Rattle.model_agreement.specs.History.{Accepts, Applied, Decided, acceptors, history, historyFrom}
 use Rattle.model_agreement.specs.Plain.{plainLog}
 use Rattle.model_agreement.proofs.AllInvariants.{Good, good, history-append}
 use Rattle.model_agreement.proofs.Theorem.{demand-3, one-sequence}

@@ -11,10 +11,9 @@ use lib.Seq.{getD-append-seam}
 use Rattle.log_entry.proofs.Tests.{opposed}
 use Rattle.model_steps.specs.declared.Role.the-variants.{Acceptor}
 use Rattle.model_protocol.specs.declared.Down.{Down}
-use Rattle.model_protocol.specs.declared.World.{World}
 use Rattle.model_protocol.specs.World.{isDown}
-use Rattle.model_finish.specs.Claims.{AskedAreLowest, LowestUp}
-use Rattle.model_finish.specs.Such.{Such, quorum, upAcceptor, upAcceptors, upBelow}
+use Rattle.model_finish.specs.Claims.{AskedAreLowest}
+use Rattle.model_finish.specs.Such.{quorum, upAcceptor, upAcceptors, upBelow}
 
 -- of the acceptors below n
 pub record UpTo (d : Down) (n : ℕ) (xs : List ℕ) : Type 0 where

@@ -1,6 +1,6 @@
 -- Lists of steps from the fresh world, and the list that closes one instance more, in the documents'
 -- own numbers. Where it is empty, no coordinator is such.
-use Prim.Native.Nat.{ℕ, suc, _+_, _*_}
+use Prim.Native.Nat.{ℕ, suc, _+_}
 use mathlib.Core.Path.{_≡_}
 use mathlib.Core.List.{List, [], _∷_, _++_}
 use Rattle.log_entry.specs.Entry.{takeEntry}

@@ -11,7 +11,7 @@ use Rattle.model_steps.specs.declared.Step.{Step}
 use Rattle.model_protocol.specs.declared.Batch.{Batch}
 use Rattle.model_protocol.specs.declared.World.{World}
 use Rattle.model_protocol.specs.Step.{run, stepOf}
-use Rattle.model_protocol.specs.World.{coordinatorOf, freshWorld, isDown, logOf}
+use Rattle.model_protocol.specs.World.{freshWorld, isDown, logOf}
 use Rattle.model_agreement.specs.Claim.{IsSequence}
 use Rattle.model_agreement.specs.History.{Applied, acceptors, history}
 use Rattle.model_agreement.specs.Plain.{plainLog}

@@ -1,3 +1,4 @@
+pub mod ByHistory
 pub mod Cases
 pub mod Choice
 pub mod Claims
