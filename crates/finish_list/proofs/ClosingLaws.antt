@@ -16,6 +16,8 @@ use Rattle.model_finish.specs.Such.{Such, currentOf, quorum, upAcceptor, upAcce
 use Rattle.model_finish.proofs.ChoiceLaws.{choice-exactly}
 use Rattle.model_finish.proofs.SuchLaws.{few}
 use Rattle.model_finish.proofs.UpAcceptors.{asked-are-lowest}
+use Rattle.text_report.specs.Within.{Within}
+use Rattle.text_report.proofs.Lengths.{within-as, within-more, within-room}
 use Rattle.finish_list.specs.declared.acceptors.Up.{Up}
 use Rattle.finish_list.specs.Longest.{openName, proposeName}
 use Rattle.finish_list.specs.Text.{finishText, stepsText}
@@ -98,6 +100,12 @@ module _ (w : World) {c : ℕ} (such : Such w c) (u : Up) (is : Lists u (upBelow
         rw (quorum-is, current)
         ((λ i. open-text c (currentOf w c) b i ++ stepsText (prepares i ++ promised) ++ propose-text c (currentOf w c) b i ++ stepsText (accepts i ++ accepted))
         ∙ list-text (Open c (currentOf w c) b) (Propose c (currentOf w c) b) (deliveries (prepareNumber w) q) promised (deliveries (acceptNumber w) q) accepted)
+
+-- four texts, one after the other
+pub four-within : {l m o p q : List ℕ} {at i j k n : ℕ} {s t u v text : List ℕ} {a b c d whole : ℕ}
+    → Within a l at s m i → Within b m i t o j → Within c o j u p k → Within d p k v q n
+    → s ++ t ++ u ++ v ≡ text → a + b + c + d ≤ whole → Within whole l at text q n
+four-within f g h k e r = within-room (within-as e (within-more (within-more (within-more f g) h) k)) r
 
 -- ---- the list of the choice
 

@@ -8,8 +8,7 @@ use Rattle.model_steps.specs.Limits.{messages, mostAcceptors}
 use Rattle.model_protocol.specs.declared.Coordinator.{Coordinator}
 use Rattle.model_protocol.specs.World.{freshCoordinator}
 use Rattle.model_finish.specs.Such.{Such, quorum}
-use Rattle.text_report.proofs.Lengths.{within-as, within-more, within-room}
-use Rattle.finish_list.proofs.ClosingLaws.{asked-below, closing-text, few-asked, first-room, second-room}
+use Rattle.finish_list.proofs.ClosingLaws.{asked-below, closing-text, few-asked, first-room, four-within, second-room}
 use Rattle.finish_list.proofs.Lengths.{coordinator-places}
 use Rattle.finish_list.proofs.put_closing.Statement.{statement}
 use Rattle.finish_list.proofs.put_closing.Tie as tie
@@ -54,10 +53,12 @@ returns : tie.Need-returns
 returns c =
     let u = c .before .before .before .before .before .before .before .before .before .before .before .before .before .before .before .before .before .before .before in
     let s = u .before .before .before .before .before in
-    within-room
-    (within-as
+    four-within
+    (c .before .before .before .before .before .before .before .before .before .before .before .before .before .before .before .round-line .ensures)
+    (c .before .before .before .before .before .before .before .before .before .before .before .put-exchange .ensures)
+    (c .before .before .before .before .before .before .round-line2 .ensures)
+    (c .before .before .put-exchange2 .ensures)
     (closing-text _ (such u) _ (u .up-below .ensures) (u .before .quorum .ensures) _ (ap (λ (k : Coordinator). k .applied) (in-list (s .args .t3 .coordinators) (s .args .coord) _ freshCoordinator (there s))))
-    (within-more (within-more (within-more (c .before .before .before .before .before .before .before .before .before .before .before .before .before .before .before .round-line .ensures) (c .before .before .before .before .before .before .before .before .before .before .before .put-exchange .ensures)) (c .before .before .before .before .before .before .round-line2 .ensures)) (c .before .before .put-exchange2 .ensures)))
     (omega arith)
 
 pub put-closing-spec : {M : Type 1} → statement M
