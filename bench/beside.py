@@ -2,8 +2,9 @@
 
     bench/plain.sh [--files] [--count] [--runs N] [PROGRAM]
     bench/world.sh [--files] [--count] [--runs N] [PROGRAM]
+    bench/finish.sh [--files] [--count] [--runs N] [PROGRAM]
 
-PROGRAM is target/bin/plain or target/bin/world if not said. Both programs get no input and a busy
+PROGRAM is target/bin/plain, target/bin/world or target/bin/finish if not said. Both programs get no input and a busy
 file of 1,000 lines, in turn, N times (500 if not said); the least time of each counts, since other
 work on the machine only adds. The lines themselves are the difference of the two inputs: without
 the start of the process. --count adds instructions, counted by valgrind, which other work does not

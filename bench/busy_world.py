@@ -2,6 +2,7 @@
 """Prints a busy step file of 1,000 lines for `world`: eight stores taken, sixteen votes, two
 coordinators, until all 128 numbers are used; then every message that is still answered 0 is
 delivered again, in turn. The updates use all 64 bits."""
+import itertools
 import os
 import sys
 
@@ -12,7 +13,8 @@ from plain_log import LINES
 from world_script import Script
 
 
-def busy():
+def decided():
+    """Six instances, of which a second coordinator learned two."""
     script = Script()
     script.queue(*(script.take(s + 1, s) for s in range(8)))
     script.learn(0, 3)
@@ -27,24 +29,30 @@ def busy():
         script.learn(0, 3)
     script.learn(1, 4, (1, 2))
     script.learn(1, 4, (0, 2))
+    return script
+
+
+def busy():
+    script = decided()
     for p in range(1, 9):
         script.deliver(*script.tell(0, p, p - 1), *script.restore(0, p))
     assert script.world.left() == 0
     return script
 
 
-def again(script):
-    number = 0
-    while len(script.rows) < LINES:
+def again(script, numbers):
+    """The messages of these numbers in turn, those that are answered 0, up to line 1,000."""
+    for number in itertools.cycle(numbers):
+        if len(script.rows) == LINES:
+            return
         script.deliver(number)
         if script.answer:
             script.rows.pop()
-        number = (number + 1) % 128
 
 
 def data():
     script = busy()
-    again(script)
+    again(script, range(128))
     return script.data()
 
 

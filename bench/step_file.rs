@@ -1,10 +1,10 @@
 //! Step files, for the programs in plain Rust: lines and fields read, answers and a log printed.
 
-use crate::plain_log::{Entry, Log, Vote, STORES, TRANSACTIONS};
+use super::plain_log::{Entry, Log, Vote, STORES, TRANSACTIONS};
 use std::io::{Read, Write};
 use std::ops::RangeInclusive;
 
-const LINES: usize = 1000;
+pub const LINES: usize = 1000;
 const BYTES: usize = 100;
 pub const TURN: &[u8] = b" turn=";
 pub const TURNS: RangeInclusive<u64> = 1..=255;
@@ -100,19 +100,23 @@ pub fn step<T>(line: &[u8], read: impl FnOnce(&mut Fields) -> Option<T>) -> Resu
     }
 }
 
-/// Prints the answer of each line.
-pub fn answers(input: &[u8], out: &mut Vec<u8>, mut answer: impl FnMut(&[u8]) -> u32) {
+/// The lines that are read, and line 1,001, each with its index.
+pub fn each_line(input: &[u8], mut take: impl FnMut(usize, &[u8])) {
     if input.is_empty() {
         return;
     }
     let body = input.strip_suffix(b"\n").unwrap_or(input);
-    for (i, line) in body.split(|&c| c == b'\n').enumerate() {
+    for (i, line) in body.split(|&c| c == b'\n').take(LINES + 1).enumerate() {
+        take(i, line);
+    }
+}
+
+/// Prints the answer of each line.
+pub fn answers(input: &[u8], out: &mut Vec<u8>, mut answer: impl FnMut(&[u8]) -> u32) {
+    each_line(input, |i, line| {
         let answer = if i == LINES { 6 } else { answer(line) };
         writeln!(out, "step={} answer={}", i + 1, answer).unwrap();
-        if i == LINES {
-            break;
-        }
-    }
+    });
 }
 
 /// Group, tx and update.

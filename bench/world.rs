@@ -3,13 +3,13 @@
 
 #[path = "../tests/host/plain_log.rs"]
 mod plain_log;
-mod step_file;
+pub mod step_file;
 
 use plain_log::{Entry, Log, Outcome, Vote, STORES, TRANSACTIONS};
 use std::io::Write;
 use step_file::{answers, print_log, print_rows, program, step, Fields, Row, TURN, TURNS};
 
-const MESSAGES: usize = 128;
+pub const MESSAGES: usize = 128;
 const QUEUE: usize = 8;
 const BATCH: usize = 4;
 
@@ -74,17 +74,17 @@ impl Message {
 }
 
 #[derive(Clone, Copy, Default)]
-struct Slot {
-    promised: u8,
+pub struct Slot {
+    pub promised: u8,
     accepted: Option<Accepted>,
 }
 
 #[derive(Default)]
-struct Coordinator {
+pub struct Coordinator {
     log: Log,
-    applied: u8,
-    queue: Vec<Entry>,
-    opened: u8,
+    pub applied: u8,
+    pub queue: Vec<Entry>,
+    pub opened: u8,
     promised: u8, // the acceptors heard, as bits
     highest: Option<Accepted>,
     proposed: Option<Batch>,
@@ -185,7 +185,7 @@ impl Process {
 }
 
 #[derive(Clone, Copy)]
-enum Role {
+pub enum Role {
     Acceptor,
     Coord,
     Process,
@@ -205,10 +205,10 @@ enum Step {
 }
 
 #[derive(Default)]
-struct World {
-    acceptors: u8, // 0 before setup
-    slots: [[Slot; 16]; 5],
-    coordinators: [Coordinator; 3],
+pub struct World {
+    pub acceptors: u8, // 0 before setup
+    pub slots: [[Slot; 16]; 5],
+    pub coordinators: [Coordinator; 3],
     processes: [Process; 16],
     down: [u16; 3], // by role
     messages: Vec<Message>,
@@ -242,8 +242,12 @@ fn awaited(log: &Log, store: u8) -> u32 {
 }
 
 impl World {
-    fn is_down(&self, role: Role, id: u8) -> bool {
+    pub fn is_down(&self, role: Role, id: u8) -> bool {
         self.down[role as usize] >> id & 1 == 1
+    }
+
+    pub fn sent(&self) -> usize {
+        self.messages.len()
     }
 
     fn is_full(&self, sends: u8) -> bool {
@@ -509,17 +513,26 @@ impl Step {
     }
 }
 
-fn run(input: &[u8], out: &mut Vec<u8>) {
-    let mut world = World {
-        processes: std::array::from_fn(|_| Process::in_turn(1)),
-        messages: Vec::with_capacity(MESSAGES),
-        ..World::default()
-    };
-    answers(input, out, |line| {
-        let acceptors = world.acceptors;
+impl World {
+    pub fn fresh() -> World {
+        World {
+            processes: std::array::from_fn(|_| Process::in_turn(1)),
+            messages: Vec::with_capacity(MESSAGES),
+            ..World::default()
+        }
+    }
+
+    /// The answer to a line.
+    pub fn line(&mut self, line: &[u8]) -> u32 {
+        let acceptors = self.acceptors;
         let step = step(line, |fields| Step::read(fields, acceptors));
-        step.and_then(|step| world.step(step)).err().unwrap_or(0)
-    });
+        step.and_then(|step| self.step(step)).err().unwrap_or(0)
+    }
+}
+
+fn run(input: &[u8], out: &mut Vec<u8>) {
+    let mut world = World::fresh();
+    answers(input, out, |line| world.line(line));
     world.print(out);
 }
 

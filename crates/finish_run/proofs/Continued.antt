@@ -13,7 +13,7 @@ use Rattle.model_finish.specs.Choice.{choiceOf}
 use Rattle.model_finish.specs.Claims.{AllAccepted, Closes}
 use Rattle.model_finish.specs.Closing.{acceptNumber, acceptedNumber, answering, closing, deliveries, prepareNumber, promiseNumber}
 use Rattle.model_finish.specs.Such.{OwnBallot, Such, currentOf}
-use Rattle.model_finish.proofs.ChoiceLaws.{choice-exactly}
+use Rattle.model_finish.proofs.ChoiceLaws.{choice-exactly, nothing-exactly}
 use Rattle.model_finish.proofs.Theorem.{run-append, such-closes}
 use Rattle.model_protocol.specs.declared.World.{World}
 use Rattle.model_protocol.specs.Step.{run, stepOf}
@@ -21,6 +21,8 @@ use Rattle.model_protocol.specs.World.{freshWorld}
 use Rattle.model_steps.specs.declared.Command.{Command}
 use Rattle.model_steps.specs.declared.Step.{Step}
 use Rattle.model_steps.specs.declared.Step.the-variants.{Deliver, Open, Propose}
+use Rattle.finish_list.specs.Text.{stepsText}
+use Rattle.text_report.specs.Report.{end}
 use Rattle.text_lines.specs.Lines.{lines, maxLineBytes, maxLines}
 use Rattle.text_step.specs.Step.{text}
 use Rattle.world_engine.specs.Commands.{answersTo, carriedOut, worldAfter}
@@ -30,7 +32,7 @@ use Rattle.world_run.specs.Program.{answersFor, worldFor}
 use Rattle.world_run.specs.Steps.{stepOfLine, stepsIn, stepsOf}
 use Rattle.world_run.proofs.Answers.{few-counted}
 use Rattle.world_run.proofs.Meaning.{input-runs}
-use Rattle.finish_run.specs.Claims.{EveryListCloses, FileContinues, LinesLeft, ListCloses}
+use Rattle.finish_run.specs.Claims.{EveryListCloses, FileContinues, LinesLeft, ListCloses, PrintsNothingExactly}
 use Rattle.finish_run.specs.Joined.{joined}
 use Rattle.finish_run.specs.Program.{finish, listFor}
 use Rattle.finish_run.proofs.FileLines.{Each, lines-joined, lines-of-steps, noLf}
@@ -110,6 +112,23 @@ module _ (input : List ℕ) where
 
 pub every-list-closes : EveryListCloses
 every-list-closes input = list-closes input
+
+-- ---- an empty list prints nothing, and no other does
+
+-- a line has its LF
+line-some : (s : Step) (rest : List ℕ) → text s ++ end ++ rest ≡ [] → ⊥
+line-some s rest e = omega (arith, ap length e, length-append (text s ++ end) rest, length-append (text s) end)
+
+no-steps : (steps : List Step) → stepsText steps ≡ [] → steps ≡ []
+unfolding stepsText
+no-steps [] e = refl
+no-steps (s ∷ steps) e = absurd (line-some s (stepsText steps) e)
+
+pub prints-nothing-exactly : PrintsNothingExactly
+unfolding finish stepsText
+prints-nothing-exactly input =
+    let exactly = nothing-exactly (worldFor input) in
+    (λ e. exactly .0 (no-steps (listFor input) e), λ f. ap stepsText (exactly .1 f))
 
 -- ---- the lines of the list, read
 

@@ -1,17 +1,19 @@
 -- What is claimed of an input and of the list that is printed for it.
 use Prim.Native.Nat.{ℕ, _+_, _≤_, _<_}
 use mathlib.Core.List.{List, [], _∷_, _++_}
+use mathlib.Core.Logic.{_↔_}
 use mathlib.Core.Path.{_≡_}
 use lib.ListN.{length, replicate}
 use Rattle.log_entry.specs.Refusal.{accepted}
 use Rattle.model_finish.specs.Choice.{choiceOf}
 use Rattle.model_finish.specs.Claims.{Closes}
+use Rattle.model_finish.specs.Such.{Such}
 use Rattle.model_protocol.specs.Step.{run}
 use Rattle.text_lines.specs.Lines.{lf, lines, maxLines}
 use Rattle.world_run.specs.Program.{answersFor, worldFor}
 use Rattle.world_run.specs.Steps.{stepsOf}
 use Rattle.finish_run.specs.Joined.{ended, joined}
-use Rattle.finish_run.specs.Program.{listFor}
+use Rattle.finish_run.specs.Program.{finish, listFor}
 
 -- Where a coordinator was chosen, the list closes one more instance of it.
 abbrev pub ListCloses : List ℕ → Type 0
@@ -21,6 +23,13 @@ ListCloses input =
 
 abbrev pub EveryListCloses : Type 0
 EveryListCloses = (input : List ℕ) → ListCloses input
+
+-- "and nothing exactly where no coordinator is such"
+abbrev pub NothingIfNone : List ℕ → Type 0
+NothingIfNone input = (finish input ≡ []) ↔ ((c : ℕ) → Such (worldFor input) c → ⊥)
+
+abbrev pub PrintsNothingExactly : Type 0
+PrintsNothingExactly = (input : List ℕ) → NothingIfNone input
 
 -- there are lines left for the list among the 1,000 that a program reads
 abbrev pub LinesLeft : List ℕ → Type 0

@@ -1,8 +1,11 @@
 pub mod AcceptedSteps
 pub mod Cases
 pub mod ChoiceLaws
+pub mod Contents
 pub mod Openings
 pub mod Phases
+pub mod Rounds
+pub mod Rows
 pub mod Running
 pub mod Sending
 pub mod SuchLaws

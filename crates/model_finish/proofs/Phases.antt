@@ -3,14 +3,13 @@
 use Prim.Native.Nat.{ℕ, suc, _+_, _*_, _/_, _^_, _≤_, _<_}
 use native.Mathlib.Decide.{ℕ-discrete, decLt}
 use native.Mathlib.Omega.{arith}
-use mathlib.Core.Bool.{Bool, true, false, cond}
+use mathlib.Core.Bool.{Bool, true, false}
 use mathlib.Core.List.{List, _∷_, _++_}
 use mathlib.Core.Logic.{_⊎_, inl, inr, _≢_}
 use mathlib.Core.Path.{_≡_, ap, refl, subst, sym, _∙_}
 use borrow.Author.Tests.{le-ltb, lt-ltb}
 use lib.Count.{ones}
-use lib.Dec.{ltb}
-use lib.ListN.{length, length-set}
+use lib.ListN.{length-set}
 use lib.Seq.{getD-set-other, getD-set-same}
 use Rattle.log_entry.specs.Bits.{with}
 use Rattle.log_entry.specs.Refusal.{accepted}
@@ -20,8 +19,6 @@ use Rattle.model_steps.specs.declared.Step.the-variants.{Deliver, Open, Propose
 use Rattle.model_steps.specs.Limits.{coordinators, instances, messages, mostAcceptors}
 use Rattle.model_owners.specs.Owners.{owner}
 use Rattle.model_paxos.specs.Majority.{majority}
-use Rattle.model_paxos.specs.Messages.{accept, prepare, promise}
-use Rattle.model_paxos.specs.Messages as message
 use Rattle.model_paxos.specs.Rules.{Has}
 use Rattle.model_paxos.proofs.Sets.{has-with, has-zero, ones-with, with-lt}
 use Rattle.model_protocol.specs.declared.AcceptorSlot.{AcceptorSlot}
@@ -29,77 +26,26 @@ use Rattle.model_protocol.specs.declared.Batch.{Batch}
 use Rattle.model_protocol.specs.declared.Coordinator.{Coordinator}
 use Rattle.model_protocol.specs.declared.Down.{Down}
 use Rattle.model_protocol.specs.declared.Message.{Message}
-use Rattle.model_protocol.specs.declared.Round.{Round}
 use Rattle.model_protocol.specs.declared.World.{World}
 use Rattle.model_protocol.specs.Acceptor.{accepting, promising}
-use Rattle.model_protocol.specs.Coordinator.{batchToPropose, counting, hearing, learning, promiseHeard, proposing, withRound}
-use Rattle.model_protocol.specs.Limits.{slotPlaces}
+use Rattle.model_protocol.specs.Coordinator.{batchToPropose, counting, learning, promiseHeard, proposing, withRound}
 use Rattle.model_protocol.specs.Message.{acceptTo, acceptedFrom, noMessage, prepareTo, promiseFrom}
 use Rattle.model_protocol.specs.Step.{answered}
 use Rattle.model_protocol.specs.World.{coordinatorOf, emptySlot, freshCoordinator, isDown, messageOf, newRound, replayWith, slotOf, withMessage}
-use Rattle.model_agreement.specs.Content.{Content, contentOf, paxos}
-use Rattle.model_agreement.specs.History.{Accepts, Event, delivered, first, later, note, opened}
+use Rattle.model_agreement.specs.Content.{contentOf}
+use Rattle.model_agreement.specs.History.{Accepts, Event, later, note, opened}
 use Rattle.model_agreement.proofs.ChangedWorld.{withCoordinator, withLearned, withSlot}
 use Rattle.model_agreement.proofs.SentMessages.{filled, outboxOf, posted, send-posts}
 use Rattle.model_finish.specs.Claims.{LowestUp}
 use Rattle.model_finish.specs.Closing.{acceptNumber, acceptedNumber, closing, deliveries, prepareNumber, promiseNumber}
 use Rattle.model_finish.specs.Such.{OwnBallot, Such, currentOf, quorum, upAcceptor}
 use Rattle.model_finish.proofs.AcceptedSteps.{InRange, accept-goes, accepted-counts, accepted-learns, open-goes, prepare-goes, promise-goes, propose-goes}
+use Rattle.model_finish.proofs.Contents.{Elsewhere, accepted-before, no-accepted, no-prepare, no-promise, this-accept}
+use Rattle.model_finish.proofs.Rounds.{AfterPromise, after-promise, learning-applies}
+use Rattle.model_finish.proofs.Rows.{Rows, rows-coordinator, rows-learned}
 use Rattle.model_finish.proofs.Running.{Ends, Goes, Holding, ends-append, ends-as, ends-deliveries, goes-to}
 use Rattle.model_finish.proofs.SuchLaws.{few, live}
 use Rattle.model_finish.proofs.Sending.{filled-length, filled-new}
-
--- the rows of the world have their places
-pub record Rows (w : World) : Type 0 where
-  pub messages-row : length (w .messages) ≡ messages
-  pub slots-row : length (w .slots) ≡ slotPlaces
-  pub coordinators-row : length (w .coordinators) ≡ coordinators
-
-rows-coordinator : {w : World} (c : ℕ) (x : Coordinator) → Rows w → Rows (withCoordinator w c x)
-rows-coordinator {w} c x r = record { messages-row = r .messages-row; slots-row = r .slots-row; coordinators-row = length-set (w .coordinators) c x ∙ r .coordinators-row }
-
-rows-learned : (w : World) (c : ℕ) (x : Coordinator) (v : Batch) → Rows w → Rows (withLearned w c x v)
-rows-learned w c x v r = record { messages-row = r .messages-row; slots-row = r .slots-row; coordinators-row = length-set (w .coordinators) c x ∙ r .coordinators-row }
-
--- no accept of another instance than i
-abbrev Elsewhere : ℕ → Content → Type 0
-Elsewhere i x = (j d a : ℕ) (v : Batch) → j ≢ i → x ≡ paxos (accept j d a v) → ⊥
-
-accepted-before : {i m j d a : ℕ} {v : Batch} {x : Content} {h : List Event} → Elsewhere i x → j ≢ i
-    → Accepts j d a v (delivered m x ∷ h) → Accepts j d a v h
-accepted-before other ne (first n) = absurd (other _ _ _ _ ne refl)
-accepted-before other ne (later y) = y
-
-no-prepare : (i b a : ℕ) → Elsewhere i (paxos (prepare i b a))
-no-prepare i b a j d q v ne e = let z : _≡_ {A = ℕ} 0 1 = cc in omega arith
-
-no-promise : (i b a d : ℕ) (v : Batch) → Elsewhere i (paxos (promise i b a d v))
-no-promise i b a d v j x q y ne e = let z : _≡_ {A = ℕ} 0 1 = cc in omega arith
-
-no-accepted : (i b a : ℕ) → Elsewhere i (paxos (message.accepted i b a))
-no-accepted i b a j d q v ne e = let z : _≡_ {A = ℕ} 0 1 = cc in omega arith
-
-this-accept : (i b a : ℕ) (v : Batch) → Elsewhere i (paxos (accept i b a v))
-this-accept i b a v j d q x ne e = let z : i ≡ j = cc in ne (sym z)
-
--- what a round keeps when a promise of a is heard
-record AfterPromise (r : Round) (a : ℕ) (q : Round) : Type 0 where
-  ballot : q .ballot ≡ r .ballot
-  promises : q .promises ≡ with (r .promises) a
-  proposed : q .proposed ≡ r .proposed
-  acceptances : q .acceptances ≡ r .acceptances
-
-after-promise : (r : Round) (a d : ℕ) (v : Batch) → AfterPromise r a (promiseHeard r a d v)
-unfolding promiseHeard
-after-promise r a d v = go (ltb (r .accepted) d)
-  where
-    go : (t : Bool) → AfterPromise r a (cond t (hearing r a d v) (hearing r a (r .accepted) (r .batch)))
-    go true = record { ballot = refl; promises = refl; proposed = refl; acceptances = refl }
-    go false = record { ballot = refl; promises = refl; proposed = refl; acceptances = refl }
-
-learning-applies : (x : Coordinator) (i : ℕ) → x .applied ≡ i → i < instances → learning x .applied ≡ i + 1
-unfolding learning
-learning-applies x i e h = omega arith
 
 -- The list for a ballot b, run from the world w₀ with the history h₀: its coordinator is the owner
 -- of b.

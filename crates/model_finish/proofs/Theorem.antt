@@ -24,7 +24,8 @@ use Rattle.model_agreement.proofs.Theorem.{demand-3, one-sequence}
 use Rattle.model_finish.specs.Claims.{CatchesUp, Closes, ClosesInSequence, Decides, Finished, SuchCloses}
 use Rattle.model_finish.specs.Closing.{acceptNumber, acceptedNumber, closing, deliveries, prepareNumber, promiseNumber}
 use Rattle.model_finish.specs.Such.{OwnBallot, Such, currentOf, quorum}
-use Rattle.model_finish.proofs.Phases.{Learning, Rows, closing-ends}
+use Rattle.model_finish.proofs.Phases.{Learning, closing-ends}
+use Rattle.model_finish.proofs.Rows.{Rows}
 use Rattle.model_finish.proofs.Running.{Ends, ends-accepted, ends-hold}
 use Rattle.model_finish.proofs.UpAcceptors.{asked-are-lowest}
 
