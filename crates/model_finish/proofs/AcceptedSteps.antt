@@ -2,16 +2,16 @@
 use Prim.Native.Nat.{ℕ, _+_, _*_, _-_, _%_, _≤_, _<_}
 use native.Mathlib.Nat.{mod-eq-of-lt}
 use native.Mathlib.Omega.{arith}
-use mathlib.Core.Bool.{Bool, true, false, _&&_}
+use mathlib.Core.Bool.{Bool, true, false, _&&_, _||_}
 use mathlib.Core.Path.{_≡_, ap, refl, subst, sym, _∙_}
-use lib.Dec.{eqb}
+use lib.Dec.{eqb, leb}
 use borrow.Author.Tests.{eq-eqb, le-leb, le-ltb, lt-leb, lt-ltb, ne-eqb}
 use Rattle.log_entry.specs.Refusal.{accepted, firstRefusal}
 use Rattle.log_core.specs.declared.Replay.{Replay}
 use Rattle.model_steps.specs.declared.Role.the-variants.{Acceptor, Coord}
 use Rattle.model_steps.specs.declared.Step.{Step}
 use Rattle.model_steps.specs.declared.Step.the-variants.{Deliver, Open, Propose}
-use Rattle.model_steps.specs.Limits.{ballots, coordinators, instances, messages, mostAcceptors, outsideStep}
+use Rattle.model_steps.specs.Limits.{ballots, coordinators, instances, messages, mostAcceptors, noBallot, noCoordinator, outsideStep}
 use Rattle.model_owners.specs.Owners.{owner}
 use Rattle.model_paxos.specs.Majority.{majority}
 use Rattle.model_protocol.specs.declared.AcceptorSlot.{AcceptorSlot}
@@ -50,15 +50,21 @@ pub record InRange (c i b : ℕ) : Type 0 where
   pub positive : 0 < b
   pub ballot : b ≤ ballots
 
-open-passes : (p : Parts) (c i b : ℕ) → InRange c i b → isDown (p .down) Coord c ≡ false → 0 < p .acceptors → p .coordinator .applied ≡ i
-    → owner b ≡ c → p .coordinator .round .ballot < b → p .sent + p .acceptors ≤ messages → stepRefusal p (Open c i b) ≡ accepted
-unfolding stepRefusal firstRefusal stepChecks outsideStep
-open-passes p c i b r up live current own above room =
+inside : (c i b : ℕ) → InRange c i b → (noCoordinator c || leb instances i || noBallot b) ≡ false
+inside c i b r =
     rw (
       lt-leb coordinators c (r .coordinator),
       lt-leb instances i (r .instance),
       ne-eqb b 0 (λ e. omega (arith, r .positive)),
       le-ltb ballots b (r .ballot),
+    )
+
+open-passes : (p : Parts) (c i b : ℕ) → InRange c i b → isDown (p .down) Coord c ≡ false → 0 < p .acceptors → p .coordinator .applied ≡ i
+    → owner b ≡ c → p .coordinator .round .ballot < b → p .sent + p .acceptors ≤ messages → stepRefusal p (Open c i b) ≡ accepted
+unfolding stepRefusal firstRefusal stepChecks outsideStep
+open-passes p c i b r up live current own above room =
+    rw (
+      inside c i b r,
       up,
       ne-eqb (p .acceptors) 0 (λ e. omega arith),
       eq-eqb i (p .coordinator .applied) (sym current),
@@ -74,10 +80,7 @@ propose-passes : (p : Parts) (c i b : ℕ) → InRange c i b → isDown (p .down
 unfolding stepRefusal firstRefusal stepChecks outsideStep
 propose-passes p c i b r up live current opened heard fresh queued room =
     rw (
-      lt-leb coordinators c (r .coordinator),
-      lt-leb instances i (r .instance),
-      ne-eqb b 0 (λ e. omega (arith, r .positive)),
-      le-ltb ballots b (r .ballot),
+      inside c i b r,
       up,
       ne-eqb (p .acceptors) 0 (λ e. omega arith),
       eq-eqb i (p .coordinator .applied) (sym current),
@@ -134,8 +137,8 @@ module _ (w : World) (c i b : ℕ) (r : InRange c i b) (up : isDown (w .down) Co
 -- ---- deliver
 
 module _ (w : World) (j : ℕ) (sent : j < w .sent) (most : w .sent ≤ messages) (live : 0 < w .acceptors) where
-  inside : j < messages
-  inside = omega arith
+  numbered : j < messages
+  numbered = omega arith
 
   -- the parts that the delivery of the message touches
   abbrev partsFor : Message → Parts
@@ -149,10 +152,10 @@ module _ (w : World) (j : ℕ) (sent : j < w .sent) (most : w .sent ≤ messages
 
   delivered-itself : Comes (messageOf w (j % messages))
   unfolding placesOf messageFor changeOf
-  delivered-itself up room = accepted-step w (Deliver j) (deliver-passes (partsOf w (Deliver j)) j inside sent up live room)
+  delivered-itself up room = accepted-step w (Deliver j) (deliver-passes (partsOf w (Deliver j)) j numbered sent up live room)
 
   deliver-goes : (m : Message) → messageOf w j ≡ m → Comes m
-  deliver-goes m e = subst Comes (ap (messageOf w) (mod-eq-of-lt inside) ∙ e) delivered-itself
+  deliver-goes m e = subst Comes (ap (messageOf w) (mod-eq-of-lt numbered) ∙ e) delivered-itself
 
   -- to an acceptor, which answers
   module _ (i b a : ℕ) (acceptor : a < mostAcceptors) (instance : i < instances) (one : w .sent < messages)
