@@ -10,8 +10,8 @@ use Rattle.world_input.specs.State.{over, stateOf, withLine}
 use Rattle.finish_run.specs.Claims.{Continues, LinesLeft, ListCloses, NothingIfNone}
 use Rattle.finish_run.specs.Program.{finish}
 
--- The first `used` bytes of the buffer are what `finish` writes for these bytes, all of it. There are
--- none exactly if no coordinator is such. The list that they are closes one more instance, and
+-- The first `used` bytes of the buffer are what `finish` writes for these bytes, all of it. There
+-- are none exactly if no coordinator is such. The list that they are closes one more instance, and
 -- continues the file.
 pub record PrintsList (input buffer : List ℕ) (used : ℕ) : Type 0 where
   pub prints : Printed longestList (finish input) buffer used

@@ -1,5 +1,5 @@
--- The meaning of the program `finish`: from the bytes read to the bytes written. "From a step file of
--- a world a program prints that list as step lines".
+-- The meaning of the program `finish`: from the bytes read to the bytes written. "From a step file
+-- of a world a program prints that list as step lines".
 use Prim.Native.Nat.{ℕ}
 use mathlib.Core.List.{List}
 use Rattle.model_steps.specs.declared.Step.{Step}

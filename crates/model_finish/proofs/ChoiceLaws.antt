@@ -1,5 +1,5 @@
--- The choice is the lowest such coordinator with its lowest ballot, and none where no coordinator is
--- such.
+-- The choice is the lowest such coordinator with its lowest ballot, and none where no coordinator
+-- is such.
 use Prim.Native.Nat.{ℕ, suc, _+_, _-_, _≤_, _<_}
 use native.Mathlib.Decide.{ℕ-discrete}
 use native.Mathlib.Omega.{arith}

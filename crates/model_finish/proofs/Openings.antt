@@ -1,5 +1,5 @@
--- A coordinator opened no ballot above its last one in its current instance, and none in a later one.
--- So what it may open, and what an acceptor would promise, is said by the history.
+-- A coordinator opened no ballot above its last one in its current instance, and none in a later
+-- one. So what it may open, and what an acceptor would promise, is said by the history.
 use Prim.Native.Nat.{ℕ, _+_, _-_, _≤_, _<_, min}
 use native.Mathlib.Decide.{ℕ-discrete}
 use native.Mathlib.Omega.{arith}

@@ -1,4 +1,5 @@
--- "above all that any acceptor promised there or it opened there", by what was opened and delivered.
+-- "above all that any acceptor promised there or it opened there", by what was opened and
+-- delivered.
 use Prim.Native.Nat.{ℕ, _≤_, _<_}
 use mathlib.Core.List.{List}
 use mathlib.Core.Logic.{_↔_}
@@ -15,8 +16,8 @@ use Rattle.model_agreement.specs.History.{Event, Got, Happened, acceptors, hist
 use Rattle.model_finish.specs.Such.{OwnBallot, currentOf}
 
 -- An acceptor promises the ballots of prepares and accepts that are delivered to it, but for those
--- below what it promised before. So b is above all that it promised if it is above all of these. All
--- that the coordinator opened in i counts, not the last one alone.
+-- below what it promised before. So b is above all that it promised if it is above all of these.
+-- All that the coordinator opened in i counts, not the last one alone.
 pub record AboveAll (h : List Event) (c i b : ℕ) : Type 0 where
   pub prepares : (a d : ℕ) → a < acceptors h → Got (paxos (prepare i d a)) h → d < b
   pub accepts : (a d : ℕ) (v : Batch) → a < acceptors h → Got (paxos (accept i d a v)) h → d < b

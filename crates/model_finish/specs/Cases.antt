@@ -1,5 +1,5 @@
--- Lists of steps from the fresh world, and the list that closes one instance more, in the documents'
--- own numbers. Where it is empty, no coordinator is such.
+-- Lists of steps from the fresh world, and the list that closes one instance more, in the
+-- documents' own numbers. Where it is empty, no coordinator is such.
 use Prim.Native.Nat.{ℕ, suc, _+_}
 use mathlib.Core.Path.{_≡_}
 use mathlib.Core.List.{List, [], _∷_, _++_}
@@ -111,7 +111,8 @@ laterInstances =
     ∷ Propose 1 0 4 ∷ Deliver 17 ∷ Deliver 18 ∷ Deliver 20 ∷ Deliver 21 ∷ [])
     ∷ []
 
--- ---- "2 times acceptors plus 2 times m message numbers left": 10 with three acceptors, 16 with five
+-- ---- "2 times acceptors plus 2 times m message numbers left": 10 with three acceptors, 16 with
+-- five
 
 unfoldable pub numbersLeft : List Case
 numbersLeft =

@@ -1,4 +1,5 @@
--- The program's choice: "the lowest such coordinator, then ballot". `ChoiceExactly` says that it is.
+-- The program's choice: "the lowest such coordinator, then ballot". `ChoiceExactly` says that it
+-- is.
 use Prim.Native.Nat.{ℕ, suc, _-_, max}
 use mathlib.Core.Bool.{Bool, _&&_, _||_, not, cond}
 use lib.Dec.{eqb, leb, ltb}

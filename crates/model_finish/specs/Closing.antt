@@ -1,6 +1,6 @@
--- "Then a list of 2 + 4m steps, run without others between, applies one more instance: open, deliver
--- m prepares, then their promises, propose, deliver m accepts, then their acceptances, each by
--- acceptor."
+-- "Then a list of 2 + 4m steps, run without others between, applies one more instance: open,
+-- deliver m prepares, then their promises, propose, deliver m accepts, then their acceptances, each
+-- by acceptor."
 use Prim.Native.Nat.{ℕ, suc, _+_}
 use mathlib.Core.Bool.{cond}
 use mathlib.Core.List.{List, [], _∷_, _++_}
@@ -18,8 +18,8 @@ deliveries number ℕ.zero = []
 deliveries number (suc k) = deliveries number k ++ Deliver (number k) ∷ []
 
 -- The four runs of messages, by their numbers. "Messages [..] numbered as sent": `open` and
--- `propose` send one to each acceptor, acceptor 0 first, and each delivery to an acceptor sends one.
--- m acceptors answer, the lowest that are up
+-- `propose` send one to each acceptor, acceptor 0 first, and each delivery to an acceptor sends
+-- one. m acceptors answer, the lowest that are up
 module _ (w : World) where
   abbrev acceptors : ℕ
   acceptors = w .acceptors
