@@ -1,16 +1,15 @@
 -- The choice, coordinator by coordinator.
 use Prim.Native.Nat.{ℕ, suc, _+_, _*_, _-_, _<_, _≤_, max, min}
 use mathlib.Core.Bool.{Bool, true, false, _&&_, not, true≢false}
-use mathlib.Core.Logic.{_⊎_, inl, inr}
 use mathlib.Core.Path.{_≡_, refl, ap, sym, _∙_}
 use native.Mathlib.Numerals.{add-one}
 use native.Mathlib.Omega.{arith}
-use borrow.Author.Tests.{eq-eqb, eqb-true, ltb-true, ne-eqb}
-use lib.Dec.{eqb, leb, ltb}
+use borrow.Author.Tests.{eq-eqb, ltb-true, ne-eqb}
+use lib.Dec.{leb, ltb}
 use lib.ListN.{length}
-use Rattle.log_entry.proofs.Tests.{and-left, and-right, or-cases}
+use Rattle.log_entry.proofs.Tests.{and-left, and-right}
 use Rattle.model_steps.specs.declared.Role.the-variants.{Coord}
-use Rattle.model_steps.specs.Limits.{coordinators, fewestAcceptors, instances, messages, mostAcceptors}
+use Rattle.model_steps.specs.Limits.{coordinators, instances, messages, mostAcceptors}
 use Rattle.model_protocol.specs.declared.Coordinator.{Coordinator}
 use Rattle.model_protocol.specs.declared.World.{World}
 use Rattle.model_protocol.specs.Send.{lacksNumbers}
@@ -18,6 +17,7 @@ use Rattle.model_protocol.specs.World.{coordinatorOf, isDown}
 use Rattle.model_finish.specs.declared.Choice.{Choice}
 use Rattle.model_finish.specs.Choice.{allows, ballotOf, choiceOf, chosen, firstFrom, hasWork, highestPromised, isSetUp, lowestOwn}
 use Rattle.model_finish.specs.Such.{numbersNeeded, quorum, upAcceptors, upBelow}
+use Rattle.model_finish.proofs.SuchLaws.{few-acceptors, three-or-five}
 use Rattle.finish_list.specs.declared.acceptors.Up.{Up}
 use Rattle.finish_list.specs.Up.{Lists}
 use Rattle.finish_list.proofs.UpLaws.{counted}
@@ -25,11 +25,7 @@ use Rattle.finish_list.proofs.UpLaws.{counted}
 -- ---- what is asked for whichever the coordinator
 
 pub set-up-few : (n : ℕ) → isSetUp n ≡ true → n ≤ mostAcceptors
-set-up-few n h = go (or-cases (eqb n fewestAcceptors) (eqb n mostAcceptors) h)
-  where
-    go : (eqb n fewestAcceptors ≡ true) ⊎ (eqb n mostAcceptors ≡ true) → n ≤ mostAcceptors
-    go (inl e) = omega (arith, eqb-true n fewestAcceptors e)
-    go (inr e) = omega (arith, eqb-true n mostAcceptors e)
+set-up-few n h = few-acceptors n (three-or-five n h) .1
 
 pub not-set-up : (s a b : Bool) → s ≡ false → false ≡ (s && a && b)
 not-set-up true a b h = absurd (true≢false h)

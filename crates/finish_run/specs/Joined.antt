@@ -20,6 +20,6 @@ lacking begun (c ∷ s) = cond (eqb c lf) (lacking [] s) (lacking (begun ++ c �
 abbrev pub ended : List ℕ → List ℕ
 ended input = input ++ lacking [] input
 
--- "world's file, `finish`, both together"
+-- the file, and what `finish` prints for it behind it
 abbrev pub joined : List ℕ → List ℕ
 joined input = ended input ++ finish input

@@ -10,7 +10,7 @@ use mathlib.Core.Path.{_≡_, ap, refl, subst, sym, _∙_}
 use borrow.Author.Tests.{eq-eqb, eqb-false, eqb-true, le-leb, le-ltb, leb-true, lt-ltb, ltb-false, ltb-true, not-true}
 use lib.Dec.{eqb, leb, ltb}
 use lib.ListN.{length}
-use Rattle.log_entry.proofs.Tests.{and-left, and-right, opposed, or-cases, or-left, or-right}
+use Rattle.log_entry.proofs.Tests.{and-left, and-right, opposed, or-left, or-right}
 use Rattle.model_steps.specs.declared.Role.the-variants.{Coord}
 use Rattle.model_steps.specs.Limits.{ballots, coordinators, fewestAcceptors, instances, messages, mostAcceptors}
 use Rattle.model_owners.specs.Owners.{owner}
@@ -23,6 +23,7 @@ use Rattle.model_finish.specs.Choice.{above, allows, ballotOf, choiceOf,
 use Rattle.model_finish.specs.Claims.{ChoiceExactly, Lowest, NothingExactly}
 use Rattle.model_finish.specs.Closing.{closing, finishing}
 use Rattle.model_finish.specs.Such.{OwnBallot, Such, currentOf, numbersNeeded, quorum, upAcceptors}
+use Rattle.model_finish.proofs.SuchLaws.{three-or-five}
 use Rattle.model_finish.proofs.Theorem.{closing-length}
 
 -- ---- the first ballot of a coordinator from b on
@@ -165,7 +166,7 @@ module _ (w : World) where
   such-if a c l h = record {
     coordinator = l;
     up = not-true (isDown (w .down) Coord c) (and-left (not (isDown (w .down) Coord c)) (hasWork k) r);
-    set-up = three-or-five (or-cases (eqb n fewestAcceptors) (eqb n mostAcceptors) (and-left (isSetUp n) _ a₁));
+    set-up = three-or-five n (and-left (isSetUp n) _ a₁);
     quorum-up = leb-true (quorum n) (length (upAcceptors w)) (and-right (isSetUp n) _ a₁);
     queued = ltb-true 0 (k .queue .count) (and-left _ (ltb (k .applied) instances) work);
     current = ltb-true (k .applied) instances (and-right (ltb 0 (k .queue .count)) _ work);
@@ -187,10 +188,6 @@ module _ (w : World) where
 
       left : lacksNumbers (w .sent) (numbersNeeded n) ≡ false
       left = not-true _ (and-right (isSetUp n && leb (quorum n) (length (upAcceptors w))) (not (lacksNumbers (w .sent) (numbersNeeded n))) a)
-
-      three-or-five : (eqb n fewestAcceptors ≡ true) ⊎ (eqb n mostAcceptors ≡ true) → (n ≡ fewestAcceptors) ⊎ (n ≡ mostAcceptors)
-      three-or-five (inl e) = inl (eqb-true n fewestAcceptors e)
-      three-or-five (inr e) = inr (eqb-true n mostAcceptors e)
 
   ballot-such : {c : ℕ} → Such w c → 0 < ballotOf w c
   ballot-such {c} s = subst (λ (x : ℕ). 0 < x) (sym (could w c s)) (lowest-there w c (s .ballot .1))
