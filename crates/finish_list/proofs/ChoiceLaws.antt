@@ -9,13 +9,13 @@ use lib.Dec.{leb, ltb}
 use lib.ListN.{length}
 use Rattle.log_entry.proofs.Tests.{and-left, and-right}
 use Rattle.model_steps.specs.declared.Role.the-variants.{Coord}
-use Rattle.model_steps.specs.Limits.{coordinators, instances, messages, mostAcceptors}
+use Rattle.model_steps.specs.Limits.{canSetUp, coordinators, instances, messages, mostAcceptors}
 use Rattle.model_protocol.specs.declared.Coordinator.{Coordinator}
 use Rattle.model_protocol.specs.declared.World.{World}
 use Rattle.model_protocol.specs.Send.{lacksNumbers}
 use Rattle.model_protocol.specs.World.{coordinatorOf, isDown}
 use Rattle.model_finish.specs.declared.Choice.{Choice}
-use Rattle.model_finish.specs.Choice.{allows, ballotOf, choiceOf, chosen, firstFrom, hasWork, highestPromised, isSetUp, lowestOwn}
+use Rattle.model_finish.specs.Choice.{allows, ballotOf, choiceOf, chosen, firstFrom, hasWork, highestPromised, lowestOwn}
 use Rattle.model_finish.specs.Such.{numbersNeeded, quorum, upAcceptors, upBelow}
 use Rattle.model_finish.proofs.SuchLaws.{few-acceptors, three-or-five}
 use Rattle.finish_list.specs.declared.acceptors.Up.{Up}
@@ -24,7 +24,7 @@ use Rattle.finish_list.proofs.UpLaws.{counted}
 
 -- ---- what is asked for whichever the coordinator
 
-pub set-up-few : (n : ℕ) → isSetUp n ≡ true → n ≤ mostAcceptors
+pub set-up-few : (n : ℕ) → canSetUp n ≡ true → n ≤ mostAcceptors
 set-up-few n h = few-acceptors n (three-or-five n h) .1
 
 pub not-set-up : (s a b : Bool) → s ≡ false → false ≡ (s && a && b)
@@ -37,11 +37,11 @@ set-up s n m up sent l h e k = rw (h, k, e)
 
 -- where there are at most five acceptors, all count
 pub allows-is : (w : World) (u : Up) → Lists u (upBelow (w .down) (min (w .acceptors) mostAcceptors))
-    → (isSetUp (w .acceptors) && leb (quorum (w .acceptors)) (u .count) && not (lacksNumbers (w .sent) (numbersNeeded (w .acceptors)))) ≡ allows w
+    → (canSetUp (w .acceptors) && leb (quorum (w .acceptors)) (u .count) && not (lacksNumbers (w .sent) (numbersNeeded (w .acceptors)))) ≡ allows w
 unfolding allows
-allows-is w u is = go (isSetUp (w .acceptors)) refl
+allows-is w u is = go (canSetUp (w .acceptors)) refl
   where
-    go : (s : Bool) → isSetUp (w .acceptors) ≡ s
+    go : (s : Bool) → canSetUp (w .acceptors) ≡ s
         → (s && leb (quorum (w .acceptors)) (u .count) && not (lacksNumbers (w .sent) (numbersNeeded (w .acceptors))))
         ≡ (s && leb (quorum (w .acceptors)) (length (upAcceptors w)) && not (lacksNumbers (w .sent) (numbersNeeded (w .acceptors))))
     go true e =
@@ -56,7 +56,7 @@ unfolding allows
 allowed-few w h =
     let n = w .acceptors in
     let up = leb (quorum n) (length (upAcceptors w)) in
-    set-up-few n (and-left (isSetUp n) up (and-left (isSetUp n && up) (not (lacksNumbers (w .sent) (numbersNeeded n))) h))
+    set-up-few n (and-left (canSetUp n) up (and-left (canSetUp n && up) (not (lacksNumbers (w .sent) (numbersNeeded n))) h))
 
 -- ---- the ballot of a coordinator
 

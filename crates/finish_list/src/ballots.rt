@@ -3,9 +3,7 @@ ghost use Prim.Native.Nat.{max};
 ghost use mathlib.Core.Path.{_≡_};
 ghost use Rattle.model_finish.specs.Choice.{lowestOwn};
 use model_owners::owner;
-
-// Ballots are 1 to 255.
-const BALLOTS: u8 = 255;
+use model_steps::limits::BALLOTS;
 
 pub fn higher(x: u8, y: u8) -> u8
     ensures { λ r. ⌜ r ≡ max x y ⌝ }

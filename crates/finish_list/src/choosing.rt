@@ -3,9 +3,9 @@ ghost use Prim.Native.Nat.{_<_, _≤_};
 ghost use mathlib.Core.Bool.{_&&_, not};
 ghost use mathlib.Core.Path.{_≡_};
 ghost use lib.Dec.{leb};
-ghost use Rattle.model_steps.specs.Limits.{coordinators, instances, mostAcceptors};
+ghost use Rattle.model_steps.specs.Limits.{canSetUp, coordinators, instances, mostAcceptors};
 ghost use Rattle.model_protocol.specs.Send.{lacksNumbers};
-ghost use Rattle.model_finish.specs.Choice.{ballotOf, choiceOf, firstFrom, hasWork, highestPromised, isSetUp};
+ghost use Rattle.model_finish.specs.Choice.{ballotOf, choiceOf, firstFrom, hasWork, highestPromised};
 ghost use Rattle.model_finish.specs.Such.{numbersNeeded, quorum};
 use crate::acceptors;
 use crate::ballots;
@@ -14,25 +14,18 @@ use model_protocol::Coordinator;
 use model_protocol::World;
 use model_protocol::limits::INSTANCE_PLACES;
 use model_steps::Role;
+use model_steps::limits;
 use model_steps::limits::COORDINATORS;
-use model_steps::limits::FEWEST_ACCEPTORS;
 use model_steps::limits::INSTANCES;
-use model_steps::limits::MOST_ACCEPTORS;
 use world_messages::parties;
 use world_messages::send;
-
-fn is_set_up(n: u8) -> bool
-    ensures { λ r. ⌜ r ≡ isSetUp n ⌝ }
-{
-    (n == FEWEST_ACCEPTORS) | (n == MOST_ACCEPTORS)
-}
 
 // Whether n acceptors are set up, so many being up suffice, and so many message numbers sent leave
 // enough.
 fn allows(n: u8, up: usize, sent: u8) -> bool
-    ensures { λ r. ⌜ r ≡ (isSetUp n && leb (quorum n) up && not (lacksNumbers sent (numbersNeeded n))) ⌝ }
+    ensures { λ r. ⌜ r ≡ (canSetUp n && leb (quorum n) up && not (lacksNumbers sent (numbersNeeded n))) ⌝ }
 {
-    if !is_set_up(n) {
+    if !limits::can_set_up(n) {
         return false;
     }
     let m = acceptors::quorum(n);

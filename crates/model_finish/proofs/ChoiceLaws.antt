@@ -12,14 +12,14 @@ use lib.Dec.{eqb, leb, ltb}
 use lib.ListN.{length}
 use Rattle.log_entry.proofs.Tests.{and-left, and-right, opposed, or-left, or-right}
 use Rattle.model_steps.specs.declared.Role.the-variants.{Coord}
-use Rattle.model_steps.specs.Limits.{ballots, coordinators, fewestAcceptors, instances, messages, mostAcceptors}
+use Rattle.model_steps.specs.Limits.{ballots, canSetUp, coordinators, fewestAcceptors, instances, messages, mostAcceptors}
 use Rattle.model_owners.specs.Owners.{owner}
 use Rattle.model_protocol.specs.declared.Coordinator.{Coordinator}
 use Rattle.model_protocol.specs.declared.World.{World}
 use Rattle.model_protocol.specs.Send.{lacksNumbers}
 use Rattle.model_protocol.specs.World.{coordinatorOf, isDown, slotOf}
 use Rattle.model_finish.specs.declared.Choice.{Choice}
-use Rattle.model_finish.specs.Choice.{above, allows, ballotOf, choiceOf, chosen, firstFrom, hasWork, highestPromised, isSetUp, lowestOwn, ownFrom}
+use Rattle.model_finish.specs.Choice.{above, allows, ballotOf, choiceOf, chosen, firstFrom, hasWork, highestPromised, lowestOwn, ownFrom}
 use Rattle.model_finish.specs.Claims.{ChoiceExactly, Lowest, NothingExactly}
 use Rattle.model_finish.specs.Closing.{closing, finishing}
 use Rattle.model_finish.specs.Such.{OwnBallot, Such, currentOf, numbersNeeded, quorum, upAcceptors}
@@ -154,7 +154,7 @@ module _ (w : World) where
   unfolding allows
   allowed a q m = rw (set-up a, le-leb (quorum n) (length (upAcceptors w)) q, le-ltb (messages - w .sent) (numbersNeeded n) (omega arith))
     where
-      set-up : (n ≡ fewestAcceptors) ⊎ (n ≡ mostAcceptors) → isSetUp n ≡ true
+      set-up : (n ≡ fewestAcceptors) ⊎ (n ≡ mostAcceptors) → canSetUp n ≡ true
       set-up (inl e) = or-left (eqb n fewestAcceptors) (eqb n mostAcceptors) (eq-eqb n fewestAcceptors e)
       set-up (inr e) = or-right (eqb n fewestAcceptors) (eqb n mostAcceptors) (eq-eqb n mostAcceptors e)
 
@@ -166,8 +166,8 @@ module _ (w : World) where
   such-if a c l h = record {
     coordinator = l;
     up = not-true (isDown (w .down) Coord c) (and-left (not (isDown (w .down) Coord c)) (hasWork k) r);
-    set-up = three-or-five n (and-left (isSetUp n) _ a₁);
-    quorum-up = leb-true (quorum n) (length (upAcceptors w)) (and-right (isSetUp n) _ a₁);
+    set-up = three-or-five n (and-left (canSetUp n) _ a₁);
+    quorum-up = leb-true (quorum n) (length (upAcceptors w)) (and-right (canSetUp n) _ a₁);
     queued = ltb-true 0 (k .queue .count) (and-left _ (ltb (k .applied) instances) work);
     current = ltb-true (k .applied) instances (and-right (ltb 0 (k .queue .count)) _ work);
     ballot = (lowest w c, lowest-is w c (subst (λ (x : ℕ). 0 < x) (can w c h .1) h));
@@ -183,11 +183,11 @@ module _ (w : World) where
       work : hasWork k ≡ true
       work = and-right (not (isDown (w .down) Coord c)) (hasWork k) r
 
-      a₁ : (isSetUp n && leb (quorum n) (length (upAcceptors w))) ≡ true
-      a₁ = and-left (isSetUp n && leb (quorum n) (length (upAcceptors w))) (not (lacksNumbers (w .sent) (numbersNeeded n))) a
+      a₁ : (canSetUp n && leb (quorum n) (length (upAcceptors w))) ≡ true
+      a₁ = and-left (canSetUp n && leb (quorum n) (length (upAcceptors w))) (not (lacksNumbers (w .sent) (numbersNeeded n))) a
 
       left : lacksNumbers (w .sent) (numbersNeeded n) ≡ false
-      left = not-true _ (and-right (isSetUp n && leb (quorum n) (length (upAcceptors w))) (not (lacksNumbers (w .sent) (numbersNeeded n))) a)
+      left = not-true _ (and-right (canSetUp n && leb (quorum n) (length (upAcceptors w))) (not (lacksNumbers (w .sent) (numbersNeeded n))) a)
 
   ballot-such : {c : ℕ} → Such w c → 0 < ballotOf w c
   ballot-such {c} s = subst (λ (x : ℕ). 0 < x) (sym (could w c s)) (lowest-there w c (s .ballot .1))

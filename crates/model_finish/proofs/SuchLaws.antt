@@ -7,12 +7,11 @@ use mathlib.Core.Path.{_≡_}
 use borrow.Author.Tests.{eqb-true}
 use lib.Dec.{eqb}
 use Rattle.log_entry.proofs.Tests.{or-cases}
-use Rattle.model_steps.specs.Limits.{fewestAcceptors, mostAcceptors}
+use Rattle.model_steps.specs.Limits.{canSetUp, fewestAcceptors, mostAcceptors}
 use Rattle.model_protocol.specs.declared.World.{World}
-use Rattle.model_finish.specs.Choice.{isSetUp}
 use Rattle.model_finish.specs.Such.{Such}
 
-pub three-or-five : (n : ℕ) → isSetUp n ≡ true → (n ≡ fewestAcceptors) ⊎ (n ≡ mostAcceptors)
+pub three-or-five : (n : ℕ) → canSetUp n ≡ true → (n ≡ fewestAcceptors) ⊎ (n ≡ mostAcceptors)
 three-or-five n h = go (or-cases (eqb n fewestAcceptors) (eqb n mostAcceptors) h)
   where
     go : (eqb n fewestAcceptors ≡ true) ⊎ (eqb n mostAcceptors ≡ true) → (n ≡ fewestAcceptors) ⊎ (n ≡ mostAcceptors)

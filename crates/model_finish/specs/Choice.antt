@@ -1,11 +1,11 @@
 -- The program's choice: "the lowest such coordinator, then ballot". `ChoiceExactly` says that it
 -- is.
 use Prim.Native.Nat.{ℕ, suc, _-_, max}
-use mathlib.Core.Bool.{Bool, _&&_, _||_, not, cond}
+use mathlib.Core.Bool.{Bool, _&&_, not, cond}
 use lib.Dec.{eqb, leb, ltb}
 use lib.ListN.{length}
 use Rattle.model_steps.specs.declared.Role.the-variants.{Coord}
-use Rattle.model_steps.specs.Limits.{ballots, coordinators, fewestAcceptors, instances, mostAcceptors}
+use Rattle.model_steps.specs.Limits.{ballots, canSetUp, coordinators, instances}
 use Rattle.model_owners.specs.Owners.{owner}
 use Rattle.model_protocol.specs.declared.Coordinator.{Coordinator}
 use Rattle.model_protocol.specs.declared.World.{World}
@@ -14,14 +14,10 @@ use Rattle.model_protocol.specs.World.{coordinatorOf, isDown, slotOf}
 use Rattle.model_finish.specs.declared.Choice.{Choice}
 use Rattle.model_finish.specs.Such.{currentOf, numbersNeeded, quorum, upAcceptors}
 
--- "acceptors 3 or 5"
-abbrev pub isSetUp : ℕ → Bool
-isSetUp n = eqb n fewestAcceptors || eqb n mostAcceptors
-
 -- what is asked for whichever the coordinator: the acceptors, and the message numbers
 unfoldable pub allows : World → Bool
 allows w =
-    isSetUp (w .acceptors)
+    canSetUp (w .acceptors)
     && leb (quorum (w .acceptors)) (length (upAcceptors w))
     && not (lacksNumbers (w .sent) (numbersNeeded (w .acceptors)))
 

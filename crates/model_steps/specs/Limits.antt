@@ -21,6 +21,9 @@ fewestAcceptors = 3
 abbrev pub mostAcceptors : ℕ
 mostAcceptors = 5
 
+abbrev pub canSetUp : ℕ → Bool
+canSetUp n = eqb n fewestAcceptors || eqb n mostAcceptors
+
 -- instances are 0 to 15
 abbrev pub instances : ℕ
 instances = 16
@@ -46,7 +49,7 @@ noParty acceptors Proc id = noProcess id
 
 -- 2: a number of the step is outside its limits, where this many acceptors count
 unfoldable pub outsideStep : ℕ → Step → Bool
-outsideStep acceptors (Setup n) = not (eqb n fewestAcceptors || eqb n mostAcceptors)
+outsideStep acceptors (Setup n) = not (canSetUp n)
 outsideStep acceptors (Request e to) = outside stores e || noCoordinator to
 outsideStep acceptors (Open c i b) = noCoordinator c || leb instances i || noBallot b
 outsideStep acceptors (Propose c i b) = noCoordinator c || leb instances i || noBallot b

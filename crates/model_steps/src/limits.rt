@@ -1,10 +1,10 @@
 // The limits of what a step names. `specs/Limits.antt` has the same numbers for the contracts.
 ghost use mathlib.Core.Path.{_≡_};
 ghost use mathlib.Core.Bool.{_||_, not};
-ghost use lib.Dec.{eqb, leb};
+ghost use lib.Dec.{leb};
 ghost use Rattle.log_entry.specs.Entry.{noProcess, noTurn, outside};
 ghost use Rattle.log_entry.specs.Limits.{stores, transactions};
-ghost use Rattle.model_steps.specs.Limits.{fewestAcceptors, instances, mostAcceptors, noBallot, noCoordinator, noParty, outsideStep};
+ghost use Rattle.model_steps.specs.Limits.{canSetUp, instances, noBallot, noCoordinator, noParty, outsideStep};
 use crate::Role;
 use crate::Step;
 use log_entry::Entry;
@@ -20,6 +20,9 @@ pub const MOST_ACCEPTORS: u8 = 5;
 
 pub const INSTANCES: u8 = 16;
 
+// Ballots are 1 to 255, the largest byte; 0 is none.
+pub const BALLOTS: u8 = 255;
+
 pub const MESSAGES: u8 = 128;
 
 // A command for each line that a program answers: 1,000, and line 1,001.
@@ -27,10 +30,17 @@ pub const COMMANDS: u16 = 1001;
 
 pub const COMMAND_PLACES: usize = COMMANDS as usize;
 
-fn setup_outside(n: u8) -> bool
-    ensures { λ r. ⌜ r ≡ not (eqb n fewestAcceptors || eqb n mostAcceptors) ⌝ }
+// Whether a setup may name so many acceptors.
+pub fn can_set_up(n: u8) -> bool
+    ensures { λ r. ⌜ r ≡ canSetUp n ⌝ }
 {
-    !((n == FEWEST_ACCEPTORS) | (n == MOST_ACCEPTORS))
+    (n == FEWEST_ACCEPTORS) | (n == MOST_ACCEPTORS)
+}
+
+fn setup_outside(n: u8) -> bool
+    ensures { λ r. ⌜ r ≡ not (canSetUp n) ⌝ }
+{
+    !can_set_up(n)
 }
 
 fn no_request(e: Entry, to: u8) -> bool

@@ -4,20 +4,19 @@ use mathlib.Core.Path.{_≡_, sym, _∙_}
 use native.Mathlib.Omega.{arith}
 use borrow.Author.Tests.{not-false, not-true}
 use borrow.Author.Needs.{needs}
-use Rattle.model_steps.specs.Limits.{mostAcceptors}
-use Rattle.model_finish.specs.Choice.{isSetUp}
+use Rattle.model_steps.specs.Limits.{canSetUp, mostAcceptors}
 use Rattle.finish_list.proofs.ChoiceLaws.{not-set-up, set-up, set-up-few}
 use Rattle.finish_list.proofs.choosing.allows.Statement.{statement}
 use Rattle.finish_list.proofs.choosing.allows.Tie as tie
 
-set-up-here : (c : tie.Else1) → isSetUp (c .before .before .args .n) ≡ true
-set-up-here c = sym (c .before .is-set-up .ensures) ∙ not-false _ (c .if1 .left)
+set-up-here : (c : tie.Else1) → canSetUp (c .before .before .args .n) ≡ true
+set-up-here c = sym (c .before .can-set-up .ensures) ∙ not-false _ (c .if1 .left)
 
 few : (c : tie.Else1) → c .before .before .args .n ≤ mostAcceptors
 few c = set-up-few _ (set-up-here c)
 
 returns : tie.Need-returns
-returns c = not-set-up _ _ _ (sym (c .before .is-set-up .ensures) ∙ not-true _ (c .if1 .taken))
+returns c = not-set-up _ _ _ (sym (c .before .can-set-up .ensures) ∙ not-true _ (c .if1 .taken))
 
 mul-lacks-numbers : tie.Need-mul-lacks-numbers
 mul-lacks-numbers c = omega (arith, few (c .before))
