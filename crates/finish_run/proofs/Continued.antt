@@ -9,12 +9,15 @@ use lib.Dec.{eqb}
 use lib.ListN.{length, length-append, length-map, replicate, take}
 use lib.Seq.{take-all}
 use Rattle.log_entry.specs.Refusal.{accepted}
+use Rattle.model_agreement.specs.Claim.{IsSequence}
+use Rattle.model_agreement.specs.History.{history}
 use Rattle.model_finish.specs.Choice.{choiceOf}
-use Rattle.model_finish.specs.Claims.{AllAccepted, Closes}
+use Rattle.model_finish.specs.Claims.{AllAccepted, Closes, Finished}
 use Rattle.model_finish.specs.Closing.{acceptNumber, acceptedNumber, answering, closing, deliveries, prepareNumber, promiseNumber}
 use Rattle.model_finish.specs.Such.{OwnBallot, Such, currentOf}
 use Rattle.model_finish.proofs.ChoiceLaws.{choice-exactly, nothing-exactly}
-use Rattle.model_finish.proofs.Theorem.{run-append, such-closes}
+use Rattle.model_finish.proofs.Theorem.{closes-in-sequence, run-append, such-closes}
+use Rattle.model_protocol.specs.declared.Batch.{Batch}
 use Rattle.model_protocol.specs.declared.World.{World}
 use Rattle.model_protocol.specs.Step.{run, stepOf}
 use Rattle.model_protocol.specs.World.{freshWorld}
@@ -32,7 +35,7 @@ use Rattle.world_run.specs.Program.{answersFor, worldFor}
 use Rattle.world_run.specs.Steps.{stepOfLine, stepsIn, stepsOf}
 use Rattle.world_run.proofs.Answers.{few-counted}
 use Rattle.world_run.proofs.Meaning.{input-runs}
-use Rattle.finish_run.specs.Claims.{EveryListCloses, FileContinues, LinesLeft, ListCloses, PrintsNothingExactly}
+use Rattle.finish_run.specs.Claims.{EveryListCloses, EveryListFinishes, FileContinues, LinesLeft, ListCloses, ListFinishes, PrintsNothingExactly}
 use Rattle.finish_run.specs.Joined.{joined}
 use Rattle.finish_run.specs.Program.{finish, listFor}
 use Rattle.finish_run.proofs.FileLines.{Each, lines-joined, lines-of-steps, noLf}
@@ -84,17 +87,32 @@ module _ (input : List ℕ) where
       go true e = absurd (omega (arith, eqb-true (choiceOf w .ballot) 0 e))
       go false e = rw e
 
-  list-closes : ListCloses input
-  list-closes h =
+  -- what holds of the list of every such coordinator holds of this one
+  of-choice : (P : World → ℕ → List Step → Type 0)
+      → ((c b : ℕ) → let v = run freshWorld (stepsOf input) in Such v c → OwnBallot v c b → P v c (closing v c b))
+      → 0 < choiceOf w .ballot → P w (choiceOf w .coord) (listFor input)
+  of-choice P each h =
       let l = choice-exactly w .lowest h in
-      subst (Closes w (choiceOf w .coord)) (sym (listed h))
-      (subst (λ (v : World). Such v c → OwnBallot v c b → Closes v c (closing v c b)) (sym (input-runs input)) (such-closes (stepsOf input) c b) (l .such) (l .ballot))
+      subst (P w c) (sym (listed h))
+      (subst (λ (v : World). Such v c → OwnBallot v c b → P v c (closing v c b)) (sym (input-runs input)) (each c b) (l .such) (l .ballot))
     where
       c : ℕ
       c = choiceOf w .coord
 
       b : ℕ
       b = choiceOf w .ballot
+
+  list-closes : ListCloses input
+  list-closes = of-choice Closes (such-closes (stepsOf input))
+
+  list-finishes : ListFinishes input
+  list-finishes =
+      let steps = stepsOf input in
+      of-choice
+      (λ v c list.
+      (s t : List Batch) → IsSequence (history steps) s → IsSequence (history (steps ++ list)) t
+      → Finished steps list c (currentOf v c) s t)
+      (closes-in-sequence steps)
 
   -- by the ballot of the choice: none, or one with its list
   by-choice : (P : List Step → Type 0) → P [] → (0 < choiceOf w .ballot → P (listFor input)) → P (listFor input)
@@ -112,6 +130,9 @@ module _ (input : List ℕ) where
 
 pub every-list-closes : EveryListCloses
 every-list-closes input = list-closes input
+
+pub every-list-finishes : EveryListFinishes
+every-list-finishes input = list-finishes input
 
 -- ---- an empty list prints nothing, and no other does
 

@@ -5,9 +5,12 @@ use mathlib.Core.Logic.{_↔_}
 use mathlib.Core.Path.{_≡_}
 use lib.ListN.{length, replicate}
 use Rattle.log_entry.specs.Refusal.{accepted}
+use Rattle.model_agreement.specs.Claim.{IsSequence}
+use Rattle.model_agreement.specs.History.{history}
 use Rattle.model_finish.specs.Choice.{choiceOf}
-use Rattle.model_finish.specs.Claims.{Closes}
-use Rattle.model_finish.specs.Such.{Such}
+use Rattle.model_finish.specs.Claims.{Closes, Finished}
+use Rattle.model_finish.specs.Such.{Such, currentOf}
+use Rattle.model_protocol.specs.declared.Batch.{Batch}
 use Rattle.model_protocol.specs.Step.{run}
 use Rattle.text_lines.specs.Lines.{lf, lines, maxLines}
 use Rattle.world_run.specs.Program.{answersFor, worldFor}
@@ -23,6 +26,19 @@ ListCloses input =
 
 abbrev pub EveryListCloses : Type 0
 EveryListCloses = (input : List ℕ) → ListCloses input
+
+-- With demand 3: s is the sequence of the file, and t of the file and the list. Either the
+-- coordinator learns what was decided already, or the sequence grows by one batch.
+abbrev pub ListFinishes : List ℕ → Type 0
+ListFinishes input =
+    let w = worldFor input in
+    let c = choiceOf w .coord in
+    0 < choiceOf w .ballot → (s t : List Batch)
+    → IsSequence (history (stepsOf input)) s → IsSequence (history (stepsOf input ++ listFor input)) t
+    → Finished (stepsOf input) (listFor input) c (currentOf w c) s t
+
+abbrev pub EveryListFinishes : Type 0
+EveryListFinishes = (input : List ℕ) → ListFinishes input
 
 -- "and nothing exactly where no coordinator is such"
 abbrev pub NothingIfNone : List ℕ → Type 0

@@ -11,7 +11,7 @@ use Rattle.model_finish.specs.Closing.{closing, deliveries, finishing}
 use Rattle.model_finish.specs.Such.{upBelow}
 
 -- `unfolding listed` opens every definition that a list goes through
-unfoldable listed : List Step → List Step
+unfoldable pub listed : List Step → List Step
 unfolding computed asDefined choiceOf allows firstFrom ballotOf highestPromised ownFrom closing deliveries upBelow
 listed steps = finishing (run freshWorld steps)
 

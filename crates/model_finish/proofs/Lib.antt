@@ -2,6 +2,8 @@ pub mod AcceptedSteps
 pub mod Cases
 pub mod ChoiceLaws
 pub mod Contents
+pub mod Examples
+pub mod OnlyThere
 pub mod Openings
 pub mod Phases
 pub mod Rounds

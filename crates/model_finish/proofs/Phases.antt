@@ -36,11 +36,12 @@ use Rattle.model_agreement.specs.Content.{contentOf}
 use Rattle.model_agreement.specs.History.{Accepts, Event, later, note, opened}
 use Rattle.model_agreement.proofs.ChangedWorld.{withCoordinator, withLearned, withSlot}
 use Rattle.model_agreement.proofs.SentMessages.{filled, outboxOf, posted, send-posts}
-use Rattle.model_finish.specs.Claims.{LowestUp}
+use Rattle.model_finish.specs.Claims.{LowestUp, OnlyAt}
 use Rattle.model_finish.specs.Closing.{acceptNumber, acceptedNumber, closing, deliveries, prepareNumber, promiseNumber}
 use Rattle.model_finish.specs.Such.{OwnBallot, Such, currentOf, quorum, upAcceptor}
 use Rattle.model_finish.proofs.AcceptedSteps.{InRange, accept-goes, accepted-counts, accepted-learns, open-goes, prepare-goes, promise-goes, propose-goes}
 use Rattle.model_finish.proofs.Contents.{Elsewhere, accepted-before, no-accepted, no-prepare, no-promise, this-accept}
+use Rattle.model_finish.proofs.OnlyThere.{only-coordinator, only-learned, only-slot, only-then}
 use Rattle.model_finish.proofs.Rounds.{AfterPromise, after-promise, learning-applies}
 use Rattle.model_finish.proofs.Rows.{Rows, rows-coordinator, rows-learned}
 use Rattle.model_finish.proofs.Running.{Ends, Goes, Holding, ends-append, ends-as, ends-deliveries, goes-to}
@@ -72,8 +73,7 @@ module _ (w₀ : World) (h₀ : List Event) (b : ℕ) where
   -- what stays while the list runs
   pub record Frame (w : World) (h : List Event) : Type 0 where
     pub rows : Rows w
-    pub acceptors : w .acceptors ≡ n
-    pub down : w .down ≡ w₀ .down
+    pub only : OnlyAt c i w₀ w
     pub quiet : (j d a : ℕ) (v : Batch) → j ≢ i → Accepts j d a v h → Accepts j d a v h₀
 
   -- the message is acceptor a's promise
@@ -146,12 +146,11 @@ module _ (w₀ : World) (h₀ : List Event) (b : ℕ) where
     -- ---- the parts of the world that change
 
     frame-delivered : {w : World} {h : List Event} (v : World) (j : ℕ) (x : Message) → Frame w h → messageOf w j ≡ x
-        → Elsewhere i (contentOf x (replayWith w j)) → Rows v → v .acceptors ≡ w .acceptors → v .down ≡ w .down
+        → Elsewhere i (contentOf x (replayWith w j)) → Rows v → OnlyAt c i w v
         → Frame v (note w (Deliver j) h)
-    frame-delivered {w} v j x f e other r same up = record {
+    frame-delivered {w} v j x f e other r o = record {
       rows = r;
-      acceptors = same ∙ f .acceptors;
-      down = up ∙ f .down;
+      only = only-then (f .only) o;
       quiet =
           λ k d a y ne z.
           f .quiet k d a y ne (accepted-before (subst (λ (q : Message). Elsewhere i (contentOf q (replayWith w j))) (sym e) other) ne z);
@@ -189,8 +188,7 @@ module _ (w₀ : World) (h₀ : List Event) (b : ℕ) where
               slots-row = rows₀ .slots-row;
               coordinators-row = rows-coordinator c new rows₀ .coordinators-row;
             };
-            acceptors = refl;
-            down = refl;
+            only = only-coordinator c i w₀ new _ _;
             quiet = λ j d a x ne y. not-opened y;
           };
           sent = omega arith;
@@ -240,10 +238,10 @@ module _ (w₀ : World) (h₀ : List Event) (b : ℕ) where
           go (no e) = subst (λ (z : AcceptorSlot). P j (z .promised)) (sym (slot-other w j k x (distinct j k e h l))) (others e)
 
     is-up : {w : World} {h : List Event} → Frame w h → (k : ℕ) → k < m → isDown (w .down) Acceptor (u k) ≡ false
-    is-up f k l = ap (λ (d : Down). isDown d Acceptor (u k)) (f .down) ∙ asked .is-up k l
+    is-up f k l = ap (λ (d : Down). isDown d Acceptor (u k)) (f .only .down) ∙ asked .is-up k l
 
     live-in : {w : World} {h : List Event} → Frame w h → 0 < w .acceptors
-    live-in f = omega (arith, f .acceptors, live such)
+    live-in f = omega (arith, f .only .acceptors, live such)
 
     prepares-go : (k : ℕ) → k < m → (w : World) (h : List Event) → Prepared k w h → Goes w h (Deliver (prepareNumber w₀ k)) (Prepared (suc k))
     prepares-go k l w h p =
@@ -251,7 +249,8 @@ module _ (w₀ : World) (h₀ : List Event) (b : ℕ) where
         (prepare-goes w (s + u k) before (omega (arith, one)) (live-in (p .frame)) i b (u k) (is-acceptor k l) (such .current) one (is-up (p .frame) k l) is
         (p .open-slots k (omega arith) l))
         (record {
-          frame = frame-delivered _ (s + u k) (prepareTo i b (u k)) (p .frame) is (no-prepare i b (u k)) (replied-rows w k (promising x b) y r) refl refl;
+          frame = frame-delivered _ (s + u k) (prepareTo i b (u k)) (p .frame) is (no-prepare i b (u k)) (replied-rows w k (promising x b) y r)
+              (only-slot c i w (u k) (promising x b) y (such .current));
           sent = omega (arith, p .sent);
           coordinator = p .coordinator;
           prepares = λ a g. reply-old w k (promising x b) y (s + a) (omega (arith, p .sent)) ∙ p .prepares a g;
@@ -311,7 +310,7 @@ module _ (w₀ : World) (h₀ : List Event) (b : ℕ) where
     -- ---- a delivery to the coordinator
 
     co-up : {w : World} {h : List Event} → Frame w h → isDown (w .down) Coord c ≡ false
-    co-up f = ap (λ (d : Down). isDown d Coord c) (f .down) ∙ such .up
+    co-up f = ap (λ (d : Down). isDown d Coord c) (f .only .down) ∙ such .up
 
     promised : (w : World) (h : List Event) → Prepared m w h → Heard 0 w h
     promised w h p = record {
@@ -333,7 +332,8 @@ module _ (w₀ : World) (h₀ : List Event) (b : ℕ) where
         (p .at-ballot .applied) (p .at-ballot .ballot) (q .accepted) (q .batch) (q .is))
         (record {
           frame =
-              frame-delivered _ (s + n + k) _ (p .frame) (q .is) (no-promise i b (u k) (q .accepted) (q .batch)) (rows-coordinator c x r) refl refl;
+              frame-delivered _ (s + n + k) _ (p .frame) (q .is) (no-promise i b (u k) (q .accepted) (q .batch)) (rows-coordinator c x r)
+              (only-coordinator c i w x _ _);
           sent = p .sent;
           at-ballot = subst AtBallot here (record { applied = p .at-ballot .applied; ballot = a .ballot ∙ p .at-ballot .ballot });
           queued = subst (λ (z : Coordinator). 0 < z .queue .count) here (p .queued);
@@ -373,7 +373,7 @@ module _ (w₀ : World) (h₀ : List Event) (b : ℕ) where
     proposes : (w : World) (h : List Event) → Heard m w h → Goes w h (Propose c i b) (Voted (proposal w) 0)
     proposes w h p =
         goes-to (Voted v 0) w h (Propose c i b) z
-        (propose-goes w c i b in-range (co-up (p .frame)) (live-in (p .frame)) (p .at-ballot .applied) (omega (arith, p .sent, p .frame .acceptors, numbers))
+        (propose-goes w c i b in-range (co-up (p .frame)) (live-in (p .frame)) (p .at-ballot .applied) (omega (arith, p .sent, p .frame .only .acceptors, numbers))
         (p .at-ballot .ballot) (subst (λ (j : ℕ). majority j (its .round .promises) ≡ true) (sym same) (enough (its .round .promises) (p .counted))) (p .not-proposed) (p .queued)
         ∙ ap (λ (y : World). answered y accepted)
         (send-posts (withCoordinator w c new) (w .acceptors) (acceptTo i b v)
@@ -385,8 +385,7 @@ module _ (w₀ : World) (h₀ : List Event) (b : ℕ) where
               slots-row = r .slots-row;
               coordinators-row = rows-coordinator c new r .coordinators-row;
             };
-            acceptors = p .frame .acceptors;
-            down = p .frame .down;
+            only = only-then (p .frame .only) (only-coordinator c i w new _ _);
             quiet = p .frame .quiet;
           };
           sent = omega (arith, p .sent);
@@ -409,7 +408,7 @@ module _ (w₀ : World) (h₀ : List Event) (b : ℕ) where
         v = proposal w
 
         same : w .acceptors ≡ n
-        same = p .frame .acceptors
+        same = p .frame .only .acceptors
 
         new : Coordinator
         new = withRound its (proposing (its .round) v)
@@ -427,7 +426,8 @@ module _ (w₀ : World) (h₀ : List Event) (b : ℕ) where
         (accept-goes w (s + n + m + u k) before (omega (arith, one)) (live-in (p .frame)) i b (u k) (is-acceptor k l) (such .current) one (is-up (p .frame) k l) v is
         (omega (arith, p .held-slots k l)))
         (record {
-          frame = frame-delivered _ (s + n + m + u k) (acceptTo i b v (u k)) (p .frame) is (this-accept i b (u k) v) (replied-rows w k (accepting b v) y r) refl refl;
+          frame = frame-delivered _ (s + n + m + u k) (acceptTo i b v (u k)) (p .frame) is (this-accept i b (u k) v) (replied-rows w k (accepting b v) y r)
+              (only-slot c i w (u k) (accepting b v) y (such .current));
           sent = omega (arith, p .sent);
           at-ballot = p .at-ballot;
           none-counted = p .none-counted;
@@ -492,7 +492,7 @@ module _ (w₀ : World) (h₀ : List Event) (b : ℕ) where
       most = omega (arith, p .sent, numbers)
 
       by-majority : (t : Bool) → majority n (counts .round .acceptances) ≡ t → majority (w .acceptors) (counts .round .acceptances) ≡ t
-      by-majority t e = rw (p .frame .acceptors) e
+      by-majority t e = rw (p .frame .only .acceptors) e
 
       -- it is not the last one
       counts-on : suc k < m → Goes w h (Deliver (acceptedNumber w₀ k)) (Learning (suc k))
@@ -501,7 +501,7 @@ module _ (w₀ : World) (h₀ : List Event) (b : ℕ) where
           (accepted-counts w (acceptedNumber w₀ k) earlier most (live-in (p .frame)) i b (u k) (is-acceptor k l) (co-up (p .frame)) (at .applied) (at .ballot) is
           (by-majority false (too-few (counts .round .acceptances) (suc k) more g)))
           (record {
-            frame = frame-delivered _ (acceptedNumber w₀ k) _ (p .frame) is (no-accepted i b (u k)) (rows-coordinator c counts rows-now) refl refl;
+            frame = frame-delivered _ (acceptedNumber w₀ k) _ (p .frame) is (no-accepted i b (u k)) (rows-coordinator c counts rows-now) (only-coordinator c i w counts _ _);
             sent = p .sent;
             acceptances = p .acceptances;
             before =
@@ -517,7 +517,8 @@ module _ (w₀ : World) (h₀ : List Event) (b : ℕ) where
           (accepted-learns w (acceptedNumber w₀ k) earlier most (live-in (p .frame)) i b (u k) (is-acceptor k l) (co-up (p .frame)) (at .applied) (at .ballot) is
           (by-majority true (enough (counts .round .acceptances) (subst (Counted (counts .round .acceptances)) full more))))
           (record {
-            frame = frame-delivered _ (acceptedNumber w₀ k) _ (p .frame) is (no-accepted i b (u k)) (rows-learned w c (learning its) (its .round .proposal) rows-now) refl refl;
+            frame = frame-delivered _ (acceptedNumber w₀ k) _ (p .frame) is (no-accepted i b (u k)) (rows-learned w c (learning its) (its .round .proposal) rows-now)
+                (only-learned c i w (learning its) (its .round .proposal));
             sent = p .sent;
             acceptances = p .acceptances;
             before = λ q. absurd (omega arith);

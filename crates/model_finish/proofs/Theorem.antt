@@ -66,10 +66,13 @@ owner-closes : (steps : List Step) (b : ℕ) → let w = run freshWorld steps in
 owner-closes steps b such ballot =
     let w = run freshWorld steps in
     let ends = closing-runs steps b such ballot in
+    let end = ends-hold _ (closing w (owner b) b) w (history steps) ends in
     record {
       size = closing-length w (owner b) b;
       answered = ends-accepted _ (closing w (owner b) b) w (history steps) ends;
-      applied = ends-hold _ (closing w (owner b) b) w (history steps) ends .after refl;
+      applied = end .after refl;
+      only = end .frame .only;
+      sent = omega (arith, end .sent);
     }
 
 pub such-closes : SuchCloses
@@ -151,7 +154,7 @@ module _ (steps : List Step) (b : ℕ) (such : Such (run freshWorld steps) (owne
   applied = ap (λ (v : World). currentOf v c) whole-run ∙ at-end .after refl
 
   as-many : acceptors (history all) ≡ acceptors (history steps)
-  as-many = good all .number ∙ ap (λ (v : World). v .acceptors) whole-run ∙ at-end .frame .acceptors ∙ sym (good steps .number)
+  as-many = good all .number ∙ ap (λ (v : World). v .acceptors) whole-run ∙ at-end .frame .only .acceptors ∙ sym (good steps .number)
 
   -- an instance other than i was decided before
   decided-before : (j d : ℕ) (v : Batch) → j ≢ i → Decided (acceptors (history all)) j d v (history all)

@@ -33,7 +33,7 @@ openings c b ℕ.zero = []
 openings c b (suc k) = Open c 0 b ∷ openings c (b + 3) k
 
 -- A take of store 0 by process 1 is in the queue of coordinator c, message 0.
-abbrev queuedAt : ℕ → ℕ → List Step
+abbrev pub queuedAt : ℕ → ℕ → List Step
 queuedAt acceptors c = Setup acceptors ∷ Request (takeEntry 1 1 0) c ∷ Deliver 0 ∷ []
 
 -- ---- who is such
@@ -92,7 +92,7 @@ itsBallot =
 -- ---- an empty queue, and the next instance
 
 -- coordinator 0 decides the take in instance 0, by acceptors 0 and 1: messages 0 to 10
-abbrev decidedBy0 : List Step
+abbrev pub decidedBy0 : List Step
 decidedBy0 =
     queuedAt 3 0
     ++ Open 0 0 3 ∷ Deliver 1 ∷ Deliver 2 ∷ Deliver 4 ∷ Deliver 5 ∷ Propose 0 0 3 ∷ Deliver 6 ∷ Deliver 7 ∷ Deliver 9 ∷ Deliver 10 ∷ []

@@ -2,33 +2,49 @@
 use Prim.Native.Nat.{ℕ, _+_, _*_, _≤_, _<_}
 use mathlib.Core.Bool.{false}
 use mathlib.Core.List.{List, [], _∷_, _++_}
-use mathlib.Core.Logic.{_↔_, _⊎_}
+use mathlib.Core.Logic.{_↔_, _⊎_, _≢_}
 use mathlib.Core.Path.{_≡_}
 use lib.ListN.{length, take}
 use Rattle.log_entry.specs.Refusal.{accepted}
 use Rattle.model_steps.specs.declared.Role.the-variants.{Acceptor}
 use Rattle.model_steps.specs.declared.Step.{Step}
+use Rattle.model_steps.specs.Limits.{instances}
 use Rattle.model_protocol.specs.declared.Batch.{Batch}
 use Rattle.model_protocol.specs.declared.World.{World}
 use Rattle.model_protocol.specs.Step.{run, stepOf}
-use Rattle.model_protocol.specs.World.{freshWorld, isDown, logOf}
+use Rattle.model_protocol.specs.World.{coordinatorOf, freshWorld, isDown, logOf, slotOf}
 use Rattle.model_agreement.specs.Claim.{IsSequence}
 use Rattle.model_agreement.specs.History.{Applied, acceptors, history}
 use Rattle.model_agreement.specs.Plain.{plainLog}
 use Rattle.model_finish.specs.Choice.{choiceOf}
 use Rattle.model_finish.specs.Closing.{closing, finishing}
-use Rattle.model_finish.specs.Such.{OwnBallot, Such, currentOf, quorum, upAcceptor}
+use Rattle.model_finish.specs.Such.{OwnBallot, Such, currentOf, numbersNeeded, quorum, upAcceptor}
 
 -- each step, one after the other, is answered 0
 abbrev pub AllAccepted : World → List Step → Type 0
 AllAccepted w [] = Unit {0}
 AllAccepted w (s ∷ steps) = (stepOf w s .answer ≡ accepted) × AllAccepted (stepOf w s .world) steps
 
+-- From w to v coordinator c and its log may change, what the acceptors hold of instance i, and what
+-- was sent. All else stays: nobody else applies anything, and no process hears or takes anything.
+pub record OnlyAt (c i : ℕ) (w v : World) : Type 0 where
+  pub acceptors : v .acceptors ≡ w .acceptors
+  pub down : v .down ≡ w .down
+  pub coordinators : (k : ℕ) → k ≢ c → coordinatorOf v k ≡ coordinatorOf w k
+  pub logs : (k : ℕ) → k ≢ c → logOf v k ≡ logOf w k
+  pub slots : (a j : ℕ) → j < instances → j ≢ i → slotOf v a j ≡ slotOf w a j
+  pub processes : v .processes ≡ w .processes
+  pub restored : v .restored ≡ w .restored
+  pub follows : v .follows ≡ w .follows
+
 -- "a list of 2 + 4m steps, run without others between, applies one more instance", and exactly one
 pub record Closes (w : World) (c : ℕ) (steps : List Step) : Type 0 where
   pub size : length steps ≡ 2 + 4 * quorum (w .acceptors)
   pub answered : AllAccepted w steps
   pub applied : currentOf (run w steps) c ≡ currentOf w c + 1
+  pub only : OnlyAt c (currentOf w c) w (run w steps)
+  -- "2 times acceptors plus 2 times m message numbers" are used, all of them
+  pub sent : run w steps .sent ≡ w .sent + numbersNeeded (w .acceptors)
 
 -- It is so in every reachable world, for every such coordinator, with every such ballot.
 abbrev pub SuchCloses : Type 0

@@ -4,7 +4,7 @@ use Rattle.finish_list.specs.Longest.{longestList}
 use Rattle.finish_list.specs.Text.{finishText}
 use Rattle.text_report.proofs.PrintedLaws.{printed-as, printed-whole}
 use Rattle.finish_run.specs.Program.{finish}
-use Rattle.finish_run.proofs.Continued.{every-list-closes, file-continues, prints-nothing-exactly}
+use Rattle.finish_run.proofs.Continued.{every-list-closes, every-list-finishes, file-continues, prints-nothing-exactly}
 use Rattle.finish_run.proofs.output_of.Statement.{statement}
 use Rattle.finish_run.proofs.output_of.Tie as tie
 
@@ -19,6 +19,7 @@ returns c =
           (printed-whole longestList _ _ _ _ (c .before .put-finishing-arg .given .0 .1) (c .put-finishing .ensures));
       nothing = prints-nothing-exactly bytes;
       closes = every-list-closes bytes;
+      finishes = every-list-finishes bytes;
       continues = file-continues bytes;
     }
 
