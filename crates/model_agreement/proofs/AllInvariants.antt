@@ -398,7 +398,7 @@ good-trans G (sets-up n e (inl d)) = good-setup n (omega arith) (omega arith) (G
 good-trans G (sets-up n e (inr d)) = good-setup n (omega arith) (omega arith) (G .unset e)
 good-trans G (moves l m) = good-move l G m
 
-good-step : (s : Step) (w : World) (h : List Event) → Good w h → Good (stepOf w s .world) (noted w s h)
+pub good-step : (s : Step) (w : World) (h : List Event) → Good w h → Good (stepOf w s .world) (noted w s h)
 good-step s w h G = good-trans G (trans w h (G .shape .room) (G .few) (λ _ _ a. G .range .sent a) s)
 
 good-run : (steps : List Step) (w : World) (h : List Event) → Good w h → Good (run w steps) (historyFrom w h steps)

@@ -2,12 +2,12 @@ pub mod AcceptedSteps
 pub mod Cases
 pub mod ChoiceLaws
 pub mod Contents
+pub mod Counting
 pub mod Examples
 pub mod OnlyThere
 pub mod Openings
 pub mod Phases
 pub mod Rounds
-pub mod Rows
 pub mod Running
 pub mod Sending
 pub mod SuchLaws

@@ -2,7 +2,7 @@
 use Prim.Native.Nat.{ℕ, suc, _<_}
 use native.Mathlib.Omega.{arith}
 use mathlib.Core.List.{List, [], _∷_, _++_}
-use mathlib.Core.Path.{_≡_, ap, refl, subst₂, sym}
+use mathlib.Core.Path.{_≡_, ap, refl, subst, subst₂, sym}
 use Rattle.log_entry.specs.Refusal.{accepted}
 use Rattle.model_steps.specs.declared.Step.{Step}
 use Rattle.model_steps.specs.declared.Step.the-variants.{Deliver}
@@ -10,6 +10,7 @@ use Rattle.model_protocol.specs.declared.Stepped.{Stepped}
 use Rattle.model_protocol.specs.declared.World.{World}
 use Rattle.model_protocol.specs.Step.{answered, run, stepOf}
 use Rattle.model_agreement.specs.History.{Event, historyFrom, note, noted}
+use Rattle.model_agreement.proofs.AllInvariants.{Good, good-step}
 use Rattle.model_finish.specs.Claims.{AllAccepted}
 use Rattle.model_finish.specs.Closing.{deliveries}
 
@@ -21,11 +22,15 @@ Holding = World → List Event → Type 0
 abbrev pub Goes : World → List Event → Step → Holding → Type 0
 Goes w h s Q = (stepOf w s .answer ≡ accepted) × Q (stepOf w s .world) (noted w s h)
 
-pub goes-to : (Q : Holding) (w : World) (h : List Event) (s : Step) (v : World) → stepOf w s ≡ answered v accepted → Q v (note w s h) → Goes w h s Q
+-- what holds of every reachable world holds after it, too
+pub goes-to : (Q : Holding) (w : World) (h : List Event) (s : Step) (v : World) → Good w h → stepOf w s ≡ answered v accepted
+    → (Good v (note w s h) → Q v (note w s h)) → Goes w h s Q
 unfolding noted
-goes-to Q w h s v e q =
+goes-to Q w h s v G e q =
     let a : stepOf w s .answer ≡ accepted = ap (λ (x : Stepped). x .answer) e in
-    (a, rw a (subst₂ Q (sym (ap (λ (x : Stepped). x .world) e)) refl q))
+    let v-is : stepOf w s .world ≡ v = ap (λ (x : Stepped). x .world) e in
+    let g : Good v (note w s h) = subst (λ (x : World). Good x (note w s h)) v-is (rw a at (good-step s w h G)) in
+    (a, rw a (subst₂ Q (sym v-is) refl (q g)))
 
 -- all steps are accepted, and then Q holds
 abbrev pub Ends : World → List Event → List Step → Holding → Type 0

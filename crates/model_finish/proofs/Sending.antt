@@ -13,7 +13,7 @@ abbrev messageIn : Outbox → ℕ → Message
 messageIn ms j = getD (ms .messages) j noMessage
 
 module _ (ms : Outbox) (k : ℕ) (f : ℕ → Message) where
-  pub filled-length : (n : ℕ) → length (filled ms k n f .messages) ≡ length (ms .messages)
+  filled-length : (n : ℕ) → length (filled ms k n f .messages) ≡ length (ms .messages)
   filled-length ℕ.zero = refl
   filled-length (suc n) = length-set (filled ms k n f .messages) (k + n) (f n) ∙ filled-length n
 

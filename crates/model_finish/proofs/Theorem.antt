@@ -8,6 +8,7 @@ use mathlib.Core.Path.{_≡_, ap, refl, subst, sym, _∙_}
 use lib.ListN.{getD, length, length-append, take}
 use lib.Seq.{take-all, take-suc}
 use Rattle.model_paxos.specs.Majority.{Majority}
+use Rattle.model_paxos.proofs.Sets.{has→}
 use Rattle.model_steps.specs.declared.Step.{Step}
 use Rattle.model_steps.specs.declared.Step.the-variants.{Deliver}
 use Rattle.model_owners.specs.Owners.{owner}
@@ -19,13 +20,15 @@ use Rattle.model_protocol.specs.World.{freshWorld}
 use Rattle.model_agreement.specs.Claim.{Claim, IsSequence, batchAt}
 use Rattle.model_agreement.specs.History.{Accepts, Applied, Decided, acceptors, history, historyFrom}
 use Rattle.model_agreement.specs.Plain.{plainLog}
-use Rattle.model_agreement.proofs.AllInvariants.{Good, good, history-append}
+use Rattle.model_agreement.proofs.AllInvariants.{good, history-append}
 use Rattle.model_agreement.proofs.Theorem.{demand-3, one-sequence}
-use Rattle.model_finish.specs.Claims.{CatchesUp, Closes, ClosesInSequence, Decides, Finished, SuchCloses}
+use Rattle.model_finish.specs.Claims.{CatchesUp, Closes, ClosesInSequence, Decides, Finished, ListIsTold, SuchCloses, Told}
 use Rattle.model_finish.specs.Closing.{acceptNumber, acceptedNumber, closing, deliveries, prepareNumber, promiseNumber}
-use Rattle.model_finish.specs.Such.{OwnBallot, Such, currentOf, quorum}
-use Rattle.model_finish.proofs.Phases.{Learning, closing-ends}
-use Rattle.model_finish.proofs.Rows.{Rows}
+use Rattle.model_finish.specs.Delivered.{Proposed, afterAcceptances}
+use Rattle.model_finish.specs.Such.{OwnBallot, Such, currentOf, quorum, upAcceptor}
+use Rattle.model_finish.proofs.Contents.{before-list}
+use Rattle.model_finish.proofs.Counting.{is-majority}
+use Rattle.model_finish.proofs.Phases.{Closed, closing-ends}
 use Rattle.model_finish.proofs.Running.{Ends, ends-accepted, ends-hold}
 use Rattle.model_finish.proofs.UpAcceptors.{asked-are-lowest}
 
@@ -43,34 +46,23 @@ closing-length w c b =
     m : ℕ
     m = quorum (w .acceptors)
 
--- the rows of a reachable world
-reached-rows : (steps : List Step) → Rows (run freshWorld steps)
-reached-rows steps = record {
-  messages-row = G .shape .room .message-row;
-  slots-row = G .shape .slot-row;
-  coordinators-row = G .shape .co-row;
-}
-  where
-    G : Good (run freshWorld steps) (history steps)
-    G = good steps
-
 -- the list is run to its end
 closing-runs : (steps : List Step) (b : ℕ) → let w = run freshWorld steps in Such w (owner b) → OwnBallot w (owner b) b
-    → Ends w (history steps) (closing w (owner b) b) (Learning w (history steps) b (quorum (w .acceptors)))
+    → Ends w (history steps) (closing w (owner b) b) (Closed w (history steps) b)
 closing-runs steps b such ballot =
     let w = run freshWorld steps in
-    closing-ends w (history steps) b such ballot (asked-are-lowest w (owner b) such) (reached-rows steps)
+    closing-ends w (history steps) b such ballot (asked-are-lowest w (owner b) such) (good steps)
 
 owner-closes : (steps : List Step) (b : ℕ) → let w = run freshWorld steps in Such w (owner b) → OwnBallot w (owner b) b
     → Closes w (owner b) (closing w (owner b) b)
 owner-closes steps b such ballot =
     let w = run freshWorld steps in
     let ends = closing-runs steps b such ballot in
-    let end = ends-hold _ (closing w (owner b) b) w (history steps) ends in
+    let end = ends-hold _ (closing w (owner b) b) w (history steps) ends .learned in
     record {
       size = closing-length w (owner b) b;
       answered = ends-accepted _ (closing w (owner b) b) w (history steps) ends;
-      applied = end .after refl;
+      applied = end .after refl .0;
       only = end .frame .only;
       sent = omega (arith, end .sent);
     }
@@ -140,7 +132,7 @@ module _ (steps : List Step) (b : ℕ) (such : Such (run freshWorld steps) (owne
   abbrev all : List Step
   all = steps ++ list
 
-  at-end : Learning w (history steps) b (quorum (w .acceptors)) (run w list) (historyFrom w (history steps) list)
+  at-end : Closed w (history steps) b (run w list) (historyFrom w (history steps) list)
   at-end = ends-hold _ list w (history steps) (closing-runs steps b such ballot)
 
   -- both by the whole list of steps
@@ -150,11 +142,17 @@ module _ (steps : List Step) (b : ℕ) (such : Such (run freshWorld steps) (owne
   whole-history : history all ≡ historyFrom w (history steps) list
   whole-history = history-append steps list freshWorld []
 
+  whole-told : history all ≡ afterAcceptances w c b (at-end .batch) (history steps)
+  whole-told = whole-history ∙ at-end .learned .told
+
+  owner-told : Told w c b (history steps) (history all)
+  owner-told = record { batch = at-end .batch; by-rule = at-end .by-rule; told = whole-told }
+
   applied : currentOf (run freshWorld all) c ≡ i + 1
-  applied = ap (λ (v : World). currentOf v c) whole-run ∙ at-end .after refl
+  applied = ap (λ (v : World). currentOf v c) whole-run ∙ at-end .learned .after refl .0
 
   as-many : acceptors (history all) ≡ acceptors (history steps)
-  as-many = good all .number ∙ ap (λ (v : World). v .acceptors) whole-run ∙ at-end .frame .only .acceptors ∙ sym (good steps .number)
+  as-many = good all .number ∙ ap (λ (v : World). v .acceptors) whole-run ∙ at-end .learned .frame .only .acceptors ∙ sym (good steps .number)
 
   -- an instance other than i was decided before
   decided-before : (j d : ℕ) (v : Batch) → j ≢ i → Decided (acceptors (history all)) j d v (history all)
@@ -162,8 +160,23 @@ module _ (steps : List Step) (b : ℕ) (such : Such (run freshWorld steps) (owne
   decided-before j d v ne x = record {
     set = x .set;
     most = subst (λ (n : ℕ). Majority n (x .set)) as-many (x .most);
-    all = λ a h. at-end .frame .quiet j d a v ne (subst (Accepts j d a v) whole-history (x .all a h));
+    all = λ a h. before-list w c b (at-end .batch) (history steps) ne (subst (Accepts j d a v) whole-told (x .all a h));
   }
+
+  -- and this one is decided now: the m acceptors accepted the batch that was proposed
+  decided-now : Decided (acceptors (history all)) i b (at-end .batch) (history all)
+  decided-now =
+      let q = at-end .learned .after refl .1 .0 in
+      let counted = at-end .learned .after refl .1 .1 in
+      record {
+        set = q;
+        most = subst (λ (n : ℕ). Majority n q) (sym (as-many ∙ good steps .number)) (is-majority (upAcceptor w) (w .acceptors) q counted);
+        all =
+            λ a h.
+            let j = counted .only a (has→ q a h) in
+            subst (λ (k : ℕ). Accepts i b k (at-end .batch) (history all)) (j .2)
+            (subst (Accepts i b (upAcceptor w (j .0)) (at-end .batch)) (sym whole-history) (at-end .learned .voted (j .0) (j .1)));
+      }
 
   module _ (s t : List Batch) (is : IsSequence (history steps) s) (it : IsSequence (history all) t) where
     before : Claim steps (history steps) w
@@ -191,8 +204,16 @@ module _ (steps : List Step) (b : ℕ) (such : Such (run freshWorld steps) (owne
           (subst (λ (x : List Batch). i ≤ length x) same-before (before .applied-within c))
           (subst (λ (p : ℕ). p ≤ length t) applied (subst (λ (x : List Batch). currentOf (run freshWorld all) c ≤ length x) same-after (after .applied-within c)))
           others;
+      holds = subst (Proposed w c) (sym (it .all decided-now .1)) (at-end .by-rule);
       log = after .logs c ∙ (λ k. plainLog (take (applied k) (same-after k)));
     }
+
+pub list-is-told : ListIsTold
+list-is-told steps c b such ballot =
+    subst (λ (k : ℕ). Such w k → OwnBallot w k b → Told w k b (history steps) (history (steps ++ closing w k b))) (ballot .own) (owner-told steps b) such ballot
+  where
+    w : World
+    w = run freshWorld steps
 
 pub closes-in-sequence : ClosesInSequence
 closes-in-sequence steps c b such ballot =

@@ -13,11 +13,12 @@ use Rattle.model_protocol.specs.declared.Batch.{Batch}
 use Rattle.model_protocol.specs.declared.World.{World}
 use Rattle.model_protocol.specs.Step.{run, stepOf}
 use Rattle.model_protocol.specs.World.{coordinatorOf, freshWorld, isDown, logOf, slotOf}
-use Rattle.model_agreement.specs.Claim.{IsSequence}
-use Rattle.model_agreement.specs.History.{Applied, acceptors, history}
+use Rattle.model_agreement.specs.Claim.{IsSequence, batchAt}
+use Rattle.model_agreement.specs.History.{Applied, Event, acceptors, history}
 use Rattle.model_agreement.specs.Plain.{plainLog}
 use Rattle.model_finish.specs.Choice.{choiceOf}
 use Rattle.model_finish.specs.Closing.{closing, finishing}
+use Rattle.model_finish.specs.Delivered.{Proposed, afterAcceptances}
 use Rattle.model_finish.specs.Such.{OwnBallot, Such, currentOf, numbersNeeded, quorum, upAcceptor}
 
 -- each step, one after the other, is answered 0
@@ -50,6 +51,18 @@ pub record Closes (w : World) (c : ℕ) (steps : List Step) : Type 0 where
 abbrev pub SuchCloses : Type 0
 SuchCloses =
     (steps : List Step) (c b : ℕ) → let w = run freshWorld steps in Such w c → OwnBallot w c b → Closes w c (closing w c b)
+
+-- "open, deliver m prepares, then their promises, propose, deliver m accepts, then their
+-- acceptances, each by acceptor", by the history: it was h before the list, and is g after it
+pub record Told (w : World) (c b : ℕ) (h g : List Event) : Type 0 where
+  pub batch : Batch
+  pub by-rule : Proposed w c batch
+  pub told : g ≡ afterAcceptances w c b batch h
+
+abbrev pub ListIsTold : Type 0
+ListIsTold =
+    (steps : List Step) (c b : ℕ) → let w = run freshWorld steps in Such w c → OwnBallot w c b
+    → Told w c b (history steps) (history (steps ++ closing w c b))
 
 -- ---- the choice: "the lowest such coordinator, then ballot, then acceptors"
 
@@ -103,6 +116,8 @@ pub record Finished (steps list : List Step) (c i : ℕ) (s t : List Batch) : Ty
   pub before : Applied (acceptors (history steps)) c i (history steps)
   pub after : Applied (acceptors (history (steps ++ list))) c (i + 1) (history (steps ++ list))
   pub which : CatchesUp s t i ⊎ Decides s t i
+  -- the instance holds the batch that was proposed
+  pub holds : Proposed (run freshWorld steps) c (batchAt t i)
   -- its log is the plain log fed one batch more
   pub log : logOf (run freshWorld (steps ++ list)) c ≡ plainLog (take (i + 1) t)
 

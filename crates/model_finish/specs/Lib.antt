@@ -3,4 +3,5 @@ pub mod Cases
 pub mod Choice
 pub mod Claims
 pub mod Closing
+pub mod Delivered
 pub mod Such
