@@ -1,5 +1,6 @@
 -- "open, deliver m prepares, then their promises, propose, deliver m accepts, then their
--- acceptances, each by acceptor": what the history has of the list, and which batch it is about.
+-- acceptances, each by acceptor": what the history has of the list, and which batch it is about. A
+-- propose is no event of the history. It shows by its accepts.
 use Prim.Native.Nat.{ℕ, suc, _≤_, _<_}
 use mathlib.Core.List.{List, _∷_}
 use mathlib.Core.Path.{_≡_}
@@ -23,8 +24,8 @@ deliveredAfter h number says (suc k) = delivered (number k) (says k) ∷ deliver
 abbrev pub heldBy : World → ℕ → ℕ → AcceptorSlot
 heldBy w c k = slotOf w (upAcceptor w k) (currentOf w c)
 
--- What the messages of the list say that coordinator c closes under ballot b. Each run goes by
--- acceptor, and a promise is "with its accepted pair"
+-- What the messages say of the list with which coordinator c closes its current instance under
+-- ballot b. Each run goes by acceptor, and a promise is "with its accepted pair"
 module _ (w : World) (c b : ℕ) where
   abbrev pub prepareSays : ℕ → Content
   prepareSays k = paxos (prepare (currentOf w c) b (upAcceptor w k))
