@@ -158,7 +158,7 @@ module _ (w₀ : World) (h₀ : List Event) (b : ℕ) where
     numbers : s + n + m + n + m ≤ messages
     numbers = omega (arith, such .numbers)
 
-    -- ---- the parts of the world that change
+    -- ---- the parts of the world and of the history that change
 
     -- one message more was delivered, and it is x
     more-told : (w : World) {h g : List Event} (j : ℕ) (x : Message) → h ≡ g → messageOf w j ≡ x
@@ -243,7 +243,7 @@ module _ (w₀ : World) (h₀ : List Event) (b : ℕ) where
 
     prepares-go : (k : ℕ) → k < m → (w : World) (h : List Event) → Prepared k w h → Goes w h (Deliver (prepareNumber w₀ k)) (Prepared (suc k))
     prepares-go k l w h p =
-        goes-to (Prepared (suc k)) w h (Deliver (s + u k)) (replied w k (promising x b) y) r
+        goes-to (Prepared (suc k)) w h (Deliver (s + u k)) (replied w k (promising x b) y) good-now
         (prepare-goes w (s + u k) before (omega (arith, one)) (live-in (p .frame)) i b (u k) (is-acceptor k l) (such .current) one (is-up (p .frame) k l) is
         below)
         (λ good. record {
@@ -253,11 +253,11 @@ module _ (w₀ : World) (h₀ : List Event) (b : ℕ) where
           coordinator = p .coordinator;
           prepares = λ a g. reply-old w k (promising x b) y (s + a) (omega (arith, p .sent)) ∙ p .prepares a g;
           promises = λ j g. elim (ℕ-discrete j k) [
-            | yes e ↦ rw e (reply-new w k (promising x b) y r one (s + n + k) (p .sent) ∙ ap (λ (z : AcceptorSlot). promiseFrom i b (u k) (z .ballot) (z .batch)) unchanged)
+            | yes e ↦ rw e (reply-new w k (promising x b) y good-now one (s + n + k) (p .sent) ∙ ap (λ (z : AcceptorSlot). promiseFrom i b (u k) (z .ballot) (z .batch)) unchanged)
             | no e ↦ reply-old w k (promising x b) y (s + n + j) (omega (arith, p .sent)) ∙ p .promises j (omega arith)
           ];
-          open-slots = λ j g q. slots-after w k (promising x b) y (λ a z. suc k ≤ a → z ≡ held a) l r (λ z. absurd (omega arith)) j q (λ _ _. p .open-slots j (omega arith) q) g;
-          held-slots = λ j g. slots-after w k (promising x b) y (λ a z. z .promised ≡ b) l r refl j (omega arith) (λ e. p .held-slots j (omega arith));
+          open-slots = λ j g q. slots-after w k (promising x b) y (λ a z. suc k ≤ a → z ≡ held a) l good-now (λ z. absurd (omega arith)) j q (λ _ _. p .open-slots j (omega arith) q) g;
+          held-slots = λ j g. slots-after w k (promising x b) y (λ a z. z .promised ≡ b) l good-now refl j (omega arith) (λ e. p .held-slots j (omega arith));
         })
       where
         x : AcceptorSlot
@@ -272,8 +272,8 @@ module _ (w₀ : World) (h₀ : List Event) (b : ℕ) where
         below : x .promised < b
         below = subst (λ (z : AcceptorSlot). z .promised < b) (sym unchanged) (ballot .above-promised (u k) (asked .is-acceptor k l))
 
-        r : Good w h
-        r = p .frame .good
+        good-now : Good w h
+        good-now = p .frame .good
 
         one : w .sent < messages
         one = omega (arith, p .sent, numbers)
@@ -310,7 +310,7 @@ module _ (w₀ : World) (h₀ : List Event) (b : ℕ) where
 
     promises-go : (k : ℕ) → k < m → (w : World) (h : List Event) → Heard k w h → Goes w h (Deliver (promiseNumber w₀ k)) (Heard (suc k))
     promises-go k l w h p =
-        goes-to (Heard (suc k)) w h (Deliver (s + n + k)) (withCoordinator w c x) r
+        goes-to (Heard (suc k)) w h (Deliver (s + n + k)) (withCoordinator w c x) good-now
         (promise-goes w (s + n + k) (omega (arith, p .sent)) (omega (arith, p .sent, numbers)) (live-in (p .frame)) i b (u k) (is-acceptor k l) (co-up (p .frame))
         (p .at-ballot .applied) (p .at-ballot .ballot) (held k .ballot) (held k .batch) is)
         (λ good. record {
@@ -331,8 +331,8 @@ module _ (w₀ : World) (h₀ : List Event) (b : ℕ) where
           held-slots = p .held-slots;
         })
       where
-        r : Good w h
-        r = p .frame .good
+        good-now : Good w h
+        good-now = p .frame .good
 
         is : messageOf w (s + n + k) ≡ promiseOf k
         is = p .promises k l
@@ -347,7 +347,7 @@ module _ (w₀ : World) (h₀ : List Event) (b : ℕ) where
         a = after-promise (its .round) (u k) (held k .ballot) (held k .batch)
 
         here : x ≡ coordinatorOf (withCoordinator w c x) c
-        here = sym (changed-here w x r)
+        here = sym (changed-here w x good-now)
 
     -- ---- propose
 
@@ -379,7 +379,7 @@ module _ (w₀ : World) (h₀ : List Event) (b : ℕ) where
 
     proposes : (w : World) (h : List Event) → Heard m w h → Goes w h (Propose c i b) (Voted (proposal w) 0)
     proposes w h p =
-        goes-to (Voted v 0) w h (Propose c i b) z r
+        goes-to (Voted v 0) w h (Propose c i b) z good-now
         (propose-goes w c i b in-range (co-up (p .frame)) (live-in (p .frame)) (p .at-ballot .applied) (omega (arith, p .sent, p .frame .only .acceptors, numbers))
         (p .at-ballot .ballot) (subst (λ (j : ℕ). majority j (its .round .promises) ≡ true) (sym same) (enough u n (its .round .promises) (p .counted))) (p .not-proposed)
         (subst (λ (x : Queue). 0 < x .count) (sym (p .queue)) (such .queued))
@@ -394,14 +394,14 @@ module _ (w₀ : World) (h₀ : List Event) (b : ℕ) where
           none-counted = subst (λ (y : Coordinator). y .round .acceptances ≡ 0) here (p .none-counted);
           accepts =
               λ a g. ap (messageOf z) (let e : s + n + m + a ≡ w .sent + a = omega (arith, p .sent) in e)
-              ∙ filled-new (outboxOf w) (w .sent) (acceptTo i b v) n a (omega (arith, p .sent, numbers, messages-row r)) g;
+              ∙ filled-new (outboxOf w) (w .sent) (acceptTo i b v) n a (omega (arith, p .sent, numbers, messages-row good-now)) g;
           acceptances = λ j g. absurd (omega arith);
           held-slots = p .held-slots;
           voted = λ j g. absurd (omega arith);
         })
       where
-        r : Good w h
-        r = p .frame .good
+        good-now : Good w h
+        good-now = p .frame .good
 
         its : Coordinator
         its = coordinatorOf w c
@@ -419,12 +419,12 @@ module _ (w₀ : World) (h₀ : List Event) (b : ℕ) where
         z = posted (withCoordinator w c new) (filled (outboxOf w) (w .sent) n (acceptTo i b v)) (w .sent + n)
 
         here : new ≡ coordinatorOf z c
-        here = sym (changed-here w new r)
+        here = sym (changed-here w new good-now)
 
     accepts-go : (v : Batch) (k : ℕ) → k < m → (w : World) (h : List Event) → Voted v k w h
         → Goes w h (Deliver (acceptNumber w₀ k)) (Voted v (suc k))
     accepts-go v k l w h p =
-        goes-to (Voted v (suc k)) w h (Deliver (s + n + m + u k)) (replied w k (accepting b v) y) r
+        goes-to (Voted v (suc k)) w h (Deliver (s + n + m + u k)) (replied w k (accepting b v) y) good-now
         (accept-goes w (s + n + m + u k) before (omega (arith, one)) (live-in (p .frame)) i b (u k) (is-acceptor k l) (such .current) one (is-up (p .frame) k l) v is
         (omega (arith, p .held-slots k l)))
         (λ good. record {
@@ -435,10 +435,10 @@ module _ (w₀ : World) (h₀ : List Event) (b : ℕ) where
           none-counted = p .none-counted;
           accepts = λ a g. reply-old w k (accepting b v) y (s + n + m + a) (omega (arith, p .sent)) ∙ p .accepts a g;
           acceptances = λ j g. elim (ℕ-discrete j k) [
-            | yes e ↦ rw e (reply-new w k (accepting b v) y r one (s + n + m + n + k) (p .sent))
+            | yes e ↦ rw e (reply-new w k (accepting b v) y good-now one (s + n + m + n + k) (p .sent))
             | no e ↦ reply-old w k (accepting b v) y (s + n + m + n + j) (omega (arith, p .sent)) ∙ p .acceptances j (omega arith)
           ];
-          held-slots = λ j g. slots-after w k (accepting b v) y (λ a z. z .promised ≡ b) l r refl j g (λ e. p .held-slots j g);
+          held-slots = λ j g. slots-after w k (accepting b v) y (λ a z. z .promised ≡ b) l good-now refl j g (λ e. p .held-slots j g);
           voted = λ j g. elim (ℕ-discrete j k) [
             | yes e ↦ rw e now-voted
             | no e ↦ later (p .voted j (omega arith))
@@ -448,8 +448,8 @@ module _ (w₀ : World) (h₀ : List Event) (b : ℕ) where
         y : Message
         y = acceptedFrom i b (u k)
 
-        r : Good w h
-        r = p .frame .good
+        good-now : Good w h
+        good-now = p .frame .good
 
         one : w .sent < messages
         one = omega (arith, p .sent, numbers)
@@ -462,7 +462,7 @@ module _ (w₀ : World) (h₀ : List Event) (b : ℕ) where
 
         -- nothing above b was delivered to it
         none-above : NoneAbove i b (u k) h
-        none-above = subst (λ (d : ℕ). NoneAbove i d (u k) h) (p .held-slots k l) (r .hist .acc (u k) i (such .current) .top)
+        none-above = subst (λ (d : ℕ). NoneAbove i d (u k) h) (p .held-slots k l) (good-now .hist .acc (u k) i (such .current) .top)
 
         now-voted : Accepts i b (u k) v (note w (Deliver (s + n + m + u k)) h)
         now-voted =
