@@ -1,5 +1,5 @@
--- Both happen. A coordinator that is behind learns what was decided already, and the sequence stays.
--- One that has applied all that was decided adds a batch to it.
+-- Both happen. A coordinator that is behind learns what was decided already, and the sequence
+-- stays. One that has applied all that was decided adds a batch to it.
 use Prim.Native.Nat.{ℕ, _≤_, _<_}
 use native.Mathlib.Omega.{arith}
 use mathlib.Core.List.{List, _∷_, [], _++_}

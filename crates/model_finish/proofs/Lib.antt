@@ -7,6 +7,7 @@ pub mod Examples
 pub mod OnlyThere
 pub mod Openings
 pub mod Phases
+pub mod Proposal
 pub mod Rounds
 pub mod Running
 pub mod Sending

@@ -3,12 +3,10 @@
 use Prim.Native.Nat.{ℕ, suc, _+_, _*_, _≤_, _<_}
 use native.Mathlib.Decide.{ℕ-discrete, decLt}
 use native.Mathlib.Omega.{arith}
-use mathlib.Core.Bool.{Bool, true, false, cond}
+use mathlib.Core.Bool.{Bool, true, false}
 use mathlib.Core.List.{List, _∷_, _++_}
-use mathlib.Core.Logic.{_⊎_, inl, inr, _≢_}
+use mathlib.Core.Logic.{_≢_}
 use mathlib.Core.Path.{_≡_, ap, refl, subst, sym, _∙_}
-use borrow.Author.Tests.{eqb-false, eqb-true}
-use lib.Dec.{eqb}
 use lib.ListN.{length}
 use lib.Seq.{getD-set-other, getD-set-same}
 use Rattle.log_entry.specs.Bits.{with}
@@ -30,7 +28,6 @@ use Rattle.model_protocol.specs.declared.World.{World}
 use Rattle.model_protocol.specs.Acceptor.{accepting, promising}
 use Rattle.model_protocol.specs.Coordinator.{batchToPropose, counting, learning, promiseHeard, proposing, withRound}
 use Rattle.model_protocol.specs.Message.{acceptTo, acceptedFrom, noMessage, prepareTo, promiseFrom}
-use Rattle.model_protocol.specs.Queue.{firstBatch}
 use Rattle.model_protocol.specs.Step.{answered}
 use Rattle.model_protocol.specs.World.{coordinatorOf, emptySlot, freshCoordinator, isDown, messageOf, newRound, replayWith, slotOf, withMessage}
 use Rattle.model_agreement.specs.Content.{contentOf}
@@ -41,12 +38,13 @@ use Rattle.model_agreement.proofs.SentMessages.{filled, outboxOf, posted, send-
 use Rattle.model_agreement.proofs.Shape.{owner-in}
 use Rattle.model_finish.specs.Claims.{LowestUp, OnlyAt}
 use Rattle.model_finish.specs.Closing.{acceptNumber, acceptedNumber, closing, deliveries, prepareNumber, promiseNumber}
-use Rattle.model_finish.specs.Delivered.{Proposed, acceptSays, acceptedSays, adopted, afterAccepts, afterPrepares, afterPromises, deliveredAfter, heldBy, own, prepareSays, promiseSays}
+use Rattle.model_finish.specs.Delivered.{Proposed, acceptSays, acceptedSays, afterAccepts, afterPrepares, afterPromises, deliveredAfter, heldBy, prepareSays, promiseSays}
 use Rattle.model_finish.specs.Such.{OwnBallot, Such, currentOf, quorum, upAcceptor}
 use Rattle.model_finish.proofs.AcceptedSteps.{InRange, accept-goes, accepted-counts, accepted-learns, open-goes, prepare-goes, promise-goes, propose-goes}
 use Rattle.model_finish.proofs.Counting.{Counted, enough, none-yet, one-more, too-few}
 use Rattle.model_finish.proofs.OnlyThere.{only-coordinator, only-learned, only-slot, only-then}
-use Rattle.model_finish.proofs.Rounds.{AfterPromise, Highest, after-promise, highest-none, highest-on, learning-applies}
+use Rattle.model_finish.proofs.Proposal.{HighestHeld, by-rule}
+use Rattle.model_finish.proofs.Rounds.{AfterPromise, after-promise, highest-none, highest-on, learning-applies}
 use Rattle.model_finish.proofs.Running.{Ends, Goes, Holding, ends-append, ends-as, ends-deliveries, goes-to}
 use Rattle.model_finish.proofs.SuchLaws.{few, live}
 use Rattle.model_finish.proofs.Sending.{filled-new}
@@ -82,9 +80,9 @@ module _ (w₀ : World) (h₀ : List Event) (b : ℕ) where
   abbrev held : ℕ → AcceptorSlot
   held k = heldBy w₀ c k
 
-  -- the highest accepted pair of the first k promises, as the round has it
+  -- the round has the highest accepted pair of the first k promises
   abbrev HighestOf : ℕ → Round → Type 0
-  HighestOf k r = Highest (λ j. held j .ballot) (λ j. held j .batch) k r
+  HighestOf k r = HighestHeld w₀ c k r
 
   -- the promise of the acceptor that answers as number k
   abbrev promiseOf : ℕ → Message
@@ -355,28 +353,6 @@ module _ (w₀ : World) (h₀ : List Event) (b : ℕ) where
     abbrev proposal : World → Batch
     proposal w = batchToPropose (coordinatorOf w c)
 
-    -- it is the one that the rule names
-    by-rule : (w : World) (h : List Event) → Heard m w h → Proposed w₀ c (proposal w)
-    unfolding batchToPropose
-    by-rule w h p = go (eqb accepted-now 0) refl (p .highest .from)
-      where
-        its : Coordinator
-        its = coordinatorOf w c
-
-        accepted-now : ℕ
-        accepted-now = its .round .accepted
-
-        go : (t : Bool) → eqb accepted-now 0 ≡ t
-            → (accepted-now ≡ 0) ⊎ ((j : ℕ) × (j < m) × (accepted-now ≡ held j .ballot) × (its .round .batch ≡ held j .batch))
-            → Proposed w₀ c (cond t (firstBatch (its .queue)) (its .round .batch))
-        go true e from =
-            subst (λ (q : Queue). Proposed w₀ c (firstBatch q)) (sym (p .queue))
-            (own (λ j l. omega (arith, p .highest .most j l, eqb-true accepted-now 0 e)))
-        go false e (inl z) = absurd (eqb-false accepted-now 0 e z)
-        go false e (inr (j, l, d, v)) =
-            let z : (accepted-now ≡ 0 → ⊥) = eqb-false accepted-now 0 e in
-            subst (Proposed w₀ c) (sym v) (adopted j l (omega (arith, d)) (λ k g. omega (arith, d, p .highest .most k g)))
-
     proposes : (w : World) (h : List Event) → Heard m w h → Goes w h (Propose c i b) (Voted (proposal w) 0)
     proposes w h p =
         goes-to (Voted v 0) w h (Propose c i b) z good-now
@@ -568,7 +544,7 @@ module _ (w₀ : World) (h₀ : List Event) (b : ℕ) where
         let g = proposes w h p in
         let v = proposal w in (
           g .0,
-          ends-as (Voted v m) all-voted (λ x y q. (v, by-rule w h p, q)) (deliveries (acceptNumber w₀) m) _ _
+          ends-as (Voted v m) all-voted (λ x y q. (v, by-rule w₀ c (coordinatorOf w c) (p .queue) (p .highest), q)) (deliveries (acceptNumber w₀) m) _ _
               (ends-deliveries (Voted v) (acceptNumber w₀) m (accepts-go v) _ _ (g .1)),
         )
 
