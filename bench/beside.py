@@ -4,12 +4,12 @@
     bench/world.sh [--files] [--count] [--runs N] [PROGRAM]
     bench/finish.sh [--files] [--count] [--runs N] [PROGRAM]
 
-PROGRAM is target/bin/plain, target/bin/world or target/bin/finish if not said. Both programs get no input and a busy
-file of 1,000 lines, in turn, N times (500 if not said); the least time of each counts, since other
-work on the machine only adds. The lines themselves are the difference of the two inputs: without
-the start of the process. --count adds instructions, counted by valgrind, which other work does not
-change. --files first holds both to the reference on every file of the crate of cases. At the end
-stands what one line of 1 byte and one of 1,000,000,000 bytes take."""
+PROGRAM is target/bin/plain, target/bin/world or target/bin/finish if not said. Both programs get no
+input and a busy file of 1,000 lines, in turn, N times (500 if not said); the least time of each
+counts, since other work on the machine only adds. The lines themselves are the difference of the
+two inputs: without the start of the process. --count adds instructions, counted by valgrind, which
+other work does not change. --files first holds both to the reference on every file of the crate of
+cases. At the end stands what one line of 1 byte and one of 1,000,000,000 bytes take."""
 import argparse
 import importlib
 import os

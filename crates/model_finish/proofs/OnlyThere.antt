@@ -1,7 +1,8 @@
 -- What the steps of the list leave as it was, one after the other.
-use Prim.Native.Nat.{ℕ, _*_, _+_, _<_}
+use Prim.Native.Nat.{ℕ, _*_, _+_, _≤_, _<_}
 use native.Mathlib.Omega.{arith}
-use mathlib.Core.Path.{refl, _∙_}
+use mathlib.Core.Path.{_≡_, refl, _∙_}
+use lib.ListN.{getD}
 use lib.Seq.{getD-set-other}
 use Rattle.log_core.specs.Enter.{feed}
 use Rattle.log_core.specs.Log.{emptyLog}
@@ -12,10 +13,12 @@ use Rattle.model_protocol.specs.declared.Coordinator.{Coordinator}
 use Rattle.model_protocol.specs.declared.Message.{Message}
 use Rattle.model_protocol.specs.declared.World.{World}
 use Rattle.model_protocol.specs.Batch.{entriesOf}
-use Rattle.model_protocol.specs.World.{emptySlot, freshCoordinator, logOf, withMessage}
+use Rattle.model_protocol.specs.Message.{noMessage}
+use Rattle.model_protocol.specs.World.{emptySlot, freshCoordinator, logOf, messageOf, withMessage}
 use Rattle.model_agreement.proofs.ChangedWorld.{withCoordinator, withLearned, withSlot}
-use Rattle.model_agreement.proofs.SentMessages.{Outbox, posted}
+use Rattle.model_agreement.proofs.SentMessages.{Outbox, filled, outboxOf, posted}
 use Rattle.model_finish.specs.Claims.{OnlyAt}
+use Rattle.model_finish.proofs.Sending.{filled-old, filled-replays}
 
 module _ {c i : ℕ} where
   pub only-then : {u w v : World} → OnlyAt c i u w → OnlyAt c i w v → OnlyAt c i u v
@@ -28,12 +31,17 @@ module _ {c i : ℕ} where
     processes = q .processes ∙ p .processes;
     restored = q .restored ∙ p .restored;
     follows = q .follows ∙ p .follows;
+    sends = omega (arith, p .sends, q .sends);
+    messages = λ j l. q .messages j (omega (arith, p .sends)) ∙ p .messages j l;
+    replays = q .replays ∙ p .replays;
   }
 
 module _ (c i : ℕ) (w : World) where
-  -- the coordinator changes, and messages may be sent
-  pub only-coordinator : (x : Coordinator) (ms : Outbox) (k : ℕ) → OnlyAt c i w (posted (withCoordinator w c x) ms k)
-  only-coordinator x ms k = record {
+  -- the coordinator changes, and messages may be sent: ms are those of before and the new ones, and
+  -- they are k
+  with-messages : (x : Coordinator) (ms : Outbox) (k : ℕ) → w .sent ≤ k → ((j : ℕ) → j < w .sent → getD (ms .messages) j noMessage ≡ messageOf w j)
+      → ms .replays ≡ w .replays → OnlyAt c i w (posted (withCoordinator w c x) ms k)
+  with-messages x ms k more same replays = record {
     acceptors = refl;
     down = refl;
     coordinators = λ j ne. getD-set-other (w .coordinators) c j x freshCoordinator ne;
@@ -42,7 +50,20 @@ module _ (c i : ℕ) (w : World) where
     processes = refl;
     restored = refl;
     follows = refl;
+    sends = more;
+    messages = same;
+    replays = replays;
   }
+
+  pub only-coordinator : (x : Coordinator) → OnlyAt c i w (withCoordinator w c x)
+  only-coordinator x = with-messages x (outboxOf w) (w .sent) (omega arith) (λ j l. refl) refl
+
+  -- and it sends to n acceptors
+  pub only-sends : (x : Coordinator) (n : ℕ) (f : ℕ → Message)
+      → OnlyAt c i w (posted (withCoordinator w c x) (filled (outboxOf w) (w .sent) n f) (w .sent + n))
+  only-sends x n f =
+      with-messages x (filled (outboxOf w) (w .sent) n f) (w .sent + n) (omega arith)
+      (filled-old (outboxOf w) (w .sent) f n) (filled-replays (outboxOf w) (w .sent) f n)
 
   -- an acceptor's slot changes, and it answers
   pub only-slot : (a : ℕ) (x : AcceptorSlot) (y : Message) → i < instances → OnlyAt c i w (withMessage (withSlot w a i x) y)
@@ -55,6 +76,9 @@ module _ (c i : ℕ) (w : World) where
     processes = refl;
     restored = refl;
     follows = refl;
+    sends = omega arith;
+    messages = λ j l. getD-set-other (w .messages) (w .sent) j y noMessage (omega arith);
+    replays = refl;
   }
 
   -- the coordinator applies a batch
@@ -68,4 +92,7 @@ module _ (c i : ℕ) (w : World) where
     processes = refl;
     restored = refl;
     follows = refl;
+    sends = omega arith;
+    messages = λ j l. refl;
+    replays = refl;
   }

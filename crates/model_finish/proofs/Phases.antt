@@ -42,7 +42,7 @@ use Rattle.model_finish.specs.Delivered.{Proposed, acceptSays, acceptedS
 use Rattle.model_finish.specs.Such.{OwnBallot, Such, currentOf, quorum, upAcceptor}
 use Rattle.model_finish.proofs.AcceptedSteps.{InRange, accept-goes, accepted-counts, accepted-learns, open-goes, prepare-goes, promise-goes, propose-goes}
 use Rattle.model_finish.proofs.Counting.{Counted, enough, none-yet, one-more, too-few}
-use Rattle.model_finish.proofs.OnlyThere.{only-coordinator, only-learned, only-slot, only-then}
+use Rattle.model_finish.proofs.OnlyThere.{only-coordinator, only-learned, only-sends, only-slot, only-then}
 use Rattle.model_finish.proofs.Proposal.{HighestHeld, by-rule}
 use Rattle.model_finish.proofs.Rounds.{AfterPromise, after-promise, highest-none, highest-on, learning-applies}
 use Rattle.model_finish.proofs.Running.{Ends, Goes, Holding, ends-append, ends-as, ends-deliveries, goes-to}
@@ -195,7 +195,7 @@ module _ (w₀ : World) (h₀ : List Event) (b : ℕ) where
         (open-goes w₀ c i b in-range (such .up) (live such) refl (omega (arith, numbers)) refl (ballot .above-opened)
         ∙ ap (λ (x : World). answered x accepted) (send-posts (withCoordinator w₀ c new) n (prepareTo i b)))
         (λ good. record {
-          frame = record { good = good; only = only-coordinator c i w₀ new _ _ };
+          frame = record { good = good; only = only-sends c i w₀ new n (prepareTo i b) };
           told = refl;
           sent = omega arith;
           coordinator = changed-here w₀ new good₀;
@@ -312,7 +312,7 @@ module _ (w₀ : World) (h₀ : List Event) (b : ℕ) where
         (promise-goes w (s + n + k) (omega (arith, p .sent)) (omega (arith, p .sent, numbers)) (live-in (p .frame)) i b (u k) (is-acceptor k l) (co-up (p .frame))
         (p .at-ballot .applied) (p .at-ballot .ballot) (held k .ballot) (held k .batch) is)
         (λ good. record {
-          frame = frame-on (p .frame) (only-coordinator c i w x _ _) good;
+          frame = frame-on (p .frame) (only-coordinator c i w x) good;
           told = more-told w (s + n + k) (promiseOf k) (p .told) is;
           sent = p .sent;
           at-ballot = subst AtBallot here (record { applied = p .at-ballot .applied; ballot = a .ballot ∙ p .at-ballot .ballot });
@@ -363,7 +363,7 @@ module _ (w₀ : World) (h₀ : List Event) (b : ℕ) where
         (send-posts (withCoordinator w c new) (w .acceptors) (acceptTo i b v)
         ∙ (λ t. posted (withCoordinator w c new) (filled (outboxOf w) (w .sent) (same t) (acceptTo i b v)) (w .sent + same t))))
         (λ good. record {
-          frame = frame-on (p .frame) (only-coordinator c i w new _ _) good;
+          frame = frame-on (p .frame) (only-sends c i w new n (acceptTo i b v)) good;
           told = p .told;
           sent = omega (arith, p .sent);
           at-ballot = subst AtBallot here (record { applied = p .at-ballot .applied; ballot = p .at-ballot .ballot });
@@ -493,7 +493,7 @@ module _ (w₀ : World) (h₀ : List Event) (b : ℕ) where
           (accepted-counts w (acceptedNumber w₀ k) earlier most (live-in (p .frame)) i b (u k) (is-acceptor k l) (co-up (p .frame)) (at .applied) (at .ballot) is
           (by-majority false (too-few u n (counts .round .acceptances) (suc k) more g)))
           (λ good. record {
-            frame = frame-on (p .frame) (only-coordinator c i w counts _ _) good;
+            frame = frame-on (p .frame) (only-coordinator c i w counts) good;
             told = more-told w (acceptedNumber w₀ k) (acceptedFrom i b (u k)) (p .told) is;
             sent = p .sent;
             acceptances = p .acceptances;

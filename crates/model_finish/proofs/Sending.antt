@@ -27,3 +27,12 @@ module _ (ms : Outbox) (k : ℕ) (f : ℕ → Message) where
           subst (λ (x : ℕ). messageIn (filled ms k (suc n) f) (k + x) ≡ f x) (sym e)
           (getD-set-same (filled ms k n f .messages) (k + n) (f n) noMessage (omega (arith, filled-length n)))
       go (no e) older = getD-set-other (filled ms k n f .messages) (k + n) (k + a) (f n) noMessage (omega arith) ∙ older (omega arith)
+
+  -- and what was sent before stays
+  pub filled-old : (n j : ℕ) → j < k → messageIn (filled ms k n f) j ≡ messageIn ms j
+  filled-old ℕ.zero j h = refl
+  filled-old (suc n) j h = getD-set-other (filled ms k n f .messages) (k + n) j (f n) noMessage (omega arith) ∙ filled-old n j h
+
+  pub filled-replays : (n : ℕ) → filled ms k n f .replays ≡ ms .replays
+  filled-replays ℕ.zero = refl
+  filled-replays (suc n) = filled-replays n

@@ -12,7 +12,7 @@ use Rattle.model_steps.specs.Limits.{instances}
 use Rattle.model_protocol.specs.declared.Batch.{Batch}
 use Rattle.model_protocol.specs.declared.World.{World}
 use Rattle.model_protocol.specs.Step.{run, stepOf}
-use Rattle.model_protocol.specs.World.{coordinatorOf, freshWorld, isDown, logOf, slotOf}
+use Rattle.model_protocol.specs.World.{coordinatorOf, freshWorld, isDown, logOf, messageOf, slotOf}
 use Rattle.model_agreement.specs.Claim.{IsSequence, batchAt}
 use Rattle.model_agreement.specs.History.{Applied, Event, acceptors, history}
 use Rattle.model_agreement.specs.Plain.{plainLog}
@@ -26,8 +26,9 @@ abbrev pub AllAccepted : World → List Step → Type 0
 AllAccepted w [] = Unit {0}
 AllAccepted w (s ∷ steps) = (stepOf w s .answer ≡ accepted) × AllAccepted (stepOf w s .world) steps
 
--- From w to v coordinator c and its log may change, what the acceptors hold of instance i, and what
--- was sent. All else stays: nobody else applies anything, and no process hears or takes anything.
+-- From w to v coordinator c and its log may change, and what the acceptors hold of instance i, and
+-- messages may be sent. All else stays: nobody else applies anything, no process hears or takes
+-- anything, and what was sent before is as it was.
 pub record OnlyAt (c i : ℕ) (w v : World) : Type 0 where
   pub acceptors : v .acceptors ≡ w .acceptors
   pub down : v .down ≡ w .down
@@ -37,6 +38,9 @@ pub record OnlyAt (c i : ℕ) (w v : World) : Type 0 where
   pub processes : v .processes ≡ w .processes
   pub restored : v .restored ≡ w .restored
   pub follows : v .follows ≡ w .follows
+  pub sends : w .sent ≤ v .sent
+  pub messages : (j : ℕ) → j < w .sent → messageOf v j ≡ messageOf w j
+  pub replays : v .replays ≡ w .replays
 
 -- "a list of 2 + 4m steps, run without others between, applies one more instance", and exactly one
 pub record Closes (w : World) (c : ℕ) (steps : List Step) : Type 0 where

@@ -24,8 +24,8 @@ deliveredAfter h number says (suc k) = delivered (number k) (says k) ∷ deliver
 abbrev pub heldBy : World → ℕ → ℕ → AcceptorSlot
 heldBy w c k = slotOf w (upAcceptor w k) (currentOf w c)
 
--- What the messages say of the list with which coordinator c closes its current instance under
--- ballot b. Each run goes by acceptor, and a promise is "with its accepted pair"
+-- What the messages of the list say, where coordinator c closes its current instance under ballot
+-- b. Each run goes by acceptor, and a promise is "with its accepted pair"
 module _ (w : World) (c b : ℕ) where
   abbrev pub prepareSays : ℕ → Content
   prepareSays k = paxos (prepare (currentOf w c) b (upAcceptor w k))
