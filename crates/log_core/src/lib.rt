@@ -1,4 +1,6 @@
 // The commit log, document 01's plain log: it keeps the stores' votes, and decides.
+#![tactic(auto)]
+
 ghost use Rattle.std.specs.Prelude.{◌≡◌};
 ghost use Rattle.log_entry.specs.Limits.{stores_with};
 ghost use Rattle.log_core.specs.Log.{opened};
@@ -16,7 +18,7 @@ pub mod query;
 pub mod refusal;
 pub mod replays;
 
-#[derive(Drop)]
+#[derive(Clone, Copy)]
 pub struct Log {
     // By transaction.
     pub rows: [Row; TRANSACTION_PLACES],
@@ -38,7 +40,7 @@ pub struct Log {
 }
 
 // The parts of a log that an entry is decided on.
-#[derive(Drop)]
+#[derive(Clone, Copy)]
 pub struct Parts {
     // Its transaction's.
     pub row: Row,
@@ -58,7 +60,7 @@ pub struct Parts {
 }
 
 // What of the parts a vote is decided on.
-#[derive(Drop)]
+#[derive(Clone, Copy)]
 pub struct VoteParts {
     // Of its transaction's row.
     pub tally: Tally,
@@ -74,7 +76,7 @@ pub struct VoteParts {
 }
 
 // What an entry is answered, and what it changes.
-#[derive(Drop)]
+#[derive(Clone, Copy)]
 pub struct Effect {
     pub answer: u8,
     // The transaction's group after it.
@@ -86,14 +88,14 @@ pub struct Effect {
 }
 
 // The log after an entry, and the answer.
-#[derive(Drop)]
+#[derive(Clone, Copy)]
 pub struct Entered {
     pub log: Log,
     pub answer: u8,
 }
 
 // A row of a replay.
-#[derive(Drop)]
+#[derive(Clone, Copy)]
 pub struct Replayed {
     pub group: u8,
     pub tx: u8,
@@ -103,7 +105,7 @@ pub struct Replayed {
 // A store's replay: its first `count` rows, by row the group, the transaction and the update. An
 // array for each, since rows of all three would take half as much again: an update stands at a
 // multiple of eight bytes.
-#[derive(Drop)]
+#[derive(Clone, Copy)]
 pub struct Replay {
     pub count: u8,
     pub groups: [u8; TRANSACTION_PLACES],

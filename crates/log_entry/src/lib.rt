@@ -1,4 +1,6 @@
 // An entry of the commit log: a request that a process makes.
+#![tactic(auto)]
+
 ghost use Rattle.std.specs.Prelude.{◌≡◌};
 ghost use Rattle.log_entry.specs.Entry.{ill_formed, no_process, no_turn, outside, same_entry, take_entry, vote_entry};
 ghost use Rattle.log_entry.specs.Limits.{stores_with};
@@ -11,7 +13,7 @@ pub mod sets;
 
 // Document 01's entries: `take` (process, store), or `vote` (process, by, store, tx, list, say,
 // update). Document 02: "Takes and votes gain `turn=`". What a take does not use is 0.
-#[derive(Drop)]
+#[derive(Clone, Copy)]
 pub struct Entry {
     // A take, and else a vote.
     pub take: bool,
@@ -30,7 +32,7 @@ pub struct Entry {
 }
 
 // The two limits that a log may be opened with.
-#[derive(Drop)]
+#[derive(Clone, Copy)]
 pub enum Limit {
     // Stores 0 to 7 and transactions 0 to 31.
     Full,

@@ -196,7 +196,7 @@ pub only_refusals_differ : OnlyRefusalsDiffer
 only_refusals_differ = WithoutTurns.only_refusals_differ
 
 pub without_turns_lem : WithoutTurns
-without_turns_lem = WithoutTurns.without_turns
+without_turns_lem = WithoutTurns.without_turns_lem
 
 pub takes_without_turns : TakesWithoutTurns
 takes_without_turns = WithoutTurns.takes_without_turns

@@ -1,1 +1,2 @@
 // No code: the theorems about the definitions of the log.
+#![tactic(auto)]

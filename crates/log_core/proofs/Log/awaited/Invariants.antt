@@ -1,0 +1,13 @@
+use Prim.Native.Nat.{◌≤◌}
+use mathlib.Core.Path.{◌≡◌}
+use lib.ListN.{drop}
+use Rattle.log_entry.specs.Limits.{transactions}
+use Rattle.log_votes.specs.Scan.{set_of}
+use Rattle.log_core.specs.Follow.{awaits}
+use Rattle.log_core.proofs.Log.awaited.Given as goal
+
+abbrev pub invariant-loop-t : goal.invariant-loop-t
+invariant-loop-t l = (l.t ≤ transactions) × (l.set ≡ set_of (awaits l.store) (drop l.t l.self.rows))
+
+abbrev pub decreases-loop-t : goal.decreases-loop-t
+decreases-loop-t l = l.t

@@ -1,0 +1,9 @@
+use mathlib.Core.Path.{ap, ◌∙◌}
+use Rattle.log_votes.specs.declared.Row.{Row}
+use Rattle.log_votes.specs.Involvement.{involvement_of_votes}
+use Rattle.log_core.proofs.Absent.{no_row_lem}
+use Rattle.log_votes.proofs.Absent.{unknown_without_votes}
+use Rattle.log_core.proofs.Log.involvement.Goals as goal
+
+pub returns-then-tx-ge-TRANSACTIONS : goal.returns-then-tx-ge-TRANSACTIONS
+returns-then-tx-ge-TRANSACTIONS c = unknown_without_votes c.args.store ∙ ap (λ (r : Row). involvement_of_votes c.args.store r.votes) (no_row_lem c.args.self _ c.well_formed.0 c.args.tx c.if-tx-ge-TRANSACTIONS.true)
