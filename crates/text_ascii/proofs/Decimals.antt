@@ -1,15 +1,15 @@
 -- How decimals grow digit by digit.
-use Prim.Native.Nat.{ℕ, suc, ◌≤◌, ◌<◌, ◌+◌, ◌-◌, ◌*◌, ◌/◌, ◌%◌, ◌^◌}
+use Prim.Native.Nat.{ℕ, suc, ◌≤◌, ◌<◌, ◌+◌, ◌*◌, ◌/◌, ◌%◌, ◌^◌}
 use native.Mathlib.Omega.{arith}
 use native.Mathlib.Nat.{pow-suc}
 use native.Mathlib.Decide.{dec_lt}
-use mathlib.Core.Bool.{Bool, true, false, ◌&&◌, cond}
+use mathlib.Core.Bool.{true}
 use mathlib.Core.List.{List, [], ◌∷◌, ◌++◌}
-use mathlib.Core.Path.{◌≡◌, refl, sym, ◌∙◌, ap, subst}
-use lib.Dec.{leb, ltb}
+use mathlib.Core.Path.{◌≡◌, sym, ◌∙◌, ap, subst}
+use lib.Dec.{leb}
 use lib.ListN.{length, length-append}
 use borrow.Author.Tests.{lt-ltb, le-ltb, le-leb, leb-true}
-use Rattle.text_ascii.specs.Decimal.{digit, decimal_within, decimal, is_digit, digit_of, grown}
+use Rattle.text_ascii.specs.Decimal.{digit, decimal_within, decimal, is_digit, digit_of}
 use Rattle.text_ascii.proofs.Words.{both_l, both_r}
 
 pub digit_is : (d : ℕ) → d < 10 → is_digit (digit d) ≡ true

@@ -3,13 +3,13 @@ use Prim.Native.Nat.{ℕ, suc, ◌≤◌, ◌<◌, ◌+◌, ◌-◌, ◌*◌, �
 use native.Mathlib.Omega.{arith}
 use native.Mathlib.Decide.{dec_lt}
 use native.Mathlib.Nat.{pow-suc}
-use mathlib.Core.Bool.{Bool, true, false, ◌&&◌, ◌||◌, cond}
+use mathlib.Core.Bool.{Bool, true, false, ◌&&◌, ◌||◌}
 use mathlib.Core.Logic.{◌⊎◌, inl, inr, ⊎_elim}
 use mathlib.Core.List.{List, [], ◌∷◌, ◌++◌}
-use mathlib.Core.Path.{◌≡◌, refl, sym, ◌∙◌, ap, subst}
-use lib.Dec.{leb, ltb}
+use mathlib.Core.Path.{◌≡◌, refl, ◌∙◌, ap, subst}
+use lib.Dec.{leb}
 use lib.ListN.{length, length-append}
-use borrow.Author.Tests.{lt-ltb, le-ltb, le-leb, lt-leb, leb-true, leb-false}
+use borrow.Author.Tests.{lt-ltb, le-ltb, le-leb, lt-leb, leb-true}
 use Rattle.text_ascii.specs.Decimal.{is_digit}
 use Rattle.text_ascii.specs.Hex.{hex_digit, hex, is_hex_digit, hex_digit_of, hex_grown, hex_number}
 use Rattle.text_ascii.proofs.Decimals.{is_digit_low, is_digit_high}
@@ -38,12 +38,6 @@ cases c e = go (is_digit c) refl e
     go : (b : Bool) → is_digit c ≡ b → (b || (leb 97 c && leb c 102)) ≡ true → Bytes c
     go true k e = inl (is_digit_low c k, is_digit_high c k)
     go false k e = inr (leb-true 97 c (both_l (leb 97 c) _ e), leb-true c 102 (both_r (leb 97 c) _ e))
-
-pub hex_low : (c : ℕ) → is_hex_digit c ≡ true → 48 ≤ c
-hex_low c e = ⊎_elim (λ (k : (48 ≤ c) × (c ≤ 57)). k.0) (λ (k : (97 ≤ c) × (c ≤ 102)). omega arith) (cases c e)
-
-pub hex_high : (c : ℕ) → is_hex_digit c ≡ true → 57 < c → 87 ≤ c
-hex_high c e h = ⊎_elim (λ (k : (48 ≤ c) × (c ≤ 57)). omega arith) (λ (k : (97 ≤ c) × (c ≤ 102)). omega arith) (cases c e)
 
 is_low : (c : ℕ) → 48 ≤ c → c ≤ 57 → is_hex_digit c ≡ true
 is_low c h k = rw (le-leb 48 c h, le-leb c 57 k)

@@ -1,12 +1,11 @@
 -- What `begins` tells.
-use Prim.Native.Nat.{ℕ, suc, ◌≤◌, ◌+◌}
+use Prim.Native.Nat.{ℕ, ◌≤◌}
 use native.Mathlib.Omega.{arith}
 use mathlib.Core.Bool.{Bool, true, false, ◌&&◌, cond, false≢true}
 use mathlib.Core.List.{List, [], ◌∷◌, ◌++◌}
-use mathlib.Core.Path.{◌≡◌, refl, sym, ◌∙◌, ap}
+use mathlib.Core.Path.{◌≡◌, refl}
 use lib.Dec.{eqb}
 use lib.ListN.{length, drop}
-use lib.Seq.{drop-append_seam}
 use borrow.Author.Tests.{eqb-true, eq-eqb}
 use Rattle.text_ascii.specs.Bytes.{begins}
 

@@ -5,7 +5,7 @@ use native.Mathlib.Nat.{suc-add, add-suc, add-zero}
 use native.Mathlib.Decide.{dec_lt}
 use mathlib.Core.List.{List, [], ◌∷◌, ◌++◌}
 use mathlib.Core.Path.{◌≡◌, refl, sym, ◌∙◌, ap, subst}
-use lib.ListN.{length, take, drop, set, length-append, length-set}
+use lib.ListN.{length, take, drop, set, length-append}
 use lib.Seq.{sets, set_out, length-sets, sets-eq, take_at}
 use Rattle.text_ascii.specs.Wrote.{Wrote}
 

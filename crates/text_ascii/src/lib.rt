@@ -1,5 +1,7 @@
 // Numbers and words as ASCII bytes, put into a buffer from a place on. Each function answers the
 // next place; what has no room is left out.
+#![tactic(auto)]
+
 ghost use Rattle.std.specs.Prelude.{◌<◌, ◌≤◌, ◌≡◌, [], ◌∷◌};
 ghost use Rattle.text_ascii.specs.Decimal.{decimal as decimal_bytes};
 ghost use Rattle.text_ascii.specs.Hex.{hex_digit, hex as hex_bytes};

@@ -11,7 +11,7 @@ use crate::value::{BYTE_NUMBERS, Number, Value};
 
 // Whether the line reads, whether each decimal fits a byte, and the decimals; what is not there is
 // 0.
-#[derive(Drop)]
+#[derive(Clone, Copy)]
 pub struct Decimals {
     pub readable: bool,
     pub fit: bool,

@@ -1,4 +1,6 @@
 // The text of steps: document 01's "Step files".
+#![tactic(auto)]
+
 pub mod decimals;
 pub mod fields;
 pub mod value;
@@ -19,7 +21,7 @@ use value::{Number, Value};
 
 // What a line is: an entry; the text of an entry with a number beyond a byte; or no text of an
 // entry.
-#[derive(Drop)]
+#[derive(Clone, Copy)]
 pub enum Reading {
     Read(Entry),
     Outside,
@@ -27,7 +29,7 @@ pub enum Reading {
 }
 
 // The values of a take's fields.
-#[derive(Drop)]
+#[derive(Clone, Copy)]
 pub struct TakeParts {
     pub process: Value,
     pub turn: Value,
@@ -35,7 +37,7 @@ pub struct TakeParts {
 }
 
 // The values of a vote's fields.
-#[derive(Drop)]
+#[derive(Clone, Copy)]
 pub struct VoteParts {
     pub process: Value,
     pub turn: Value,

@@ -19,7 +19,7 @@ pub type Number = Update;
 pub const BYTE_NUMBERS: Number = 256;
 
 // A value read from a line: whether it reads, its number, and where it ends in the line.
-#[derive(Drop)]
+#[derive(Clone, Copy)]
 pub struct Value {
     pub readable: bool,
     pub number: Number,

@@ -1,6 +1,7 @@
 -- What is known of an input that was read piece by piece: the pieces in order, and why the reading
 -- ended.
-use Rattle.std.specs.Prelude.{ℕ, ◌+◌, ◌^◌, Bool, true, List, [], ◌∷◌, ◌⊎◌, ◌≡◌, length}
+use Rattle.std.specs.Prelude.{ℕ, ◌+◌, ◌^◌, Bool, true, List, [], ◌∷◌, Option, ◌⊎◌, ◌≡◌, length}
+use Rattle.std.specs.Io.KnownBytes.{Consumes}
 use Rattle.text_lines.specs.declared.Line.{Line}
 use Rattle.text_lines.specs.Feed.{Fed, fed as fed_piece, fed_all, fresh, joined}
 
@@ -38,3 +39,12 @@ pub record ReadAll {S : Type 0} (over : S → Bool) (step : S → Line → S) (f
 -- all bytes that were read, in order
 abbrev pub bytes_read : {S : Type 0} {over : S → Bool} {step : S → Line → S} {first : S} {f : Fed S} {pieces last : ℕ} → ReadAll over step first f pieces last → List ℕ
 bytes_read r = joined r.reading.given
+
+-- Of a reader whose bytes are known: the piece is what it gave. It has `left` before, and `rest`
+-- after.
+abbrev pub OneMoreOf : {S : Type 0} (over : S → Bool) (step : S → Line → S) (f g : Fed S) (before pieces last : ℕ) (left rest : Option (List ℕ)) → Type 0
+OneMoreOf over step f g before pieces last left rest = (more : OneMore over step f g before pieces last) × Consumes left rest more.piece
+
+-- and so is all that was read, byte by byte: none is lost, and none read twice
+abbrev pub ReadAllOf : {S : Type 0} (over : S → Bool) (step : S → Line → S) (first : S) (f : Fed S) (pieces last : ℕ) (left rest : Option (List ℕ)) → Type 0
+ReadAllOf over step first f pieces last left rest = (read : ReadAll over step first f pieces last) × Consumes left rest (bytes_read read)

@@ -1,4 +1,6 @@
 // The lines of a step file, gathered from pieces of any length.
+#![tactic(auto)]
+
 ghost use Rattle.std.specs.Prelude.{◌≡◌, drop};
 ghost use Rattle.text_lines.specs.Line.{no_line, gathered, seen};
 ghost use Rattle.text_lines.specs.Answers.{no_answers};
@@ -16,14 +18,14 @@ const LF: u8 = 10;
 
 // The bytes of a line, as far as it is gathered: their number, up to one more than a line may hold,
 // and the first of them.
-#[derive(Drop)]
+#[derive(Clone, Copy)]
 pub struct Line {
     pub length: u8,
     pub bytes: [u8; MAX_LINE_BYTES as usize],
 }
 
 // What was gathered from a piece: the line, whether an LF ended it, and where the piece goes on.
-#[derive(Drop)]
+#[derive(Clone, Copy)]
 pub struct Gathered {
     pub line: Line,
     pub ended: bool,
@@ -71,7 +73,7 @@ impl Line {
 }
 
 // The answers to the lines so far.
-#[derive(Drop)]
+#[derive(Clone, Copy)]
 pub struct Answers {
     pub count: u16,
     pub answers: [u8; ANSWERED_LINES as usize],

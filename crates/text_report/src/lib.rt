@@ -1,5 +1,7 @@
 // What is printed of a log and of answers, line by line into a buffer. Each function answers the
 // next place in the buffer.
+#![tactic(auto)]
+
 ghost use Rattle.std.specs.Prelude.{◌*◌, ◌+◌, ◌++◌, length};
 ghost use Rattle.log_entry.specs.Limits.{stores, transactions};
 ghost use Rattle.text_ascii.specs.Hex.{update_digits};

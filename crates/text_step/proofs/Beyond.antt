@@ -21,7 +21,7 @@ use Rattle.text_entry.specs.Table.{any_beyond, no_byte}
 use Rattle.text_entry.proofs.Beyond as texts
 use Rattle.text_entry.proofs.Beyond.{beyond_cases, first_of, no_such_process, no_such_turn, second_of, third_of}
 use Rattle.text_step.proofs.Readings.{beyond_last}
-use Rattle.text_step.specs.Step.{HasTextIn, beyond, numbers}
+use Rattle.text_step.specs.Step.{HasTextIn, beyond}
 
 coordinator_beyond : (c : ℕ) → byte_numbers ≤ c → no_coordinator c ≡ true
 coordinator_beyond c h = le-leb coordinators c (omega arith)

@@ -1,4 +1,6 @@
 // The lines of the world's steps: document 01's "Step files", and document 02.
+#![tactic(auto)]
+
 ghost use Rattle.std.specs.Prelude.{◌<◌, ◌≡◌, length};
 ghost use Rattle.std.proofs.Math.Option.{some};
 ghost use Rattle.model_steps.specs.declared.Step.TheVariants.{Crash};
@@ -20,7 +22,7 @@ use text_entry::{decimals, fields, value};
 const KINDS: u8 = 11;
 
 // What a line is: a step; the text of a step with a number beyond a byte; or no text of a step.
-#[derive(Drop)]
+#[derive(Clone, Copy)]
 pub enum Reading {
     Read(Step),
     Outside,
