@@ -16,6 +16,7 @@ use Rattle.log_entry.specs.Entry.{outside}
 use Rattle.log_entry.specs.Limits.{small_stores, stores, transactions}
 use Rattle.log_entry.specs.Refusal.{accepted, outside_limits}
 use Rattle.log_entry.proofs.Tests.{by_test, either, is_false, neither_left, neither_right, or_cases}
+use Rattle.log_votes.specs.declared.Row.{Row}
 use Rattle.log_votes.specs.Refusal.{any_clash}
 use Rattle.log_votes.specs.Row.{vote_of_store}
 use Rattle.log_votes.proofs.RefusalLaws.{accepted_vote}
@@ -35,6 +36,11 @@ use Rattle.log_core.specs.Log.{empty_log, opened, row_of}
 use Rattle.host_lent.specs.declared.Summary.{Summary}
 use Rattle.host_lent.specs.Summary.{IsOf, summary_parts}
 use Rattle.host_lent.specs.Lent.{enter_reading, enter_record, lent_log, log_after, no_limit, records_entered, records_in}
+
+-- the log of its parts
+abbrev pub log_of : ℕ → List Row → List ℕ → List ℕ → List ℕ → List ℕ → ℕ → List ℕ → Log
+log_of stores rows holders turns takers latest groups remembered =
+    record { rows = rows; holders = holders; turns = turns; takers = takers; latest = latest; groups = groups; remembered = remembered; stores = stores }
 
 module _ (l : Log) {r : Reading} where
   pub entered : {e : Entry} {t : Entered} → r ≡ Of e → t ≡ enter l e → t ≡ enter_reading l r

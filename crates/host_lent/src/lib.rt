@@ -1,4 +1,6 @@
 // The log after the records that a host lends. Document 01, "Hosts in C".
+#![tactic(auto)]
+
 ghost use Rattle.std.specs.Prelude.{cond, ◌≡◌, ◌*◌, ◌+◌, ◌-◌, ◌<◌, ◌^◌, ◌≤◌, length};
 ghost use Rattle.log_entry.specs.Bits.{has};
 ghost use Rattle.log_entry.specs.Limits.{transactions};
@@ -17,7 +19,7 @@ use log_votes::{Row, Tally};
 mod summaries;
 
 // A row in short: its tally, the list of its kept commit votes if there are any, and its group.
-#[derive(Drop)]
+#[derive(Clone, Copy)]
 pub struct Summary {
     pub tally: Tally,
     pub list: u8,

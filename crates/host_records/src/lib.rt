@@ -1,5 +1,7 @@
 // An entry as numbers, as a host's call has them, and as a record's bytes. Document 01, "Hosts in
 // C".
+#![tactic(auto)]
+
 ghost use Rattle.std.specs.Prelude.{cond, ◌≡◌, length};
 ghost use Rattle.std.proofs.lemmas.List.Edits.{sets};
 ghost use Rattle.log_entry.specs.Limits.{update_bytes};
@@ -29,7 +31,7 @@ const BYTE_VALUES: u32 = 256;
 const UPDATE_BASE: Update = BYTE_VALUES as Update;
 
 // The numbers that a call or a record says, within any limits or not.
-#[derive(Drop)]
+#[derive(Clone, Copy)]
 pub struct Numbers {
     // 0 take, 1 vote.
     pub kind: u32,
@@ -46,7 +48,7 @@ pub struct Numbers {
 }
 
 // What numbers or a record read as: an entry, or the refusal.
-#[derive(Drop)]
+#[derive(Clone, Copy)]
 pub enum Reading {
     Of(Entry),
     Refused(u8),

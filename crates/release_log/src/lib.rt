@@ -1,5 +1,7 @@
 // The library for hosts in C: the log after the records that a host lends. Document 01, "Hosts in
 // C".
+#![tactic(auto)]
+
 ghost use Rattle.std.specs.Prelude.{◌≡◌, ◌*◌, ◌≤◌, length};
 ghost use Rattle.host_records.specs.Numbers.{numbers};
 ghost use Rattle.host_records.specs.Record.{record_size};
