@@ -189,8 +189,8 @@ no_since : {n : ℕ} {h : List Event} {k i b a : ℕ} → Blank n h → Since k 
 no_since nothing y = elim y [ ]
 no_since (only_setup n) (kept o y) = elim y [ ]
 
-no_majority : {n m k i : ℕ} {h : List Event} → Blank m h → Learns n k i h → ⊥
-no_majority {n} z (learns b q m f) = let t = meet n q q m m in no_since z (f t.0 (has← q t.0 t.1))
+no_majority : {n k i m : ℕ} {h : List Event} → Blank m h → Learns n k i h → ⊥
+no_majority {n = n} z (learns b q m f) = let t = meet n q q m m in no_since z (f t.0 (has← q t.0 t.1))
 no_majority (only_setup m) (before y) = no_majority nothing y
 
 nothing_sent : {ms : Outbox} {m : Paxos Batch} → Said ms 0 m → ⊥

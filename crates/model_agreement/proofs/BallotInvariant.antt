@@ -8,7 +8,7 @@ use mathlib.Core.List.{List}
 use native.Mathlib.Omega.{arith}
 use lib.Dec.{T, eqb, eqb→eq}
 use lib.ListN.{get_or, length, set}
-use Rattle.model_steps.specs.Limits.{coordinators, instances, most_acceptors}
+use Rattle.model_steps.specs.Limits.{instances, most_acceptors}
 use Rattle.model_owners.specs.Owners.{owner}
 use Rattle.model_paxos.specs.Majority.{Majority}
 use Rattle.model_paxos.specs.Messages.{Paxos, accept, accepted, promise}

@@ -10,7 +10,7 @@ use borrow.Author.Tests.{eq-eqb, eqb-true}
 use lib.Dec.{eqb}
 use lib.ListN.{get_or, length, set}
 use lib.Seq.{get_or-set_other, get_or-set_same}
-use Rattle.log_entry.specs.Bits.{has, with}
+use Rattle.log_entry.specs.Bits.{has}
 use Rattle.log_entry.proofs.Tests.{opposed, or_cases, or_left, or_right}
 use Rattle.log_laws.proofs.Sets.{empty_has, in_with, with_has, with_keeps}
 use Rattle.model_protocol.specs.declared.Followed.{Followed}

@@ -9,11 +9,11 @@ use lib.Dec.{T_not}
 use lib.ListN.{get_or, length, set}
 use Rattle.log_entry.specs.declared.Entry.{Entry}
 use Rattle.log_entry.specs.Bits.{with}
-use Rattle.model_steps.specs.Limits.{coordinators, instances, most_acceptors}
+use Rattle.model_steps.specs.Limits.{instances, most_acceptors}
 use Rattle.model_owners.specs.Owners.{owner}
 use Rattle.model_paxos.specs.Majority.{Majority, majority}
 use Rattle.model_paxos.specs.Messages.{Paxos, accept, accepted, prepare, promise}
-use Rattle.model_paxos.proofs.Grow.{New, kind, new}
+use Rattle.model_paxos.proofs.Grow.{New, is_new, kind, new}
 use Rattle.model_paxos.proofs.Sets.{majority←, majority→, with_lt}
 use Rattle.model_protocol.specs.declared.Batch.{Batch}
 use Rattle.model_protocol.specs.declared.AcceptorSlot.{AcceptorSlot}
@@ -223,7 +223,7 @@ module _ {w : World} {h : List Event} (s : Shape w) (few : w.acceptors ≤ most_
 
     voted : {c : ℕ} → S (accepted i c a) ⊎ New {A = Paxos Batch} (accepted i b a) (accepted i c a) → S (accepted i c a) ⊎ (c ≡ b)
     voted (inl z) = inl z
-    voted (inr new) = inr refl
+    voted {c} (inr t) = let e = is_new t in let f : c ≡ b = cc in inr f
 
     far : {c a' i' : ℕ} → (a ≢ a') ⊎ (i ≢ i')
         → S (accepted i' c a') ⊎ New {A = Paxos Batch} (accepted i b a) (accepted i' c a')

@@ -6,7 +6,7 @@ use mathlib.Core.List.{List}
 use native.Mathlib.Omega.{arith}
 use lib.ListN.{get_or, set}
 use lib.Pow.{pow_pos}
-use Rattle.model_steps.specs.Limits.{ballots, coordinators}
+use Rattle.model_steps.specs.Limits.{ballots}
 use Rattle.model_owners.specs.Owners.{owner}
 use Rattle.model_paxos.proofs.Grow.{New, NewAll, new, new_at}
 use Rattle.model_paxos.proofs.Sets.{with_lt}

@@ -12,8 +12,27 @@ use Rattle.model_paxos.specs.Messages.{Paxos, accept, accepted, prepare}
 use Rattle.model_paxos.specs.Rules.{Has}
 use Rattle.model_paxos.proofs.Sets.{few_zero, has_with, has_zero, has←, has→, meet, most_mono, with_has, with_keeps}
 use Rattle.model_protocol.specs.declared.Batch.{Batch}
-use Rattle.model_agreement.specs.Content.{paxos}
+use Rattle.model_agreement.specs.Content.{Content, paxos}
 use Rattle.model_agreement.specs.History.{Accepts, Event, Got, LastOpened, Learns, NoneAbove, Other, Since, before, delivered, first, heard, here, kept, later, learns, opened, opening, without_messages, there}
+
+-- ---- how each fact about a history came about, by its newest event
+
+last_cases : {k i b : ℕ} {e : Event} {h : List Event} → LastOpened k i b (e ∷ h) → (e ≡ opened k i b) ⊎ Other k e
+last_cases opening = inl refl
+last_cases (without_messages o y) = inr o
+
+since_cases : {k i b a : ℕ} {e : Event} {h : List Event} → Since k i b a (e ∷ h) → ((m : ℕ) × (e ≡ delivered m (paxos (accepted i b a)))) ⊎ Since k i b a h
+since_cases (heard {m = m} o) = inl (m, refl)
+since_cases (kept o y) = inr y
+
+got_cases : {x : Content} {e : Event} {h : List Event} → Got x (e ∷ h) → ((m : ℕ) × (e ≡ delivered m x)) ⊎ Got x h
+got_cases (here {m = m}) = inl (m, refl)
+got_cases (there y) = inr y
+
+accepts_cases : {i b a : ℕ} {v : Batch} {e : Event} {h : List Event} → Accepts i b a v (e ∷ h)
+    → ((m : ℕ) × (e ≡ delivered m (paxos (accept i b a v))) × NoneAbove i b a h) ⊎ Accepts i b a v h
+accepts_cases (first {m = m} N) = inl (m, refl, N)
+accepts_cases (later y) = inr y
 
 -- ---- coordinator k, which has applied p instances, opened l last in its current one, and counted
 -- the acceptances of q
@@ -78,8 +97,11 @@ pub co_opens : {n k p l q : ℕ} {h : List Event} (b : ℕ) → CoHist n h k p l
 co_opens {n} {k} {p} {l} {q} {h} b H = record { now = N; learnt = λ i y. before (H.learnt i y); counted = close N H (omega arith) }
   where
     latest : {i d : ℕ} → LastOpened k i d (opened k p b ∷ h) → (i < p) ⊎ ((i ≡ p) × (d ≡ b))
-    latest opening = inr (refl, refl)
-    latest (without_messages o y) = absurd (o refl)
+    latest {i} {d} y = go (last_cases y)
+      where
+        go : (opened k p b ≡ opened k i d) ⊎ Other k (opened k p b) → (i < p) ⊎ ((i ≡ p) × (d ≡ b))
+        go (inl e) = let f : i ≡ p = cc in let g : d ≡ b = cc in inr (f, g)
+        go (inr o) = absurd (o refl)
 
     set_in : {a : ℕ} → Since k p b a (opened k p b ∷ h) → Has 0 a
     set_in (kept o y) = absurd (o refl)
@@ -106,8 +128,11 @@ module _ {n k p l q : ℕ} {h : List Event} (j a : ℕ) (H : CoHist n h k p l q)
       go (inr y) = kept tt (H.now.in_set _ y)
 
   set_in : {x : ℕ} → Since k p l x (delivered j (paxos (accepted p l a)) ∷ h) → Has (with q a) x
-  set_in (heard o) = with_has a q
-  set_in {x} (kept o y) = with_keeps a x q (H.now.set_in x y)
+  set_in {x} y = go (since_cases y)
+    where
+      go : ((m : ℕ) × (delivered j (paxos (accepted p l a)) ≡ delivered m (paxos (accepted p l x)))) ⊎ Since k p l x h → Has (with q a) x
+      go (inl t) = let e = t.1 in let f : a ≡ x = cc in rw (← f) (with_has a q)
+      go (inr y) = with_keeps a x q (H.now.set_in x y)
 
   pub co_counts : (Majority n (with q a) → ⊥) → CoHist n (delivered j (paxos (accepted p l a)) ∷ h) k p l (with q a)
   co_counts f = record { now = N; learnt = λ i y. before (H.learnt i y); counted = close N H (omega arith) }
@@ -195,8 +220,11 @@ module _ {S S' : Paxos Batch → Type 0} (up : (m : Paxos Batch) → S m → S' 
       }
     where
       prepares : {c : ℕ} → Got (paxos (prepare i c a)) (delivered j (paxos (prepare i b a)) ∷ h) → c ≤ t'
-      prepares here = y
-      prepares (there u) = omega (arith, H.top.prepares u)
+      prepares {c} u = go (got_cases u)
+        where
+          go : ((m : ℕ) × (delivered j (paxos (prepare i b a)) ≡ delivered m (paxos (prepare i c a)))) ⊎ Got (paxos (prepare i c a)) h → c ≤ t'
+          go (inl t) = let e = t.1 in let f : b ≡ c = cc in omega arith
+          go (inr u) = omega (arith, H.top.prepares u)
 
       accepts : {c : ℕ} {v : Batch} → Got (paxos (accept i c a v)) (delivered j (paxos (prepare i b a)) ∷ h) → c ≤ t'
       accepts (there u) = omega (arith, H.top.accepts u)
@@ -217,8 +245,11 @@ module _ {S S' : Paxos Batch → Type 0} (up : (m : Paxos Batch) → S m → S' 
         prepares (there u) = omega (arith, H.top.prepares u)
 
         accepts : {c : ℕ} {w : Batch} → Got (paxos (accept i c a w)) (delivered j (paxos (accept i b a v)) ∷ h) → c ≤ t'
-        accepts here = y
-        accepts (there u) = omega (arith, H.top.accepts u)
+        accepts {c} {w} u = go (got_cases u)
+          where
+            go : ((m : ℕ) × (delivered j (paxos (accept i b a v)) ≡ delivered m (paxos (accept i c a w)))) ⊎ Got (paxos (accept i c a w)) h → c ≤ t'
+            go (inl t) = let e = t.1 in let f : b ≡ c = cc in omega arith
+            go (inr u) = omega (arith, H.top.accepts u)
 
     least : (c : ℕ) → NoneAbove i c a (delivered j (paxos (accept i b a v)) ∷ h) → t' ≤ c
     least c N = go z
@@ -233,8 +264,12 @@ module _ {S S' : Paxos Batch → Type 0} (up : (m : Paxos Batch) → S m → S' 
     acc_passes f g = record { top = top; least = least; voted = λ s. let z = H.voted (f _ s) in (z.0, later z.1); told = λ u. told u }
       where
         told : {c : ℕ} {w : Batch} → Accepts i c a w (delivered j (paxos (accept i b a v)) ∷ h) → S' (accepted i c a) × S' (accept i c a w)
-        told (first N) = absurd (omega (arith, H.least _ N))
-        told (later u) = told_up u
+        told {c} {w} u = go (accepts_cases u)
+          where
+            go : ((m : ℕ) × (delivered j (paxos (accept i b a v)) ≡ delivered m (paxos (accept i c a w))) × NoneAbove i c a h) ⊎ Accepts i c a w h
+                → S' (accepted i c a) × S' (accept i c a w)
+            go (inl t) = let e = t.1 in let f : b ≡ c = cc in absurd (omega (arith, H.least _ t.2))
+            go (inr u) = told_up u
 
     -- else it accepts
     pub acc_votes : ((c : ℕ) → S' (accepted i c a) → S (accepted i c a) ⊎ (c ≡ b))
@@ -252,5 +287,9 @@ module _ {S S' : Paxos Batch → Type 0} (up : (m : Paxos Batch) → S m → S' 
         voted (inr e) = (v, rw e (first now'))
 
         told : {c : ℕ} {w : Batch} → Accepts i c a w (delivered j (paxos (accept i b a v)) ∷ h) → S' (accepted i c a) × S' (accept i c a w)
-        told (first N) = (s, up _ r)
-        told (later u) = told_up u
+        told {c} {w} u = go (accepts_cases u)
+          where
+            go : ((m : ℕ) × (delivered j (paxos (accept i b a v)) ≡ delivered m (paxos (accept i c a w))) × NoneAbove i c a h) ⊎ Accepts i c a w h
+                → S' (accepted i c a) × S' (accept i c a w)
+            go (inl t) = let e = t.1 in let f : b ≡ c = cc in let g : v ≡ w = cc in (rw (← f) s, rw (← f, ← g) (up _ r))
+            go (inr u) = told_up u

@@ -5,10 +5,10 @@ use native.Mathlib.Decide.{ℕ_discrete}
 use native.Mathlib.Omega.{arith}
 use mathlib.Core.List.{List, [], ◌∷◌, ◌++◌, append_assoc, append-nil}
 use mathlib.Core.Logic.{◌⊎◌, inl, inr, ◌≢◌}
-use mathlib.Core.Path.{◌≡◌, refl, subst, subst₂, sym}
+use mathlib.Core.Path.{◌≡◌, refl, subst, subst₂, sym, ◌∙◌}
 use lib.ListN.{get_or, length, set}
 use Rattle.model_steps.specs.declared.Step.{Step}
-use Rattle.model_steps.specs.Limits.{ballots, coordinators, instances}
+use Rattle.model_steps.specs.Limits.{ballots, instances}
 use Rattle.model_owners.specs.Owners.{owner}
 use Rattle.model_protocol.specs.declared.Coordinator.{Coordinator}
 use Rattle.model_protocol.specs.declared.World.{World}
@@ -39,6 +39,10 @@ NoOpening (opened c i b) = ⊥
 NoOpening (restoring c m) = Unit {0}
 NoOpening (delivered m x) = Unit {0}
 NoOpening (back p t) = Unit {0}
+
+before_cases : {e x : Event} {g h : List Event} → Before e g (x ∷ h) → (e ≡ x) ⊎ Before e g h
+before_cases now = inl refl
+before_cases (earlier y) = inr y
 
 before_it : {e : Event} {k j d : ℕ} {g h : List Event} → NoOpening e → Before (opened k j d) g (e ∷ h) → Before (opened k j d) g h
 before_it o now = absurd o
@@ -76,11 +80,14 @@ module _ {w : World} {h : List Event} (G : Good w h) (o : AllOpens w h) where
       changes k _ (opened k i b ∷ h) (co_in G.shape l) new (λ j ne. of_another (coordinator_of w j) (λ q. ne (sym q)) (o j))
     where
       new : (j d : ℕ) (g : List Event) → Before (opened k j d) g (opened k i b ∷ h) → (j < (coordinator_of w k).applied) ⊎ (j ≡ (coordinator_of w k).applied) × (d ≤ b)
-      new j d g now = inr (e, omega arith)
-      new j d g (earlier y) = elim (o k j d g y) [
-        | inl a ↦ inl a
-        | inr a ↦ inr (a.0, omega (arith, a.1))
-      ]
+      new j d g y = go (before_cases y)
+        where
+          go : (opened k j d ≡ opened k i b) ⊎ Before (opened k j d) g h → (j < (coordinator_of w k).applied) ⊎ (j ≡ (coordinator_of w k).applied) × (d ≤ b)
+          go (inl q) = let f : j ≡ i = cc in let z : d ≡ b = cc in inr (f ∙ e, omega arith)
+          go (inr y) = elim (o k j d g y) [
+            | inl a ↦ inl a
+            | inr a ↦ inr (a.0, omega (arith, a.1))
+          ]
   opens_move (proposes k i b v ms c l _ _ _ _ _ _ _ p) =
       changes k _ h (co_in G.shape l) (o k) (λ j ne. o j)
   opens_move (tells k q tx ms c _ _ _ p) = o

@@ -1,5 +1,7 @@
 // Who owns each ballot, by a table. A definition cannot name a constant of the code, so
 // specs/Owners.antt has the same rows, and `owner` promises what they say.
+#![tactic(auto)]
+
 ghost use Rattle.std.specs.Prelude.{◌≡◌};
 ghost use Rattle.model_owners.specs.Owners.{owner};
 

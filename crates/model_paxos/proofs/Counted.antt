@@ -1,8 +1,7 @@
 -- Majorities of small sets, by computation.
-use Prim.Native.Nat.{ℕ}
 use mathlib.Core.Path.{◌≡◌, refl}
-use mathlib.Core.Bool.{Bool, true, false}
-use mathlib.Core.List.{List, [], ◌∷◌, map}
+use mathlib.Core.Bool.{true, false}
+use mathlib.Core.List.{[], ◌∷◌, map}
 use lib.Count.{ones, ones_in}
 use Rattle.model_paxos.specs.Majority.{majority}
 

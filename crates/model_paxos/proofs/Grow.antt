@@ -42,6 +42,12 @@ pub data New {A : Type 0} (x : A) : A → Type 0 where
 pub data NewAll {A : Type 0} (n : ℕ) (f : ℕ → A) : A → Type 0 where
   new_at : (a : ℕ) → a < n → NewAll n f (f a)
 
+pub is_new : {A : Type 0} {x y : A} → New x y → x ≡ y
+is_new new = refl
+
+pub is_of : {A : Type 0} {n : ℕ} {f : ℕ → A} {y : A} → NewAll n f y → (a : ℕ) × (f a ≡ y)
+is_of (new_at a l) = (a, refl)
+
 -- acceptor a in instance i
 pub record AccOk {X : Type 0} (S : Paxos X → Type 0) (a i : ℕ) (x : Holding X) : Type 0 where
   pub promises : {b d : ℕ} {v : X} → S (promise i b a d v) → b ≤ x.promised
@@ -255,7 +261,7 @@ module _ {X : Type 0} {n : ℕ} {S S' : Paxos X → Type 0} (up : (m : Paxos X) 
           one (inl s) (inl t) = C.one s t
           one (inl s) (inr (new_at a l)) = absurd (unused s)
           one (inr (new_at a l)) (inl t) = absurd (unused t)
-          one (inr (new_at a l)) (inr (new_at d l')) = refl
+          one {u = u} {w = w} (inr s) (inr t) = let (a, f) = is_of s in let (d, g) = is_of t in cc
 
           positive : {i b a : ℕ} {u : X} → S (accept i b a u) ⊎ Proposed (accept i b a u) → 0 < b
           positive (inl s) = C.positive s

@@ -12,7 +12,7 @@ use Rattle.model_paxos.specs.Majority.{Majority}
 use Rattle.model_paxos.specs.Messages.{Paxos, accept, accepted, promise}
 use Rattle.model_paxos.specs.Rules.{Chosen, Core, Has}
 use Rattle.model_paxos.proofs.Sets.{has_with, has_zero, meet}
-use Rattle.model_paxos.proofs.Grow.{AccOk, Attempt, Best, CoOk, Holding, New, NewAll, UsedBy, best_up, chosen_up, co_up, kind, new, new_at, now, pair_up, past, under}
+use Rattle.model_paxos.proofs.Grow.{AccOk, Attempt, Best, CoOk, Holding, New, NewAll, UsedBy, best_up, chosen_up, co_up, is_new, kind, new_at, now, pair_up, past, under}
 
 -- ---- acceptors
 
@@ -31,7 +31,7 @@ module _ {X : Type 0} {S S' : Paxos X → Type 0} (up : (m : Paxos X) → S m �
     where
       promises : {b' d : ℕ} {v : X} → S (promise i b' a d v) ⊎ New (promise i b a x.ballot x.value) (promise i b' a d v) → b' ≤ b
       promises (inl s) = omega (arith, ok.promises s)
-      promises (inr new) = omega arith
+      promises {b'} (inr t) = let e = is_new t in let f : b ≡ b' = cc in omega arith
 
   pub acc_accepted : (v : X)
       → x.promised ≤ b
@@ -49,7 +49,7 @@ module _ {X : Type 0} {S S' : Paxos X → Type 0} (up : (m : Paxos X) → S m �
     where
       votes : {c : ℕ} → S (accepted i c a) ⊎ New {A = Paxos X} (accepted i b a) (accepted i c a) → c ≤ b
       votes (inl s) = omega (arith, ok.votes s, ok.order)
-      votes (inr new) = omega arith
+      votes {c} (inr t) = let e = is_new t in let f : b ≡ c = cc in omega arith
 
 -- ---- coordinators: what a round becomes
 

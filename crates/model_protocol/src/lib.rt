@@ -1,5 +1,7 @@
 // The coordinated commit service: messages, acceptors, coordinators, processes, and the world that
 // joins them. These are the values; what each step does to them stands in specs/.
+#![tactic(auto)]
+
 use limits::{
     ACCEPTOR_PLACES, BATCH_PLACES, COORDINATOR_PLACES, MESSAGE_PLACES, QUEUE_PLACES, SLOT_PLACES,
 };
@@ -13,13 +15,13 @@ use log_votes::Outcome;
 
 // A batch: its first `count` entries. A count of one byte would have seven after it that nothing
 // uses, and they would be copied with every step.
-#[derive(Drop)]
+#[derive(Clone, Copy)]
 pub struct Batch {
     pub entries: [Entry; BATCH_PLACES],
     pub count: usize,
 }
 
-#[derive(Drop)]
+#[derive(Clone, Copy)]
 pub enum Kind {
     // To a coordinator: an entry.
     Request,
@@ -36,7 +38,7 @@ pub enum Kind {
 }
 
 // A message. What its kind does not use is 0.
-#[derive(Drop)]
+#[derive(Clone, Copy)]
 pub struct Message {
     pub kind: Kind,
     // Of a request the coordinator, of a tell, a restore and a follow the process that it goes to.
@@ -68,7 +70,7 @@ pub struct Message {
 }
 
 // What an acceptor holds of an instance, 0 at first.
-#[derive(Drop)]
+#[derive(Clone, Copy)]
 pub struct AcceptorSlot {
     pub promised: u8,
     // The accepted ballot, 0 if none, and its batch.
@@ -77,7 +79,7 @@ pub struct AcceptorSlot {
 }
 
 // The entries that a coordinator was sent: the first `count`, oldest first.
-#[derive(Drop)]
+#[derive(Clone, Copy)]
 pub struct Queue {
     pub entries: [Entry; QUEUE_PLACES],
     pub count: usize,
@@ -85,7 +87,7 @@ pub struct Queue {
 
 // The ballot that a coordinator opened last in its current instance, and what came of it. The small
 // fields stand together: bytes between them that nothing uses would be copied with every step.
-#[derive(Drop)]
+#[derive(Clone, Copy)]
 pub struct Round {
     // 0 if it opened none there.
     pub ballot: u8,
@@ -101,7 +103,7 @@ pub struct Round {
     pub proposal: Batch,
 }
 
-#[derive(Drop)]
+#[derive(Clone, Copy)]
 pub struct Coordinator {
     // How many instances it applied; the next is its current one.
     pub applied: u8,
@@ -110,12 +112,12 @@ pub struct Coordinator {
 }
 
 // What a process heard of a transaction; open if nothing.
-#[derive(Drop)]
+#[derive(Clone, Copy)]
 pub struct Heard {
     pub outcome: Outcome,
 }
 
-#[derive(Drop)]
+#[derive(Clone, Copy)]
 pub struct Process {
     // Its present turn: 1 at first, and then the one that it came back with last.
     pub turn: u8,
@@ -132,20 +134,20 @@ pub struct Process {
 }
 
 // What a follow says of its transaction.
-#[derive(Drop)]
+#[derive(Clone, Copy)]
 pub struct Followed {
     pub outcome: Outcome,
     pub update: Update,
 }
 
 // The follows that a process took, by transaction.
-#[derive(Drop)]
+#[derive(Clone, Copy)]
 pub struct Follows {
     pub of: [Followed; TRANSACTION_PLACES],
 }
 
 // Who is down.
-#[derive(Drop)]
+#[derive(Clone, Copy)]
 pub struct Down {
     pub acceptors: [bool; ACCEPTOR_PLACES],
     pub coordinators: [bool; COORDINATOR_PLACES],
@@ -153,7 +155,7 @@ pub struct Down {
     pub processes: [bool; PROCESS_PLACES],
 }
 
-#[derive(Drop)]
+#[derive(Clone, Copy)]
 pub struct World {
     // How many acceptors there are, 0 before setup.
     pub acceptors: u8,
@@ -179,7 +181,7 @@ pub struct World {
 
 // The parts of the world that a step looks at and may change: of coordinators, slots, processes and
 // messages the one that it is about.
-#[derive(Drop)]
+#[derive(Clone, Copy)]
 pub struct Parts {
     pub acceptors: u8,
     pub sent: u8,
@@ -192,7 +194,7 @@ pub struct Parts {
 }
 
 // The answer to a step, the parts after it, and what it sends.
-#[derive(Drop)]
+#[derive(Clone, Copy)]
 pub struct Change {
     pub answer: u8,
     pub parts: Parts,
@@ -212,7 +214,7 @@ pub struct Change {
 }
 
 // Where in the world the parts of a step stand.
-#[derive(Drop)]
+#[derive(Clone, Copy)]
 pub struct Places {
     pub coordinator: u8,
     pub slot: usize,
@@ -220,7 +222,7 @@ pub struct Places {
 }
 
 // The world after a step, and the answer.
-#[derive(Drop)]
+#[derive(Clone, Copy)]
 pub struct Stepped {
     pub world: World,
     pub answer: u8,

@@ -1,9 +1,11 @@
 // A step of the world as a value, whatever its numbers.
+#![tactic(auto)]
+
 use log_entry::Entry;
 
 pub mod limits;
 
-#[derive(Drop)]
+#[derive(Clone, Copy)]
 pub enum Role {
     Acceptor,
     Coord,
@@ -12,7 +14,7 @@ pub enum Role {
 
 // The steps of document 01, and `follow` and `back` of document 02. `take` and `vote` are a
 // request: the entry, and the coordinator in `to`.
-#[derive(Drop)]
+#[derive(Clone, Copy)]
 pub enum Step {
     Setup { acceptors: u8 },
     Request { entry: Entry, to: u8 },
@@ -27,7 +29,7 @@ pub enum Step {
 }
 
 // What a line asks for: a step to be taken, or only the answer to a line that is no step.
-#[derive(Drop)]
+#[derive(Clone, Copy)]
 pub struct Command {
     // 0 if the step is to be taken.
     pub refused: u8,
@@ -35,7 +37,7 @@ pub struct Command {
 }
 
 // What the lines of an input ask for: the first `count`.
-#[derive(Drop)]
+#[derive(Clone, Copy)]
 pub struct Commands {
     pub count: u16,
     pub commands: [Command; limits::COMMAND_PLACES],

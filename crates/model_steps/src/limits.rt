@@ -81,6 +81,7 @@ fn no_back(process: u8, turn: u8) -> bool
 }
 
 // Refusal 2, where this many acceptors count.
+#[tactic(auto, unfolding(crate::specs::Limits::outside_step))]
 pub fn outside(acceptors: u8, s: Step) -> bool
     ensures { result ≡ outside_step acceptors s }
 {
