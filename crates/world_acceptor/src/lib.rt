@@ -1,4 +1,6 @@
 // What an acceptor does with a prepare and an accept, in the slot of the instance.
+#![tactic(auto)]
+
 ghost use Rattle.std.specs.Prelude.{◌≡◌};
 ghost use Rattle.model_protocol.specs.Acceptor.{accepting, accepts, promises, promising};
 ghost use Rattle.model_protocol.specs.World.{empty_slot};

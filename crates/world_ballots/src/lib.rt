@@ -1,4 +1,6 @@
 // The steps of a ballot: open and propose.
+#![tactic(auto)]
+
 ghost use Rattle.std.specs.Prelude.{false, ◌||◌, ◌≡◌, eqb};
 ghost use Rattle.model_steps.specs.declared.Role.TheVariants.{Coord};
 ghost use Rattle.model_steps.specs.declared.Step.TheVariants.{Open, Propose};

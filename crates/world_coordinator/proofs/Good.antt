@@ -3,7 +3,7 @@ use mathlib.Core.List.{List}
 use mathlib.Core.Path.{◌≡◌}
 use denote.Laws.{Is}
 use denote.Struct.Declared.{row}
-use lib.ListN.{length, length-map}
+use lib.ListN.{length}
 use mir.Val.{Val}
 use Rattle.model_protocol.specs.declared.Batch.{Batch}
 use Rattle.model_protocol.specs.declared.Queue.{Queue}
@@ -12,7 +12,7 @@ use Rattle.model_protocol.specs.contracts.Batch.{the_type as batch-type}
 use Rattle.model_protocol.specs.contracts.Queue.{the_type as queue-type}
 
 pub queue_length : (q : Queue) (vs : List Val) → Is (row queue-type) q vs → length q.entries ≡ queue_places
-queue_length q vs g = simp length-map at g.1.1.0.1.0.1
+queue_length q vs g = g.1.1.0.1.0.1
 
 pub batch_length : (b : Batch) (vs : List Val) → Is (row batch-type) b vs → length b.entries ≡ batch_entries
-batch_length b vs g = simp length-map at g.1.1.0.1.0.1
+batch_length b vs g = g.1.1.0.1.0.1

@@ -1,4 +1,6 @@
 // The step deliver: what a message of each kind does to its receiver.
+#![tactic(auto)]
+
 ghost use Rattle.std.specs.Prelude.{◌&&◌, not, ◌≡◌, ◌<◌};
 ghost use Rattle.log_entry.specs.Limits.{transactions};
 ghost use Rattle.model_steps.specs.declared.Step.TheVariants.{Deliver};

@@ -1,8 +1,7 @@
 -- What a command does, by its tests.
-use mathlib.Core.Bool.{Bool, cond, false, true}
-use mathlib.Core.Path.{◌≡◌, refl}
+use mathlib.Core.Bool.{false, true}
+use mathlib.Core.Path.{◌≡◌}
 use borrow.Author.Tests.{eq-eqb, ne_eqb}
-use lib.Dec.{eqb}
 use Rattle.log_entry.specs.Refusal.{first_refusal, outside_limits}
 use Rattle.model_steps.specs.Limits.{outside_step}
 use Rattle.model_protocol.specs.declared.Parts.{Parts}

@@ -1,3 +1,5 @@
 // The world: its steps.
+#![tactic(auto)]
+
 pub mod advance;
 mod plan;

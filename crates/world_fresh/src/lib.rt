@@ -1,4 +1,6 @@
 // What stands in a place that is not used, and every value as in the fresh world.
+#![tactic(auto)]
+
 ghost use Rattle.std.specs.Prelude.{[], ◌≡◌};
 ghost use Rattle.model_protocol.specs.Batch.{no_batch, no_entry};
 ghost use Rattle.model_protocol.specs.Message.{no_message};

@@ -1,6 +1,6 @@
 -- The refusals of a step in the order in which they are tried, its numbers being within their
 -- limits.
-use Rattle.std.specs.Prelude.{ℕ, Bool, List, [], ◌∷◌}
+use Rattle.std.specs.Prelude.{ℕ, Bool, [], ◌∷◌}
 use Rattle.log_entry.specs.Refusal.{check, first_refusal, ill_formed_vote, no_place, not_met, not_sent_yet, party_down}
 use Rattle.world_parts.specs.declared.refusal.Tests.{Tests}
 

@@ -5,7 +5,7 @@ ghost use Rattle.world_parts.specs.Refusal.{first_of};
 use log_entry::refusal::{ILL_FORMED_VOTE, NO_PLACE, NOT_MET, NOT_SENT_YET, PARTY_DOWN};
 
 // Whether the condition of each refusal after 2 holds.
-#[derive(Drop)]
+#[derive(Clone, Copy)]
 pub struct Tests {
     // 4: the message was not sent yet.
     pub unsent: bool,

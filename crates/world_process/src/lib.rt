@@ -1,4 +1,6 @@
 // What a process hears, takes and believes.
+#![tactic(auto)]
+
 ghost use Rattle.std.specs.Prelude.{◌≡◌};
 ghost use Rattle.model_protocol.specs.Process.{believes, hearing_outcome, taking, takes_follow, takes_restore, with_follow};
 

@@ -1,4 +1,6 @@
 // Document 01's queue, lent as a row of entries, at most eight.
+#![tactic(auto)]
+
 ghost use Rattle.std.specs.Prelude.{◌≡◌, ◌≤◌, take};
 ghost use Rattle.model_protocol.specs.Limits.{queue_places};
 ghost use Rattle.model_protocol.specs.Queue.{is_in};

@@ -1,4 +1,6 @@
 // The steps that need no ballot: setup, take and vote, tell, restore, follow, crash, back.
+#![tactic(auto)]
+
 ghost use Rattle.std.specs.Prelude.{◌≡◌, false, ◌&&◌, ◌||◌, not, eqb};
 ghost use Rattle.log_entry.specs.Entry.{ill_formed};
 ghost use Rattle.log_votes.specs.Outcome.{is_open};
@@ -192,6 +194,7 @@ fn followed(log: Log, process: u8, tx: u8) -> Message
 
 // The message of a step, where `delivered` is the one that it delivers: a tell, a restore or a
 // follow sends what the log of a coordinator that applied n instances says.
+#[tactic(auto, unfolding(model_protocol::specs::Step::message_for))]
 pub fn said(s: Step, delivered: Message, log: Log, applied: u8) -> Message
     ensures { result ≡ message_for s delivered log applied }
 {

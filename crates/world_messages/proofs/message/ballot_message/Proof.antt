@@ -1,9 +1,0 @@
-use borrow.Author.Rules.{rules}
-use Rattle.world_messages.proofs.message.ballot_message.Statement.{statement}
-use Rattle.world_messages.proofs.message.ballot_message.Tie as tie
-
-returns : tie.Need-returns
-returns c = rw c.no-entry.ensures
-
-pub ballot_message_spec : {M : Type 1} → statement M
-ballot_message_spec = tie.close (tie.spec (λ c κs. search rules) returns)
