@@ -1,8 +1,22 @@
 // The program `finish`: reads a step file of `world` from standard input, and prints the steps that
 // close one more instance.
-use finish_io::OUTPUT_BYTES;
+#![tactic(auto)]
 
-fn main() {
+use finish_io::OUTPUT_BYTES;
+use std::process::ExitCode;
+
+// An output that could not be written ends it with status 1.
+fn main(rt: HostRuntime) -> ExitCode {
     let mut out = [0; OUTPUT_BYTES];
-    finish_io::run(libc::STDIN_FILENO, &mut out);
+    let exchange = finish_io::run(
+        &mut rt.stdin(),
+        &mut rt.stdout(),
+        &mut rt.stderr(),
+        &mut out,
+    );
+    if exchange.is_written {
+        ExitCode::SUCCESS
+    } else {
+        ExitCode::FAILURE
+    }
 }

@@ -1,5 +1,6 @@
 -- What the program `finish` promises: what it prints is the list for all that was read.
-use Rattle.std.specs.Prelude.{ℕ, List}
+use Rattle.std.specs.Prelude.{ℕ, List, Option}
+use Rattle.std.specs.Io.KnownBytes.{Consumes}
 use Rattle.text_io.specs.Reading.{bytes_read}
 use Rattle.finish_run.specs.Printed.{PrintsList}
 use Rattle.world_io.specs.Exchange.{WasRead}
@@ -11,3 +12,7 @@ use Rattle.finish_io.specs.declared.Exchange.{Exchange}
 pub record Answered (x : Exchange) (buffer : List ℕ) : Type 0 where
   pub read : WasRead x.reading
   pub prints : PrintsList (bytes_read read) buffer x.printed
+
+-- and the bytes read are what a reader gave that has `left` before, and `rest` after
+abbrev pub AnsweredOf : Option (List ℕ) → Option (List ℕ) → Exchange → List ℕ → Type 0
+AnsweredOf left rest x buffer = (answered : Answered x buffer) × Consumes left rest (bytes_read answered.read)

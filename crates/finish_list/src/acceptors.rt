@@ -11,7 +11,7 @@ use model_steps::limits::MOST_ACCEPTORS;
 use world_messages::parties;
 
 // The acceptors that are up, the lowest first: the first `count`.
-#[derive(Drop)]
+#[derive(Clone, Copy)]
 pub struct Up {
     pub ids: [u8; ACCEPTOR_PLACES],
     pub count: usize,

@@ -1,4 +1,6 @@
 // The list of steps with which a coordinator closes its current instance, as lines of a step file.
+#![tactic(auto)]
+
 ghost use Rattle.std.specs.Prelude.{◌+◌, ◌*◌, ◌<◌, ◌≤◌, ℕ, ◌++◌, get_or};
 ghost use Rattle.model_steps.specs.Limits.{messages, most_acceptors};
 ghost use Rattle.model_finish.specs.Closing.{closing, deliveries};

@@ -1,4 +1,6 @@
 // The program `finish` from the bytes that it reads to the bytes that it prints.
+#![tactic(auto)]
+
 ghost use Rattle.finish_run.specs.Printed.{PrintsFed};
 
 use finish_list::LIST_BYTES;

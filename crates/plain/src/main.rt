@@ -1,7 +1,21 @@
 // The program `plain`: reads a step file from standard input, and prints the answers and the log.
-use plain_io::OUTPUT_BYTES;
+#![tactic(auto)]
 
-fn main() {
+use plain_io::OUTPUT_BYTES;
+use std::process::ExitCode;
+
+// An output that could not be written ends it with status 1.
+fn main(rt: HostRuntime) -> ExitCode {
     let mut out = [0; OUTPUT_BYTES];
-    plain_io::run(libc::STDIN_FILENO, &mut out);
+    let exchange = plain_io::run(
+        &mut rt.stdin(),
+        &mut rt.stdout(),
+        &mut rt.stderr(),
+        &mut out,
+    );
+    if exchange.is_written {
+        ExitCode::SUCCESS
+    } else {
+        ExitCode::FAILURE
+    }
 }

@@ -1,65 +1,74 @@
 // Runs `plain` on each file that an argument names, and prints its name before what it prints. After
 // that it prints which stores are involved in each transaction, which `plain` does not.
-use libc::STDOUT_FILENO;
+#![tactic(auto)]
+
 use log_core::Log;
 use log_entry::limits::{STORES, TRANSACTIONS};
 use plain_io::OUTPUT_BYTES;
+use std::env::{Env, FillError};
+use std::fs::File;
+use std::io;
+use std::io::{ErrorKind, Write};
+
+// A name has at most this many bytes.
+const NAME_BYTES: usize = 4096;
 
 // The transaction, and for each store the number of its involvement.
-fn involvement(log: Log, tx: u8) {
-    io::write_all(STDOUT_FILENO, b"tx=");
-    io::print_decimal(STDOUT_FILENO, tx as u64);
-    io::write_all(STDOUT_FILENO, b" involvement=");
-    let mut s: u8 = 0;
-    while s < STORES {
+fn involvement(rt: &HostRuntime, log: Log, tx: u8) -> io::Result<()> {
+    print!(rt; "tx={tx} involvement=")?;
+    for s in 0..STORES {
         let i = log.involvement(tx, s);
-        io::print_decimal(STDOUT_FILENO, i.number() as u64);
-        s += 1;
+        let n = i.number();
+        print!(rt; "{n}")?;
     }
-    io::write_all(STDOUT_FILENO, b"\n");
+    rt.stdout().write_all(b"\n")
 }
 
 // Of each transaction with a kept vote, and of a number that is no transaction.
-fn involvements(log: Log) {
-    let mut tx: u8 = 0;
-    while tx < TRANSACTIONS {
+fn involvements(rt: &HostRuntime, log: Log) -> io::Result<()> {
+    for tx in 0..TRANSACTIONS {
         let row = log.rows[tx as usize];
         if row.any_kept() {
-            involvement(log, tx);
+            involvement(rt, log, tx)?;
         }
-        tx += 1;
     }
-    involvement(log, TRANSACTIONS);
+    involvement(rt, log, TRANSACTIONS)
 }
 
-fn one(i: usize) {
-    let mut path = io::buffer();
-    let n = os::arg(i, &mut path);
-    io::write_all(STDOUT_FILENO, &path[..n]);
-    io::write_all(STDOUT_FILENO, b"\n");
-    let fd = os::open_read(&path[..n]);
-    if fd < 0 {
-        os::fail(&path[..n]);
-        return;
+fn open(rt: &HostRuntime, name: &[u8]) -> io::Result<File> {
+    match str::from_utf8(name) {
+        Ok(path) => File::open(rt, path),
+        Err(_) => Err(io::Error::from(ErrorKind::InvalidInput)),
     }
+}
+
+fn one(rt: &HostRuntime, name: &[u8]) -> io::Result<()> {
+    rt.stdout().write_all(name)?;
+    rt.stdout().write_all(b"\n")?;
+    let mut file = match open(rt, name) {
+        Ok(file) => file,
+        Err(e) => {
+            rt.stderr().write_all(name)?;
+            return eprintln!(rt; ": {e}");
+        }
+    };
     let mut out = [0; OUTPUT_BYTES];
-    let ran = plain_io::run(fd, &mut out);
+    let ran = plain_io::run(&mut file, &mut rt.stdout(), &mut rt.stderr(), &mut out);
     let reading = ran.reading;
     let input = reading.input;
     let session = input.finish();
     let log = session.log;
-    involvements(log);
-    libc::close(fd);
+    involvements(rt, log)
 }
 
-fn main() {
-    let count = os::arg_count();
-    let mut i: usize = 1;
-    while i < 1000 {
-        if count <= i {
-            return;
+fn main(rt: HostRuntime) -> io::Result<()> {
+    let mut name = [0; NAME_BYTES];
+    for i in 1..1000 {
+        match rt.arg(i, &mut name) {
+            Ok(n) => one(&rt, &name[..n])?,
+            Err(FillError::TooLong) => one(&rt, b"")?,
+            Err(FillError::NotPresent) => break,
         }
-        one(i);
-        i += 1;
     }
+    Ok(())
 }

@@ -1,19 +1,14 @@
 -- What a gathered line does, by its reading.
 use Prim.Native.Nat.{ℕ, ◌≤◌, ◌<◌}
-use native.Mathlib.Omega.{arith}
-use mathlib.Core.List.{[], ◌∷◌}
-use mathlib.Core.Logic.{inl, inr}
 use mathlib.Core.Path.{◌≡◌, refl, sym, ap}
 use borrow.Author.Tests.{le-leb, le-ltb, lt-leb, lt-ltb}
-use denote.Enum.Declared.{tag_of}
-use types.Run.{OneOf}
+use Rattle.log_entry.specs.declared.Entry.{Entry}
 use Rattle.log_entry.specs.Refusal.{no_place, unreadable}
 use Rattle.log_core.specs.declared.Log.{Log}
 use Rattle.log_core.specs.Enter.{answered}
 use Rattle.text_entry.specs.declared.Reading.{Reading}
 use Rattle.text_entry.specs.declared.Reading.TheVariants.{Read, Outside, Unreadable}
 use Rattle.text_entry.specs.Entry.{reading}
-use Rattle.text_entry.specs.contracts.Reading.{the_type as reading-type}
 use Rattle.text_lines.specs.declared.Line.{Line}
 use Rattle.text_lines.specs.Line.{bytes_of}
 use Rattle.text_lines.specs.Lines.{max_line_bytes, max_lines}
@@ -37,9 +32,7 @@ module _ (l : Log) (line : Line) where
     usual_line h = rw (lt-leb max_lines count h)
 
 -- a reading that is neither `Outside` nor `Read`
-pub neither : (r : Reading) → OneOf (0 ∷ 2 ∷ []) (tag_of reading-type r) → OneOf (1 ∷ 2 ∷ []) (tag_of reading-type r) → r ≡ Unreadable
-neither (Read e) a (inl b) = absurd (let z : ⊥ = omega arith in z)
-neither (Read e) a (inr b) = absurd (let z : ⊥ = omega arith in z)
-neither Outside (inl a) b = absurd (let z : ⊥ = omega arith in z)
-neither Outside (inr a) b = absurd (let z : ⊥ = omega arith in z)
+pub neither : (r : Reading) → (r ≡ Outside → ⊥) → ((e : Entry) → r ≡ Read e → ⊥) → r ≡ Unreadable
+neither (Read e) a b = absurd (b e refl)
+neither Outside a b = absurd (a refl)
 neither Unreadable a b = refl

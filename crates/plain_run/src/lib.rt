@@ -1,4 +1,6 @@
 // The program `plain` from the bytes that it reads to the bytes that it prints.
+#![tactic(auto)]
+
 ghost use Rattle.std.specs.Prelude.{◌≡◌};
 ghost use Rattle.text_lines.specs.Feed.{fed, finished, fresh};
 ghost use Rattle.plain_run.specs.Printed.{PrintsFed};
@@ -13,21 +15,21 @@ use text_lines::{ANSWERED_LINES, Answers, Line, MAX_LINE_BYTES, MAX_LINES};
 use text_report::{ANSWER_BYTES, LINE_BYTES, LOG_LINES};
 
 // The log, and the answers to the lines so far.
-#[derive(Drop)]
+#[derive(Clone, Copy)]
 pub struct Session {
     pub log: Log,
     pub answers: Answers,
 }
 
 // A session, and the line that is gathered for it.
-#[derive(Drop)]
+#[derive(Clone, Copy)]
 pub struct Input {
     pub session: Session,
     pub line: Line,
 }
 
 // What a line asks for: an entry, or an answer that is not the log's.
-#[derive(Drop)]
+#[derive(Clone, Copy)]
 pub struct Command {
     pub refused: u8,
     pub entry: Entry,

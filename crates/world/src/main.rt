@@ -1,7 +1,21 @@
 // The program `world`: reads a step file from standard input, and prints the answers and the world.
+#![tactic(auto)]
+
+use std::process::ExitCode;
 use world_io::OUTPUT_BYTES;
 
-fn main() {
+// An output that could not be written ends it with status 1.
+fn main(rt: HostRuntime) -> ExitCode {
     let mut out = [0; OUTPUT_BYTES];
-    world_io::run(libc::STDIN_FILENO, &mut out);
+    let exchange = world_io::run(
+        &mut rt.stdin(),
+        &mut rt.stdout(),
+        &mut rt.stderr(),
+        &mut out,
+    );
+    if exchange.is_written {
+        ExitCode::SUCCESS
+    } else {
+        ExitCode::FAILURE
+    }
 }

@@ -1,20 +1,15 @@
 -- What a gathered line asks for, by its reading.
 use Prim.Native.Nat.{◌≤◌, ◌<◌}
-use native.Mathlib.Omega.{arith}
-use mathlib.Core.List.{[], ◌∷◌}
-use mathlib.Core.Logic.{inl, inr}
 use mathlib.Core.Path.{◌≡◌, refl, sym, ap}
 use borrow.Author.Tests.{le-ltb, lt-ltb}
-use denote.Enum.Declared.{tag_of}
-use types.Run.{OneOf}
 use Rattle.log_entry.specs.Refusal.{unreadable}
+use Rattle.model_steps.specs.declared.Step.{Step}
 use Rattle.text_lines.specs.declared.Line.{Line}
 use Rattle.text_lines.specs.Line.{bytes_of}
 use Rattle.text_lines.specs.Lines.{max_line_bytes}
 use Rattle.text_step.specs.declared.Reading.{Reading}
 use Rattle.text_step.specs.declared.Reading.TheVariants.{Read, Outside, Unreadable}
 use Rattle.text_step.specs.Step.{reading}
-use Rattle.text_step.specs.contracts.Reading.{the_type as reading-type}
 use Rattle.world_input.specs.Commands.{command_to, refusing}
 use Rattle.world_input.specs.State.{held_command}
 
@@ -28,9 +23,7 @@ module _ (line : Line) where
   held_short h r e = rw (le-ltb max_line_bytes line.length h) (ap command_to (sym e))
 
 -- a reading that is neither `Outside` nor `Read`
-pub neither : (r : Reading) → OneOf (0 ∷ 2 ∷ []) (tag_of reading-type r) → OneOf (1 ∷ 2 ∷ []) (tag_of reading-type r) → r ≡ Unreadable
-neither (Read e) a (inl b) = absurd (let z : ⊥ = omega arith in z)
-neither (Read e) a (inr b) = absurd (let z : ⊥ = omega arith in z)
-neither Outside (inl a) b = absurd (let z : ⊥ = omega arith in z)
-neither Outside (inr a) b = absurd (let z : ⊥ = omega arith in z)
+pub neither : (r : Reading) → (r ≡ Outside → ⊥) → ((s : Step) → r ≡ Read s → ⊥) → r ≡ Unreadable
+neither (Read s) a b = absurd (b s refl)
+neither Outside a b = absurd (a refl)
 neither Unreadable a b = refl

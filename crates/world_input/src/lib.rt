@@ -1,4 +1,6 @@
 // The lines that the program `world` reads, as what they ask of the world.
+#![tactic(auto)]
+
 ghost use Rattle.std.specs.Prelude.{[], ◌≡◌};
 ghost use Rattle.text_lines.specs.Feed.{fed, finished, fresh};
 ghost use Rattle.world_input.specs.Commands.{refusing};
@@ -12,7 +14,7 @@ use text_lines::{ANSWERED_LINES, Line, MAX_LINE_BYTES, MAX_LINES};
 use text_step::Reading;
 
 // The commands, and the line that is gathered.
-#[derive(Drop)]
+#[derive(Clone, Copy)]
 pub struct Input {
     pub commands: Commands,
     pub line: Line,

@@ -1,5 +1,7 @@
 // What is printed of a world, line by line into a buffer. Each function answers the next place in
 // the buffer.
+#![tactic(auto)]
+
 ghost use Rattle.text_report.specs.Within.{Within};
 ghost use Rattle.world_report.specs.Longest.{longest_world};
 ghost use Rattle.world_report.specs.Report.{world_text};

@@ -1,4 +1,6 @@
 // The program `world` from the bytes that it reads to the bytes that it prints.
+#![tactic(auto)]
+
 ghost use Rattle.std.specs.Prelude.{min, ◌≡◌};
 ghost use Rattle.text_lines.specs.Lines.{answered_lines};
 ghost use Rattle.model_steps.specs.Commands.{commands_in};
@@ -15,7 +17,7 @@ use world_input::Input;
 use world_report::WORLD_BYTES;
 
 // The world, and the answers to the lines.
-#[derive(Drop)]
+#[derive(Clone, Copy)]
 pub struct Session {
     pub world: World,
     pub answers: Answers,

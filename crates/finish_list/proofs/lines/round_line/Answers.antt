@@ -1,0 +1,9 @@
+use native.Mathlib.Omega.{arith}
+use Rattle.text_report.proofs.Lengths.{within_more, within_room}
+use Rattle.finish_list.proofs.lines.round_line.Goals as goal
+
+pub returns : goal.returns
+returns c =
+    within_room
+    (within_more (within_more c.byte_fields-at.ensures c.byte_field-at.ensures) c.end.ensures)
+    (omega arith)

@@ -1,0 +1,12 @@
+use native.Mathlib.Omega.{arith}
+use Rattle.text_report.proofs.Lengths.{within_more, within_room}
+use Rattle.world_report.proofs.processes.follow_line.Goals as goal
+
+pub returns : goal.returns
+returns c =
+    within_room
+    (within_more (within_more (within_more c.byte_field-at.ensures
+    c.outcome_field-at.ensures)
+    c.update_field-at.ensures)
+    c.end.ensures)
+    (omega arith)

@@ -1,0 +1,12 @@
+use Rattle.text_report.proofs.Lengths.{within_as, within_more}
+use Rattle.world_report.proofs.ProcessTexts.{one_taken}
+use Rattle.world_report.proofs.processes.put_restore.Goals as goal
+
+pub returns : goal.returns
+returns c =
+    within_as
+    (one_taken c.args.proc c.args.p c.args.replay c.args.follows c.if-p-eq0.false)
+    (within_more (within_more (within_more c.restore_line-at.ensures
+    c.put_replay-at.ensures)
+    c.put_running-at.ensures)
+    c.put_follows.ensures)

@@ -1,0 +1,10 @@
+use native.Mathlib.Omega.{arith}
+use Rattle.text_report.proofs.Lengths.{within_more, within_room}
+use Rattle.world_report.proofs.processes.running_line.Goals as goal
+
+pub returns : goal.returns
+returns c =
+    within_room
+    (within_more c.byte_field-at.ensures
+    c.end.ensures)
+    (omega arith)
