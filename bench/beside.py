@@ -4,12 +4,13 @@
     bench/world.sh [--files] [--count] [--runs N] [PROGRAM]
     bench/finish.sh [--files] [--count] [--runs N] [PROGRAM]
 
-PROGRAM is target/bin/plain, target/bin/world or target/bin/finish if not said. Both programs get no
-input and a busy file of 1,000 lines, in turn, N times (500 if not said); the least time of each
-counts, since other work on the machine only adds. The lines themselves are the difference of the
-two inputs: without the start of the process. --count adds instructions, counted by valgrind, which
-other work does not change. --files first holds both to the reference on every file of the crate of
-cases. At the end stands what one line of 1 byte and one of 1,000,000,000 bytes take."""
+PROGRAM is crates/plain/out/plain, crates/world/out/world or crates/finish/out/finish if not said.
+Both programs get no input and a busy file of 1,000 lines, in turn, N times (500 if not said); the
+least time of each counts, since other work on the machine only adds. The lines themselves are the
+difference of the two inputs: without the start of the process. --count adds instructions, counted
+by valgrind, which other work does not change. --files first holds both to the reference on every
+file of the crate of cases. At the end stands what one line of 1 byte and one of 1,000,000,000 bytes
+take."""
 import argparse
 import importlib
 import os
@@ -133,14 +134,15 @@ def main(name, words):
         description=__doc__,
         formatter_class=argparse.RawDescriptionHelpFormatter,
     )
-    parser.add_argument("program", nargs="?", default=os.path.join(ROOT, "target", "bin", name))
+    built = os.path.join(ROOT, "crates", name, "out", name)
+    parser.add_argument("program", nargs="?", default=built)
     parser.add_argument("--files", action="store_true")
     parser.add_argument("--count", action="store_true")
     parser.add_argument("--runs", type=int, default=500)
     options = parser.parse_args(words)
     program = os.path.abspath(options.program)
     if not os.access(program, os.X_OK):
-        sys.exit("%s is not built: rt check %s" % (program, name))
+        sys.exit("%s is not built: rt run in crates/%s" % (program, name))
     with tempfile.TemporaryDirectory() as work:
         programs = [program, os.path.join(work, "rust")]
         subprocess.run(

@@ -1,3 +1,3 @@
 #!/bin/sh
-# `world` beside bench/world.rs: bench/world.sh --help says how. After `rt check world`.
+# `world` beside bench/world.rs: bench/world.sh --help says how. After `rt run` in crates/world.
 exec python3 "$(dirname "$0")/beside.py" world "$@"
