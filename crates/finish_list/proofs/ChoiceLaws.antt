@@ -1,14 +1,15 @@
 -- The choice, coordinator by coordinator.
 use Prim.Native.Nat.{ℕ, suc, ◌+◌, ◌*◌, ◌-◌, ◌<◌, ◌≤◌, max, min}
-use mathlib.Core.Bool.{Bool, true, false, ◌&&◌, not}
+use mathlib.Core.Bool.{Bool, true, false, ◌&&◌, not, true≢false}
 use mathlib.Core.Path.{◌≡◌, refl, ap, sym, ◌∙◌}
 use native.Mathlib.Numerals.{add-one}
 use native.Mathlib.Omega.{arith}
-use borrow.Author.Tests.{eq-eqb, ne_eqb}
+use borrow.Author.Tests.{eq-eqb, ltb-true, ne_eqb}
 use lib.Dec.{leb, ltb}
 use lib.ListN.{length}
+use Rattle.log_entry.proofs.Tests.{and_left, and_right}
 use Rattle.model_steps.specs.declared.Role.TheVariants.{Coord}
-use Rattle.model_steps.specs.Limits.{can_set_up, coordinators, messages, most_acceptors}
+use Rattle.model_steps.specs.Limits.{can_set_up, coordinators, instances, messages, most_acceptors}
 use Rattle.model_protocol.specs.declared.Coordinator.{Coordinator}
 use Rattle.model_protocol.specs.declared.World.{World}
 use Rattle.model_protocol.specs.Send.{lacks_numbers}
@@ -25,6 +26,10 @@ use Rattle.finish_list.proofs.UpLaws.{counted}
 
 pub set_up_few : (n : ℕ) → can_set_up n ≡ true → n ≤ most_acceptors
 set_up_few n h = (few_acceptors n (three_or_five n h)).1
+
+pub not_set_up_lem : (s a b : Bool) → s ≡ false → false ≡ (s && a && b)
+not_set_up_lem true a b h = absurd (true≢false h)
+not_set_up_lem false a b h = refl
 
 pub set_up : (s : Bool) (n m up sent : ℕ) (l : Bool) → s ≡ true → m ≡ quorum n → l ≡ ltb (messages - sent) (2 * n + 2 * m)
     → (leb m up && not l) ≡ (s && leb (quorum n) up && not (lacks_numbers sent (numbers_needed n)))
@@ -46,7 +51,17 @@ allows_is w u is = go (can_set_up w.acceptors) refl
         (counted u _ is ∙ ap (λ (n : ℕ). length (up_below w.down n)) k)
     go false e = refl
 
+pub allowed_few : (w : World) → allows w ≡ true → w.acceptors ≤ most_acceptors
+unfolding allows
+allowed_few w h =
+    let n = w.acceptors in
+    let up = leb (quorum n) (length (up_acceptors w)) in
+    set_up_few n (and_left (can_set_up n) up (and_left (can_set_up n && up) (not (lacks_numbers w.sent (numbers_needed n))) h))
+
 -- ---- the ballot of a coordinator
+
+pub work_inside : (k : Coordinator) → has_work k ≡ true → k.applied < instances
+work_inside k h = ltb-true k.applied instances (and_right (ltb 0 k.queue.count) (ltb k.applied instances) h)
 
 pub ballot_of_down : (w : World) (c : ℕ) → is_down w.down Coord c ≡ true → 0 ≡ ballot_of w c
 unfolding ballot_of

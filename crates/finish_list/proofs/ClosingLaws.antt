@@ -3,7 +3,7 @@ use Prim.Native.Nat.{ℕ, zero, suc, ◌+◌, ◌<◌, ◌≤◌, min}
 use mathlib.Core.List.{List, [], ◌∷◌, ◌++◌}
 use mathlib.Core.Path.{◌≡◌, refl, ap, sym, ◌∙◌}
 use native.Mathlib.Omega.{arith}
-use borrow.Author.Tests.{eq-eqb}
+use borrow.Author.Tests.{eq-eqb, ne_eqb}
 use lib.ListN.{get_or, length}
 use Rattle.model_steps.specs.declared.Step.{Step}
 use Rattle.model_steps.specs.declared.Step.TheVariants.{Open, Propose}
@@ -40,7 +40,13 @@ row_at (suc (suc (suc (suc zero)))) h = refl
 row_at (suc (suc (suc (suc (suc k))))) h = absurd (let z : ⊥ = omega arith in z)
 
 module _ (first n m : ℕ) (room : first + n + m ≤ messages) where
+  pub to_acceptor : (x : ℕ) → x < n → first + x < messages
+  to_acceptor x h = omega arith
+
   module _ (few : m ≤ quorum most_acceptors) where
+    pub from_acceptor : (k : ℕ) → k < m → first + n + get_or in_row k 0 < messages
+    from_acceptor k h = rw (row_at k (omega arith)) (omega arith)
+
     pub exchange_text : (steps : List Step)
         → steps_text steps ++ steps_text (deliveries (λ k. first + n + get_or in_row k 0) m) ≡ steps_text (steps ++ deliveries (λ k. first + n + k) m)
     exchange_text steps =
@@ -66,8 +72,17 @@ module _ (w : World) {c : ℕ} (such : Such w c) (u : Up) (is : Lists u (up_belo
       ∙ ap (λ (l : List ℕ). get_or l k 0) all_count
 
   module _ {m : ℕ} (quorum-is : m ≡ quorum n) where
+    pub few_asked : m ≤ quorum most_acceptors
+    few_asked = omega (arith, few such)
+
     pub asked_below : (k : ℕ) → k < m → get_or u.ids k 0 < n
     asked_below k h = let j : k < quorum n = omega arith in rw (asked k j) ((asked_are_lowest w c such).is_acceptor k j)
+
+    pub first_room : w.sent + n + m ≤ messages
+    first_room = omega (arith, such.numbers)
+
+    pub second_room : w.sent + n + m + n + m ≤ messages
+    second_room = omega (arith, such.numbers)
 
     pub closing_text : (b : ℕ) {i : ℕ} → i ≡ current_of w c
         → round_line open_name c i b
@@ -101,3 +116,6 @@ module _ (w : World) {x : Choice} (is : x ≡ choice_of w) where
 
   pub chosen_such : (x.ballot ≡ 0 → ⊥) → Such w x.coord
   chosen_such h = rw is ((choice_exactly w).lowest (omega (arith, ap (λ (y : Choice). y.ballot) is))).such
+
+  pub chosen_text : (x.ballot ≡ 0 → ⊥) → steps_text (closing w x.coord x.ballot) ≡ finish_text w
+  chosen_text h = rw (sym is, ne_eqb x.ballot 0 h)

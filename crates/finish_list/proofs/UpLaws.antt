@@ -52,6 +52,12 @@ module _ (d : Down) (n : ℕ) (ids : List ℕ) (count a : ℕ) (f : Found d n id
 pub found_as : {d : Down} {n : ℕ} {ids ids' : List ℕ} {count count' a : ℕ} → ids' ≡ ids → count' ≡ count → Found d n ids count a → Found d n ids' count' a
 found_as e k f = rw (e, k) f
 
+pub all_found : (d : Down) (n : ℕ) (ids : List ℕ) (count a : ℕ) → Found d n ids count a → min n most_acceptors ≤ a
+    → Lists (record { ids = ids; count = count }) (up_below d (min n most_acceptors))
+all_found d n ids count a f h =
+    let e : a ≡ min n most_acceptors = omega (arith, f.within) in
+    record { items = f.items ∙ ap (up_below d) e; count = omega (arith, f.within, f.fewer, f.places) }
+
 -- ---- what the list says of the array
 
 module _ (u : Up) (list : List ℕ) (is : Lists u list) where

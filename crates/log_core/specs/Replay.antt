@@ -1,6 +1,6 @@
 -- "Replay of a store: by group, then tx, the (tx, update) of each committed tx with a kept commit
 -- vote of that store. Update 0 is replayed too." A transaction has a group exactly if it is
--- committed (`group-iff-committed` of log_laws).
+-- committed (`group_iff_committed` of log_laws).
 use Rattle.std.specs.Prelude.{ℕ, suc, cond, List, [], ◌∷◌, ◌++◌, map, get_or, length, replicate}
 use Rattle.std.proofs.lemmas.List.Edits.{sets}
 use Rattle.log_entry.specs.Limits.{transactions}

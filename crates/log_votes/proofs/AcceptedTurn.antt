@@ -10,7 +10,7 @@ use Rattle.log_votes.specs.Refusal.{vote_refusal}
 use Rattle.log_votes.proofs.RefusalLaws.{accepted_tests}
 use lib.Dec.{eqb}
 
-accepted_turn : (r : Row) (holder turn : ℕ) (e : Entry) → vote_refusal r holder turn e ≡ accepted → turn ≡ e.turn
+pub accepted_turn : (r : Row) (holder turn : ℕ) (e : Entry) → vote_refusal r holder turn e ≡ accepted → turn ≡ e.turn
 accepted_turn r holder turn e h = eqb-true turn e.turn (not-false (eqb turn e.turn) (accepted_tests r holder turn e h).2)
 
 pub other_turn_not_kept : OtherTurnNotKept

@@ -181,7 +181,7 @@ took = subst (λ (t : ℕ). Took (all_entries (take 3 sequence)) 1 t 0) (omega (
     last : latest_of (reached (all_entries (take 3 sequence))) 1 ≡ 1
     last = ap (λ (l : Log). latest_of l 1) (sym sender) ∙ three_applied.2
 
--- the premises of `none-lost` hold here
+-- the premises of `none_lost` hold here
 pub earlier : EarlierCommit 2 restored sequence 4
 earlier = record {
   kept_commit = rw (its_store, vote_stays) old_vote.0;

@@ -48,7 +48,7 @@ pub record Sendable (w : World) (e : Entry) (to : ℕ) : Type 0 where
   pub process_up : is_down w.down Proc e.process ≡ false
   pub coordinator_up : is_down w.down Coord to ≡ false
 
--- That one which was sent was of the present turn is `entries-in-turn` of `Claim`.
+-- That one which was sent was of the present turn is `entries_in_turn` of `Claim`.
 abbrev pub OtherTurnRefused : Type 0
 OtherTurnRefused =
     (steps : List Step) (e : Entry) (to : ℕ) → let w = run fresh_world steps in Sendable w e to

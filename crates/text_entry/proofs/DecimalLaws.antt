@@ -25,6 +25,9 @@ fitting ns = record { readable = true; fit = true; first = at ns 0; second = at 
 pub found_outside : (ns : List ℕ) → any_beyond ns ≡ true → decimals_of (some ns) ≡ none_fit
 found_outside ns h = rw h
 
+pub found_inside : (ns : List ℕ) → any_beyond ns ≡ false → decimals_of (some ns) ≡ fitting ns
+found_inside ns h = rw h
+
 -- numbers none of which is beyond a byte
 none_1 : (a b : Bool) → (a || b) ≡ false → a ≡ false
 none_1 true b h = h

@@ -3,15 +3,17 @@ use Prim.Native.Nat.{ℕ, suc, ◌≤◌, ◌<◌, ◌+◌, ◌-◌, ◌*◌, �
 use native.Mathlib.Omega.{arith}
 use native.Mathlib.Nat.{pow-suc, pow-le-pow_right, le_trans}
 use native.Mathlib.Numerals.{add-one}
-use mathlib.Core.Bool.{Bool, true, false, cond, false≢true}
+use mathlib.Core.Bool.{Bool, true, false, ◌&&◌, cond, false≢true}
 use mathlib.Core.List.{List, [], ◌∷◌}
 use mathlib.Core.Path.{◌≡◌, refl, sym, ◌∙◌, ap}
+use lib.Dec.{eqb}
 use lib.ListN.{length, drop, get_or, drop_of_length-le}
 use lib.Seq.{drop-cons}
 use native.Mathlib.Decide.{dec_lt}
 use Rattle.text_ascii.specs.Decimal.{begins_digit, byte_numbers, grown, is_digit}
 use Rattle.log_entry.specs.Limits.{updates}
 use Rattle.text_ascii.specs.Hex.{begins_hex_digit, is_hex_digit, hex_grown, update_digits}
+use Rattle.text_ascii.proofs.Decimals.{is_digit_low, is_digit_high}
 use Rattle.text_entry.specs.Fields.{in_decimal}
 use Rattle.text_entry.specs.Read.{part, unreadable, leading_zero, read_digits, read_decimal, read_hex, read_value}
 use Rattle.text_entry.specs.Seen.{capped}
@@ -28,6 +30,18 @@ module _ (s : List ℕ) (at : ℕ) where
     | yes h ↦ h
     | no h ↦ absurd (false≢true (sym (digit_far (omega arith)) ∙ e))
   ]
+
+  pub digit_low : begins_digit (drop at s) ≡ true → 48 ≤ get_or s at 0
+  digit_low e = is_digit_low (get_or s at 0) (sym (digit_at (digit_inside e)) ∙ e)
+
+  pub digit_high : begins_digit (drop at s) ≡ true → get_or s at 0 ≤ 57
+  digit_high e = is_digit_high (get_or s at 0) (sym (digit_at (digit_inside e)) ∙ e)
+
+  pub zero_far : length s ≤ at → leading_zero (drop at s) ≡ false
+  zero_far h = rw (drop_of_length-le s {i = at} h)
+
+  pub zero_at : at < length s → leading_zero (drop at s) ≡ (eqb (get_or s at 0) 48 && begins_digit (drop (at + 1) s))
+  zero_at h = rw (drop-cons s at 0 h, add-one)
 
   pub digits_more : (n : ℕ) → begins_digit (drop at s) ≡ true → read_digits n (drop at s) ≡ read_digits (grown n (get_or s at 0)) (drop (at + 1) s)
   unfolding read_digits

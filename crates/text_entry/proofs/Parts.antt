@@ -10,9 +10,9 @@ use lib.Dec.{eqb, leb}
 use lib.ListN.{length, drop, drop_of_length-le, length-append}
 use lib.Seq.{drop-cons, drop-drop}
 use Rattle.text_ascii.specs.Bytes.{begins}
-use Rattle.text_entry.specs.Fields.{Form, in_hex, in_hex_or, in_words}
+use Rattle.text_entry.specs.Fields.{Form, in_hex, in_hex_or, in_words, keyed, optional}
 use Rattle.text_entry.specs.Seen.{word_after}
-use Rattle.text_entry.specs.Read.{Part, part, unreadable, after, or_part, word_or, read_hex, read_word, read_value, value_after, is_end}
+use Rattle.text_entry.specs.Read.{Part, part, unreadable, after, or_part, word_or, read_hex, read_word, read_value, value_after, keyed_value, without, read_in, is_end}
 
 module _ (w : List ℕ) (p : Part) where
   pub after_stopped : p.readable ≡ false → unreadable ≡ after w p
@@ -52,6 +52,9 @@ after_both v w p = go p.readable (begins p.rest v) (begins p.rest (v ++ w)) (beg
     go false b c h = refl
     go true false c h = rw h
     go true true c h = rw h (ap (λ (s : List ℕ). cond (begins (drop (length v) p.rest) w) (part 0 s) unreadable) (drop_both p.rest))
+
+pub value_stopped : (f : Form) (p : Part) → p.readable ≡ false → unreadable ≡ value_after f p
+value_stopped f p h = rw h
 
 pub value_there : (f : Form) (p : Part) → p.readable ≡ true → read_value f p.rest ≡ value_after f p
 value_there f p h = rw h
@@ -125,3 +128,11 @@ module _ (k j : ℕ) (p : Part) where
           → cond b (read_hex j 0 p.rest) unreadable ≡ cond b (or_part (read_hex k 0 p.rest) (read_hex j 0 p.rest)) unreadable
       go true h = rw h
       go false h = refl
+
+-- a field that a line may be without
+module _ (n : ℕ) (key : List ℕ) (form : Form) (p : Part) where
+  pub field_there : (after (keyed key) p).readable ≡ true → keyed_value key form p ≡ read_in (optional n) key form p
+  field_there h = rw h
+
+  pub field_absent : (after (keyed key) p).readable ≡ false → without n p ≡ read_in (optional n) key form p
+  field_absent h = rw h

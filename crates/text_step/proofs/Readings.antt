@@ -1,6 +1,7 @@
 -- What the reader answers to a line, from the parts that it read.
 use Prim.Native.Nat.{ℕ, suc, ◌≤◌, ◌<◌, ◌+◌, min}
 use native.Mathlib.Numerals.{add-one}
+use native.Mathlib.Omega.{arith}
 use mathlib.Core.Bool.{Bool, true, false, ◌||◌, cond, false≢true, true≢false}
 use mathlib.Core.List.{List, [], ◌∷◌, ◌++◌}
 use mathlib.Core.Option.{Option, none, some}
@@ -8,6 +9,7 @@ use mathlib.Core.Path.{◌≡◌, refl, sym, ◌∙◌, ap}
 use lib.Dec.{eqb}
 use lib.ListN.{drop, drop_of_length-le, length}
 use lib.Seq.{drop-cons}
+use borrow.Author.Tests.{lt-leb}
 use Rattle.log_entry.specs.declared.Entry.{Entry}
 use Rattle.log_entry.specs.Entry.{take_entry, vote_entry}
 use Rattle.model_steps.specs.declared.Role.{Role}
@@ -48,6 +50,9 @@ request_is e to = go (entry.beyond e) ∙ ap (λ (b : Bool). cond b Outside (Rea
 
 pub request_beyond : (to : ℕ) (e : Entry) → byte_numbers ≤ to → Outside ≡ request_of (variants.Read e) to
 request_beyond to e h = rw (no_byte_lem to h)
+
+pub request_within : (to : ℕ) (e : Entry) → to < byte_numbers → Read (Request e to) ≡ request_of (variants.Read e) to
+request_within to e h = rw (lt-leb byte_numbers to h)
 
 request_counted : (r : EntryReading) (n : ℕ) → request_of r n ≡ request_of r (min n byte_numbers)
 request_counted (variants.Read e) n = counted_same (λ (m : ℕ). request_of (variants.Read e) m) Outside (λ m h. sym (request_beyond m e h)) n
@@ -107,6 +112,22 @@ read_next false x h = true≢false h
 read_other : (t v : Option Step) → is_read (reading_of t) ≡ false → reading_of v ≡ reading_of (or_else t v)
 read_other none v h = refl
 read_other (some x) v h = absurd (read_next (beyond x) x h)
+
+-- the kind with this number
+pub as_kind : (k n : ℕ) (s : List ℕ) {a : Reading} → a ≡ reading_of (read_as (reader_at n) s) → k ≡ n → a ≡ reading_of (read_as (reader_at k) s)
+as_kind k n s h e = rw e h
+
+-- none of the numbers below n
+abbrev NoneBelow : ℕ → ℕ → Type 0
+NoneBelow ℕ.zero k = Unit {0}
+NoneBelow (suc n) k = NoneBelow n k × (k ≡ n → ⊥)
+
+not_below : (n k : ℕ) → NoneBelow n k → n ≤ k
+not_below ℕ.zero k h = omega arith
+not_below (suc n) k h = let m = not_below n k h.0 in let e = h.1 in omega arith
+
+pub last_kind : (n k : ℕ) → NoneBelow n k → k < suc n → k ≡ n
+last_kind n k h m = omega (arith, not_below n k h)
 
 -- the kinds from this number on decide
 pub record Left (k : ℕ) (s : List ℕ) : Type 0 where

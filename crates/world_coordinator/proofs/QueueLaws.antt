@@ -3,9 +3,10 @@ use Prim.Native.Nat.{ℕ, ◌+◌, ◌<◌, ◌≤◌, min}
 use mathlib.Core.Bool.{false, true}
 use mathlib.Core.List.{List, [], ◌∷◌}
 use mathlib.Core.Path.{◌≡◌}
+use native.Mathlib.Numerals.{add-one}
 use native.Mathlib.Omega.{arith}
-use lib.ListN.{drop, get_or, length, length-take, replicate, take}
-use lib.Seq.{sets}
+use lib.ListN.{drop, get_or, length, length-take, replicate, set, take}
+use lib.Seq.{get_or-take, sets}
 use Rattle.log_entry.specs.declared.Entry.{Entry}
 use Rattle.log_entry.specs.Entry.{same_entry}
 use Rattle.model_protocol.specs.declared.Batch.{Batch}
@@ -62,6 +63,16 @@ module _ (q : Queue) (e : Entry) where
   joins h room = rw (h, room)
 
 -- ---- the first batch
+
+-- a turn stores the i-th of the first m queue entries
+pub first_turn_lem : (q : Queue) (m i : ℕ) (entries all : List Entry) → i < min q.count m → i < length q.entries
+    → sets entries i (drop i (take m (queued q))) ≡ all
+    → sets (set entries i (get_or q.entries i no_entry)) (i + 1) (drop (i + 1) (take m (queued q))) ≡ all
+first_turn_lem q m i entries all h hx inv =
+    let inside : i < length (queued q) = rw length-take (omega arith) in
+    let here : i < q.count = omega arith in
+    let step = front_step (queued q) m i no_entry (omega arith) inside in
+    rw (add-one i) (rw (step, get_or-take q.count q.entries i no_entry here, add-one i) at inv)
 
 -- the end of the loop: it stored all
 pub first_done : (q : Queue) (entries : List Entry) (i n : ℕ) (d : Entry) → d ≡ no_entry → n ≡ min q.count batch_entries → n ≤ i

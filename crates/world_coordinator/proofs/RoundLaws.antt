@@ -11,13 +11,16 @@ use Rattle.log_entry.specs.Bits.{with}
 use Rattle.model_protocol.specs.declared.Batch.{Batch}
 use Rattle.model_protocol.specs.declared.Coordinator.{Coordinator}
 use Rattle.model_protocol.specs.declared.Round.{Round}
-use Rattle.model_protocol.specs.Coordinator.{batch_to_propose, promise_heard}
+use Rattle.model_protocol.specs.Coordinator.{batch_to_propose, counting, promise_heard}
 use Rattle.model_protocol.specs.Queue.{first_batch}
 use Rattle.world_coordinator.specs.Limits.{set_places}
 
--- a number that the set has a place for
+-- a number that the set has a place for, and one past it
 pub heard_inside : {A : Type 0} (a : ℕ) (changed same : A) → a < set_places → changed ≡ cond (ltb a set_places) changed same
 heard_inside a changed same h = rw (lt-ltb a set_places h)
+
+pub heard_past : {A : Type 0} (a : ℕ) (changed same : A) → set_places ≤ a → same ≡ cond (ltb a set_places) changed same
+heard_past a changed same h = rw (le-ltb a set_places h)
 
 -- the shifted one is the power, since it fits
 pub set_with : (set a : ℕ) → a < set_places → bit_or set (1 * 2 ^ a % 2 ^ set_places) ≡ with set a
@@ -35,6 +38,20 @@ heard_by r s accepted batch = record {
   proposal = r.proposal;
   acceptances = r.acceptances;
 }
+
+abbrev pub accepted_by : Round → ℕ → Round
+accepted_by r s = record {
+  ballot = r.ballot;
+  promises = r.promises;
+  accepted = r.accepted;
+  batch = r.batch;
+  proposed = r.proposed;
+  proposal = r.proposal;
+  acceptances = s;
+}
+
+pub is_counted : (r : Round) (a s : ℕ) → s ≡ with r.acceptances a → a < set_places → accepted_by r s ≡ cond (ltb a set_places) (counting r a) r
+is_counted r a s e h = rw e (heard_inside a (counting r a) r h)
 
 module _ (r : Round) (a s accepted : ℕ) (batch : Batch) (e : s ≡ with r.promises a) (h : a < set_places) where
   pub higher_held : r.accepted < accepted → heard_by r s accepted batch ≡ cond (ltb a set_places) (promise_heard r a accepted batch) r

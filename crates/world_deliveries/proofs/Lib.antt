@@ -1,3 +1,5 @@
+pub mod BothLaws
 pub mod DeliverLaws
 pub mod DeliveryLaws
 pub mod FollowLaws
+pub mod PlaceLaws

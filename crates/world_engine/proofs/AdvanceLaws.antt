@@ -6,8 +6,11 @@ use mathlib.Core.Path.{◌≡◌, ap, refl, subst, sym, ◌∙◌}
 use native.Mathlib.Nat.{mod-lt}
 use native.Mathlib.Numerals.{add-one}
 use native.Mathlib.Omega.{arith}
+use denote.Laws.{Is}
+use denote.Struct.Declared.{row}
 use lib.ListN.{drop, get_or, length, length-set, replicate, set, take}
 use lib.Seq.{set-get_or, set-set, sets}
+use mir.Val.{Val}
 use Rattle.log_entry.specs.Limits.{process_places}
 use Rattle.log_votes.proofs.InList.{in_list}
 use Rattle.log_core.specs.declared.Log.{Log}
@@ -18,6 +21,7 @@ use Rattle.log_core.specs.Replay.{no_replay, replay_of}
 use Rattle.model_steps.specs.declared.Step.{Step}
 use Rattle.model_steps.specs.declared.Step.TheVariants.{Setup, Request, Open, Propose, Deliver, Tell, Restore, Follow, Crash, Back}
 use Rattle.model_steps.specs.Limits.{coordinators, instances, messages}
+use Rattle.model_protocol.specs.contracts.World.{the_type as world-type}
 use Rattle.model_protocol.specs.declared.AcceptorSlot.{AcceptorSlot}
 use Rattle.model_protocol.specs.declared.Change.{Change}
 use Rattle.model_protocol.specs.declared.Coordinator.{Coordinator}
@@ -61,6 +65,18 @@ pub record Lengths (w : World) : Type 0 where
   pub follows_row : length w.follows ≡ process_places
   pub message_row : length w.messages ≡ messages
   pub replay_row : length w.replays ≡ messages
+
+pub world_lengths : (w : World) (vs : List Val) → Is (row world-type) w vs → Lengths w
+world_lengths w vs g = record {
+  slot_row = g.1.1.1.0.1.0.1;
+  co_row = g.1.1.1.1.0.1.0.1;
+  log_row = g.1.1.1.1.1.0.1.0.1;
+  process_row = g.1.1.1.1.1.1.1.1.1.1.1.1.0.1.0.1;
+  restored_row = g.1.1.1.1.1.1.0.1.0.1;
+  follows_row = g.1.1.1.1.1.1.1.0.1.0.1;
+  message_row = g.1.1.1.1.1.1.1.1.1.0.1.0.1;
+  replay_row = g.1.1.1.1.1.1.1.1.1.1.0.1.0.1;
+}
 
 message_inside : (s : Step) → message_at s < messages
 message_inside (Setup n) = omega arith

@@ -9,12 +9,21 @@ use mathlib.Core.Path.{◌≡◌, sym, ◌∙◌, ap}
 use lib.Dec.{ltb}
 use lib.ListN.{length, length-take, set, take}
 use lib.Seq.{length-take-le, take-suc-set}
-use borrow.Author.Tests.{le-ltb, lt-ltb}
+use borrow.Author.Tests.{le-leb, le-ltb, lt-leb, lt-ltb}
+use Rattle.log_entry.specs.Refusal.{no_place}
 use Rattle.text_lines.specs.declared.Line.{Line}
 use Rattle.text_lines.specs.Lines.{answered_lines, max_lines}
 use Rattle.model_steps.specs.declared.Commands.{Commands}
-use Rattle.world_input.specs.State.{command_at, over, with_line}
+use Rattle.world_input.specs.Commands.{refusing}
+use Rattle.world_input.specs.State.{command_at, held_command, over, with_line}
 use Rattle.model_steps.specs.Commands.{commands_in}
+
+module _ (n : ℕ) (line : Line) where
+  pub command_last : max_lines ≤ n → refusing no_place ≡ command_at n line
+  command_last h = rw (le-leb max_lines n h)
+
+  pub command_usual : n < max_lines → held_command line ≡ command_at n line
+  command_usual h = rw (lt-leb max_lines n h)
 
 module _ (o : Commands) (room : length o.commands ≡ answered_lines) where
   pub over_last : max_lines < o.count → over (commands_in o) ≡ true

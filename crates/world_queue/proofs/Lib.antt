@@ -1,1 +1,3 @@
+pub mod EntryRow
+pub mod Front
 pub mod RowLaws

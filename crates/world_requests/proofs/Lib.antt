@@ -1,1 +1,3 @@
+pub mod FollowLaws
 pub mod HeldLaws
+pub mod SaidLaws
