@@ -310,7 +310,7 @@ module _ {w : World} {h : List Event} (G : Good w h) where
     holds_over = record {
       listed = list_is;
       followed = follow_is;
-      none_lost = λ p tx l all e. no_loss p l tx all e;
+      none_lost = λ p tx l. no_loss p l tx;
       none_invented = λ p tx update l t. no_invention p l tx update t;
     }
 
