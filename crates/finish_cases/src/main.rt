@@ -7,7 +7,7 @@ use std::fs::File;
 use std::io;
 use std::io::{ErrorKind, Write};
 
-// A name has at most this many bytes.
+// A name has at most this many bytes. A longer one counts as empty.
 const NAME_BYTES: usize = 4096;
 
 fn open(rt: &HostRuntime, name: &[u8]) -> io::Result<File> {
