@@ -1,5 +1,5 @@
-// The library for hosts in C: the log after the records that a host lends. Document 01, "Hosts in
-// C".
+// The calls of hosts: the log after the records that a host lends (docs/SCOPE.md, "Hosts in C"). C
+// calls them by `release_log_c`.
 #![tactic(auto)]
 
 ghost use Rattle.std.specs.Prelude.{◌≡◌, ◌*◌, ◌≤◌, length};
@@ -40,8 +40,7 @@ fn add_entry(records: &mut [u8], count: usize, log: Log, e: Entry) -> u32
 }
 
 // A new entry: its record is stored after the lent ones.
-#[unsafe(no_mangle)]
-pub extern "C" fn release_log_add(
+pub fn release_log_add(
     stores: u32,
     records: &mut [u8],
     count: usize,
@@ -81,8 +80,7 @@ pub extern "C" fn release_log_add(
 }
 
 // The outcome of a transaction.
-#[unsafe(no_mangle)]
-pub extern "C" fn release_log_outcome(
+pub fn release_log_outcome(
     stores: u32,
     records: &[u8],
     count: usize,
@@ -106,8 +104,7 @@ pub extern "C" fn release_log_outcome(
 }
 
 // Whether a store is involved in a transaction.
-#[unsafe(no_mangle)]
-pub extern "C" fn release_log_involvement(
+pub fn release_log_involvement(
     stores: u32,
     records: &[u8],
     count: usize,
@@ -133,8 +130,7 @@ pub extern "C" fn release_log_involvement(
 }
 
 // A store's replay.
-#[unsafe(no_mangle)]
-pub extern "C" fn release_log_replay(
+pub fn release_log_replay(
     stores: u32,
     records: &[u8],
     count: usize,
