@@ -63,8 +63,8 @@ pub fn read_all<R: Read>(reader: &mut R, buffer: &mut [u8]) -> Reading
     reading
 }
 
-// Writes the first bytes of a buffer, and answers whether the writer took them all. Where it did not,
-// that is said to the writer of errors.
+// Writes the first bytes of a buffer, and answers whether the writer took them all. Where it did
+// not, that is said to the writer of errors.
 fn print<W: Write, E: Write>(output: &mut W, errors: &mut E, out: &[u8], count: usize) -> bool
     requires { IsPrefixLen count out.now }
     ensures { WasWritten (W.contents output.old) (W.contents output.new) out.now count result }
