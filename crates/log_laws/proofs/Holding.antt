@@ -1,5 +1,6 @@
 -- Holders present and past, and their turns: a process holds one store, in its last turn, and a
 -- store that it took before it takes again in a later turn only.
+use Rattle.log_entry.specs.Entry.{is_take}
 use Prim.Native.Nat.{ℕ, ◌≤◌, ◌<◌}
 use mathlib.Core.Path.{◌≡◌, refl, sym, ap, subst, ◌∙◌}
 use mathlib.Core.Bool.{true, false, not, ◌&&◌}
@@ -159,10 +160,10 @@ HadIn p t s l = (held_before l p s ≡ true) × (t ≤ latest_of l p)
 abbrev pub LostIn : ℕ → ℕ → ℕ → Log → Type 0
 LostIn p t s l = HadIn p t s l × (HoldsIn l p t s → ⊥)
 
-pub held_by : (l : Log) (e : Entry) → Sized l → e.take ≡ true → refusal_of l e ≡ accepted → HeldBy (enter l e).log e
+pub held_by : (l : Log) (e : Entry) → Sized l → is_take e ≡ true → refusal_of l e ≡ accepted → HeldBy (enter l e).log e
 held_by l e z t ok = subst (λ (x : Entered). HeldBy x.log e) (take_entered l e t ok) (taken_by l e z (take_ok l e t ok))
 
-pub taker_held : (l : Log) (e : Entry) → Sized l → e.take ≡ true → refusal_of l e ≡ accepted → held_before (enter l e).log e.process e.store ≡ true
+pub taker_held : (l : Log) (e : Entry) → Sized l → is_take e ≡ true → refusal_of l e ≡ accepted → held_before (enter l e).log e.process e.store ≡ true
 taker_held l e z t ok =
     subst (λ (x : Entered). held_before x.log e.process e.store ≡ true) (take_entered l e t ok) (taker_in_past l e z (take_ok l e t ok))
 

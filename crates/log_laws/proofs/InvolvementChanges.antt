@@ -1,4 +1,5 @@
 -- Who is involved, beside document 01: what changed, and what did not.
+use Rattle.log_entry.specs.Entry.{list_of, says_commit, tx_of}
 use Prim.Native.Nat.{ℕ}
 use mathlib.Core.Path.{◌≡◌, refl, sym, ap, ap₂, ◌∙◌}
 use mathlib.Core.Bool.{Bool, true, false, cond}
@@ -98,10 +99,10 @@ module _ (tx store s : ℕ) (before : Log) (v : Vote) (commit : v.commit ≡ tru
   Guessed l = Stands tx s v l × (AbortLists l tx store → AbortLists before tx store)
 
   -- an abort that is accepted now has its list within that of the commit vote
-  not_now : (l : Log) (e : Entry) → VoteOk (row_of l tx) l e → tx ≡ e.tx → Stands tx s v l → e.commit ≡ false → has e.participants store ≡ true → ⊥
+  not_now : (l : Log) (e : Entry) → VoteOk (row_of l tx) l e → tx ≡ tx_of e → Stands tx s v l → says_commit e ≡ false → has (list_of e) store ≡ true → ⊥
   not_now l e ok is stands abort h =
-      let at : vote_at l e.tx s ≡ v = ap (λ (n : ℕ). vote_at l n s) (sym is) ∙ stands.1 in
-      let k : KeptCommit l e.tx s = (ap (λ (x : Vote). x.kept) at ∙ stands.0, ap (λ (x : Vote). x.commit) at ∙ commit) in
+      let at : vote_at l (tx_of e) s ≡ v = ap (λ (n : ℕ). vote_at l n s) (sym is) ∙ stands.1 in
+      let k : KeptCommit l (tx_of e) s = (ap (λ (x : Vote). x.kept) at ∙ stands.0, ap (λ (x : Vote). x.commit) at ∙ commit) in
       let fits = (clash_by_lists l e).0 (ap (λ (n : ℕ). any_clash e (row_of l n).votes) (sym is) ∙ ok.no_clash) s k in
       opposed (fits.within_list abort store h) (ap (λ (x : Vote). has x.participants store) at ∙ out)
 

@@ -1,4 +1,5 @@
 -- A process's last turn is that of its last accepted take among the entries.
+use Rattle.log_entry.specs.Entry.{is_take}
 use Prim.Native.Nat.{ℕ, ◌≤◌}
 use mathlib.Core.Path.{◌≡◌, refl, sym, ap, subst, ◌∙◌}
 use mathlib.Core.Bool.{true, false}
@@ -17,6 +18,7 @@ use Rattle.log_core.specs.Log.{empty_log, latest_of, opened}
 use Rattle.log_laws.specs.Conditions.{LastTake, LastTakeFrom, LatestExactly, TookFrom}
 use Rattle.log_laws.specs.Reached.{reached}
 use Rattle.log_laws.proofs.Accepted.{ok_accepted}
+use Rattle.log_laws.proofs.Answers.{accepts_or_not}
 use Rattle.log_laws.proofs.EmptyRows.{replicate_cases}
 use Rattle.log_laws.proofs.Feed.{feed_append, wf_reached}
 use Rattle.log_laws.proofs.Holding.{held_by}
@@ -37,15 +39,15 @@ TookNone l es p = (t s : ℕ) → TookFrom l es p t s → ⊥
 takes_or_none : (l : Log) (e : Entry) (p : ℕ) → Takes l e p e.turn e.store ⊎ TakesNone l e p
 takes_or_none l e p =
     ⊎_elim
-    (λ (t : e.take ≡ true). ⊎_elim
+    (λ (t : is_take e ≡ true). ⊎_elim
     (λ (q : e.process ≡ p). ⊎_elim
     (λ (a : (enter l e).answer ≡ accepted). inl (record { is_take = t; taker = q; in_turn = refl; taken = refl; is_accepted = a }))
     (λ (a : (enter l e).answer ≢ accepted). inr (λ _ _ k. a k.is_accepted))
-    (same_number (enter l e).answer accepted))
+    (accepts_or_not (enter l e).answer))
     (λ (q : e.process ≢ p). inr (λ _ _ k. q k.taker))
     (same_number e.process p))
-    (λ (t : e.take ≡ false). inr (λ _ _ k. opposed k.is_take t))
-    (either e.take)
+    (λ (t : is_take e ≡ false). inr (λ _ _ k. opposed k.is_take t))
+    (either (is_take e))
 
 -- ---- the last turn after an entry
 

@@ -1,5 +1,6 @@
 -- A transaction's row: what holds of each row of a reachable log, and that an accepted
 -- vote keeps it so.
+use Rattle.log_entry.specs.Entry.{list_of, says_commit}
 use Prim.Native.Nat.{ℕ, ◌<◌}
 use mathlib.Core.Path.{◌≡◌, refl, sym, subst, ◌∙◌}
 use mathlib.Core.Bool.{Bool, true, false, ◌&&◌}
@@ -70,9 +71,9 @@ module _ (r : Row) (w : RowWf r) where
       -- a list with which the entry's does not clash has its store
       listed : (list : ℕ) → clashes e list ≡ false → has list e.store ≡ true
       listed list =
-          by_test (λ (b : Bool). b ≡ false → has list e.store ≡ true) e.commit _ _
-          (λ c n. subst (λ (x : ℕ). has x e.store ≡ true) (sym (eqb-true list e.participants (not-false _ n))) (lists_store e ok.well_formed))
-          (λ c n. within_has e.participants list e.store (not-false _ n) (lists_store e ok.well_formed))
+          by_test (λ (b : Bool). b ≡ false → has list e.store ≡ true) (says_commit e) _ _
+          (λ c n. subst (λ (x : ℕ). has x e.store ≡ true) (sym (eqb-true list (list_of e) (not-false _ n))) (lists_store e ok.well_formed))
+          (λ c n. within_has (list_of e) list e.store (not-false _ n) (lists_store e ok.well_formed))
 
 -- an accepted vote keeps the row well formed, if the group it gets is right
 module _ (r : Row) (l : Log) (e : Entry) (g : ℕ) (w : RowWf r) (ok : VoteOk r l e) (size : length r.votes ≡ stores) where
@@ -84,10 +85,10 @@ module _ (r : Row) (l : Log) (e : Entry) (g : ℕ) (w : RowWf r) (ok : VoteOk r 
   same_size = length-set r.votes e.store (vote_of_entry e)
 
   -- a commit vote kept before has the list of an accepted commit vote
-  old_list : e.commit ≡ true → (s : ℕ) → is_commit s (vote_of_store s r) ≡ true → (vote_of_store s r).participants ≡ e.participants
+  old_list : says_commit e ≡ true → (s : ℕ) → is_commit s (vote_of_store s r) ≡ true → (vote_of_store s r).participants ≡ list_of e
   old_list c s k =
-      by_test (λ (b : Bool). b ≡ false → (vote_of_store s r).participants ≡ e.participants) e.commit _ _
-      (λ c n. eqb-true (vote_of_store s r).participants e.participants (not-false _ n))
+      by_test (λ (b : Bool). b ≡ false → (vote_of_store s r).participants ≡ list_of e) (says_commit e) _ _
+      (λ c n. eqb-true (vote_of_store s r).participants (list_of e) (not-false _ n))
       (λ n. absurd (opposed c n))
       (no_clash_with r l e ok s k)
 
@@ -95,7 +96,7 @@ module _ (r : Row) (l : Log) (e : Entry) (g : ℕ) (w : RowWf r) (ok : VoteOk r 
   unfolding after
   kept_lists_in s t =
       kept_cases (λ (v : Vote). v.kept ≡ true → has v.participants t ≡ true → t < length after.votes) r e s
-      (λ k kept m. subst (λ (n : ℕ). t < n) (sym (same_size ∙ size)) (member_below e.participants stores t (inside_vote l.stores e ok.in_limits ok.is_vote).list m))
+      (λ k kept m. subst (λ (n : ℕ). t < n) (sym (same_size ∙ size)) (member_below (list_of e) stores t (inside_vote l.stores e ok.in_limits ok.is_vote).list m))
       (λ kept m. subst (λ (n : ℕ). t < n) (sym same_size) (w.lists_in s t kept m))
 
   kept_one_list : (s t : ℕ) → is_commit s (vote_of_store s after) ≡ true → is_commit t (vote_of_store t after) ≡ true
@@ -103,7 +104,7 @@ module _ (r : Row) (l : Log) (e : Entry) (g : ℕ) (w : RowWf r) (ok : VoteOk r 
   unfolding after
   kept_one_list s t =
       kept_cases (λ (v : Vote). is_commit s v ≡ true → is_commit t (vote_of_store t after) ≡ true → v.participants ≡ (vote_of_store t after).participants) r e s
-      (λ k. kept_cases (λ (v : Vote). e.commit ≡ true → is_commit t v ≡ true → e.participants ≡ v.participants) r e t
+      (λ k. kept_cases (λ (v : Vote). says_commit e ≡ true → is_commit t v ≡ true → list_of e ≡ v.participants) r e t
       (λ k' c c'. refl)
       (λ c c'. sym (old_list c t c')))
       (kept_cases (λ (v : Vote). is_commit s (vote_of_store s r) ≡ true → is_commit t v ≡ true → (vote_of_store s r).participants ≡ v.participants) r e t

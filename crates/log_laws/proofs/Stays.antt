@@ -1,4 +1,5 @@
 -- What is kept stays: a kept vote, the row of a committed transaction, an outcome that is not open.
+use Rattle.log_entry.specs.Entry.{tx_of}
 use Prim.Native.Nat.{ℕ}
 use mathlib.Core.Path.{◌≡◌, refl, sym, ap, ◌∙◌}
 use mathlib.Core.Bool.{true, not}
@@ -63,7 +64,7 @@ row_stays es more tx h = (later (Settled tx (row_of (reached es) tx)) (settled_e
 
 pub no_vote_kept : CommittedKeepsNoVote
 no_vote_kept es e t h a =
-    committed_refuses (row_of (reached es) e.tx) ((wf_reached es).row e.tx) (ap is_committed h) (reached es) e (vote_ok (reached es) e t (sym (answer_is (reached es) e) ∙ a))
+    committed_refuses (row_of (reached es) (tx_of e)) ((wf_reached es).row (tx_of e)) (ap is_committed h) (reached es) e (vote_ok (reached es) e t (sym (answer_is (reached es) e) ∙ a))
 
 -- from any log in order, so also from one of a replicated service
 pub decided_stays : (l : Log) (es : List Entry) (tx : ℕ) → Wf l → outcome_of l tx ≢ Open → outcome_of (feed l es) tx ≡ outcome_of l tx

@@ -1,4 +1,5 @@
 -- A process held a store before exactly if a take of it stands among the entries, and was accepted.
+use Rattle.log_entry.specs.Entry.{is_take}
 use Prim.Native.Nat.{ℕ, ◌≤◌}
 use native.Mathlib.Omega.{arith}
 use mathlib.Core.Path.{◌≡◌, refl, sym, ap, subst, subst₂, ◌∙◌}
@@ -29,7 +30,7 @@ use Rattle.log_laws.proofs.WellFormed.{Wf, feed_keeps, wf_enter}
 
 -- the entry is an accepted take of s by p, in turn t
 pub record Takes (l : Log) (e : Entry) (p t s : ℕ) : Type 0 where
-  pub is_take : e.take ≡ true
+  pub is_take : is_take e ≡ true
   pub taker : e.process ≡ p
   pub in_turn : e.turn ≡ t
   pub taken : e.store ≡ s

@@ -1,5 +1,6 @@
 -- A store that is taken over: the commit votes of its earlier holders are rows of the replay, or
 -- their transactions run.
+use Rattle.log_entry.specs.Entry.{by_of, says_commit}
 use Prim.Native.Nat.{ℕ}
 use mathlib.Core.Path.{◌≡◌, refl, sym, ap, subst, subst₂, ◌∙◌}
 use mathlib.Core.Bool.{true, false}
@@ -84,7 +85,7 @@ casts_no_more before p t s tx l e w h = (
     Old v = (v.kept ≡ true) × (v.commit ≡ true) → v.process ≡ p → v.turn ≡ t → Kept before tx s
 
     -- a commit vote is the store's own
-    at_by : VoteOk (row_of l tx) l e → s ≡ e.store → e.commit ≡ true → s ≡ e.by
+    at_by : VoteOk (row_of l tx) l e → s ≡ e.store → says_commit e ≡ true → s ≡ by_of e
     at_by ok m c = m ∙ sym (((ill_formed_by_values e).0 ok.well_formed).commit_own c)
 
 -- who took the store in a turn had it in that turn

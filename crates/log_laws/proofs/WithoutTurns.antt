@@ -5,12 +5,12 @@ use mathlib.Core.Bool.{Bool, true, false, cond}
 use mathlib.Core.List.{List, [], ◌∷◌}
 use mathlib.Core.Logic.{◌↔◌}
 use native.Mathlib.Omega.{arith}
-use lib.Dec.{eqb}
 use lib.ListN.{get_or}
-use borrow.Author.Tests.{eq-eqb, eqb-true}
+use Rattle.std.specs.Result.{is_ok}
 use Rattle.log_entry.specs.declared.Entry.{Entry}
-use Rattle.log_entry.specs.Entry.{ill_formed, outside}
+use Rattle.log_entry.specs.Entry.{ill_formed, is_take, outside}
 use Rattle.log_entry.specs.Limits.{process_places, stores}
+use Rattle.log_entry.specs.Number.{Answer}
 use Rattle.log_entry.specs.Refusal.{accepted}
 use Rattle.log_core.specs.declared.Log.{Log}
 use Rattle.log_entry.proofs.Theorems.{outside_exactly}
@@ -27,6 +27,7 @@ use Rattle.log_laws.specs.Involvement.{ChangesExactly}
 use Rattle.log_laws.specs.Reached.{reached}
 use Rattle.log_laws.specs.WithoutTurns.{AllFirst, TakeAgrees, TakesWithoutTurns, VotesWithoutTurns, WithoutTurns}
 use Rattle.log_laws.proofs.Accepted.{process_from_1}
+use Rattle.log_laws.proofs.Answers.{accepts_ok, ok_accepts}
 use Rattle.log_laws.proofs.AnswerClaims.{take_exactly, vote_exactly}
 use Rattle.log_laws.proofs.ConditionClaims.{another_by_holders}
 use Rattle.log_laws.proofs.EmptyRows.{replicate_cases}
@@ -50,8 +51,8 @@ unfolding base_refusal base_outside ill_formed
 base_reads_no_turn l e turn = refl
 
 -- the log after an entry with this answer
-after : Log → Entry → ℕ → Log
-after l e n = cond (eqb n accepted) (stored l e (effect_by n (parts_of l e) e)) l
+after : Log → Entry → Answer → Log
+after l e n = cond (is_ok n) (stored l e (effect_by n (parts_of l e) e)) l
 
 enter_after : (l : Log) (e : Entry) → (enter l e).log ≡ after l e (refusal_of l e)
 unfolding enter entered effect_of after
@@ -62,17 +63,17 @@ unfolding base_enter entered after
 base_after l e = refl
 
 -- of a take only this counts, whether it is accepted
-take_after : (l : Log) (e : Entry) → e.take ≡ true → (m n : ℕ) → (m ≡ accepted) ↔ (n ≡ accepted) → after l e m ≡ after l e n
+take_after : (l : Log) (e : Entry) → is_take e ≡ true → (m n : Answer) → (m ≡ accepted) ↔ (n ≡ accepted) → after l e m ≡ after l e n
 unfolding after
 take_after l e k m n h =
     ap₂ (λ (b : Bool) (x : Log). cond b x l)
-    (same_test (eqb m accepted) (eqb n accepted) (λ a. eq-eqb n accepted (h.0 (eqb-true m accepted a))) (λ a. eq-eqb m accepted (h.1 (eqb-true n accepted a))))
+    (same_test (is_ok m) (is_ok n) (λ a. accepts_ok n (h.0 (ok_accepts m a))) (λ a. accepts_ok m (h.1 (ok_accepts n a))))
     (sym (stored_holder l e (effect_by m (parts_of l e) e) k) ∙ stored_holder l e (effect_by n (parts_of l e) e) k)
 
 log_same : (l : Log) (e : Entry) → l.stores ≡ stores → Wf l → Early l → e.turn ≡ 1 → (enter l e).log ≡ (base_enter l e).log
-log_same l e full w early first = enter_after l e ∙ go e.take refl ∙ sym (base_after l e)
+log_same l e full w early first = enter_after l e ∙ go (is_take e) refl ∙ sym (base_after l e)
   where
-    go : (t : Bool) → e.take ≡ t → after l e (refusal_of l e) ≡ after l e (base_answer l e)
+    go : (t : Bool) → is_take e ≡ t → after l e (refusal_of l e) ≡ after l e (base_answer l e)
     go true k = take_after l e k (refusal_of l e) (base_answer l e) (takes_agree l e full w early first k).is_0
     go false k = ap (after l e) (votes_same l e full w early first k)
 
@@ -111,8 +112,8 @@ without_turns_lem es first = record {
   involvement = λ tx store. subst (λ (l : Log). ChangesExactly (reached es) tx store (base_involvement_of l tx store) (involvement_of (reached es) tx store)) same (changes_exactly es tx store);
   holder = λ store. ap (λ (l : Log). holder_of l store) same;
   replay = λ store. ap (λ (l : Log). replay_of l store) same;
-  accepts = λ e t. subst₂ (λ (m n : ℕ). (m ≡ accepted) ↔ (n ≡ accepted)) (now e) (base e) (accepts_same (reached es) e full w early t);
-  votes = λ e t k. subst₂ (λ (m n : ℕ). m ≡ n) (now e) (base e) (votes_same (reached es) e full w early t k);
+  accepts = λ e t. subst₂ (λ (m n : Answer). (m ≡ accepted) ↔ (n ≡ accepted)) (now e) (base e) (accepts_same (reached es) e full w early t);
+  votes = λ e t k. subst₂ (λ (m n : Answer). m ≡ n) (now e) (base e) (votes_same (reached es) e full w early t k);
   takes = λ e t k. subst₂ TakeAgrees (now e) (base e) (takes_agree (reached es) e full w early t k);
 }
   where

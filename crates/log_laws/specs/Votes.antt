@@ -1,5 +1,6 @@
 -- The claims on kept votes and outcomes. In each, `es` are any entries from the empty log on, and
 -- `more` any that follow.
+use Rattle.log_entry.specs.Entry.{by_of, is_take, list_of, says_commit, tx_of, update_in}
 use Rattle.std.specs.Prelude.{ℕ, ◌≡◌, true, false, List, ◌++◌, ◌↔◌, ◌≢◌}
 use Rattle.log_entry.specs.declared.Entry.{Entry}
 use Rattle.log_entry.specs.Bits.{has}
@@ -47,18 +48,18 @@ RunningExactly = (l : Log) (tx : ℕ) → (running (row_of l tx) ≡ true) ↔ (
 -- all that the vote said
 pub record KeptAs (v : Vote) (e : Entry) : Type 0 where
   pub kept : v.kept ≡ true
-  pub commit : v.commit ≡ e.commit
-  pub list : v.participants ≡ e.participants
+  pub commit : v.commit ≡ says_commit e
+  pub list : v.participants ≡ list_of e
   pub process : v.process ≡ e.process
   pub turn : v.turn ≡ e.turn
-  pub by : v.by ≡ e.by
-  pub update : v.update ≡ e.update
+  pub by : v.by ≡ by_of e
+  pub update : v.update ≡ update_in e
 
 -- an accepted vote is kept
 abbrev pub AcceptedVoteIsKept : Type 0
 AcceptedVoteIsKept =
-    (es : List Entry) (e : Entry) → e.take ≡ false → (enter (reached es) e).answer ≡ accepted
-    → KeptAs (vote_at (enter (reached es) e).log e.tx e.store) e
+    (es : List Entry) (e : Entry) → is_take e ≡ false → (enter (reached es) e).answer ≡ accepted
+    → KeptAs (vote_at (enter (reached es) e).log (tx_of e) e.store) e
 
 -- "An accepted vote is kept for good": it stays as it is, whatever follows.
 abbrev pub KeptVoteStays : Type 0
@@ -72,7 +73,7 @@ OutcomeNeverChanges =
 -- for a committed transaction no vote is accepted any more
 abbrev pub CommittedKeepsNoVote : Type 0
 CommittedKeepsNoVote =
-    (es : List Entry) (e : Entry) → e.take ≡ false → outcome_of (reached es) e.tx ≡ Commit → (enter (reached es) e).answer ≢ accepted
+    (es : List Entry) (e : Entry) → is_take e ≡ false → outcome_of (reached es) (tx_of e) ≡ Commit → (enter (reached es) e).answer ≢ accepted
 
 -- and its row, all votes and the group, stays as it is
 abbrev pub CommittedRowStays : Type 0
