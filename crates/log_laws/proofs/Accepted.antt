@@ -1,4 +1,5 @@
 -- What is known of an entry that is accepted.
+use Rattle.log_votes.specs.Vote.{vote_kept}
 use Prim.Native.Nat.{ℕ}
 use mathlib.Core.Path.{◌≡◌, refl, sym, ap, ◌∙◌}
 use mathlib.Core.Bool.{Bool, true, false, not, cond}
@@ -40,7 +41,7 @@ pub record VoteOk (r : Row) (l : Log) (e : Entry) : Type 0 where
   pub well_formed : ill_formed e ≡ false
   pub holds : holds_not l e ≡ false
   pub no_clash : any_clash e r.votes ≡ false
-  pub free : (get_or r.votes e.store no_vote).kept ≡ false
+  pub free : vote_kept (get_or r.votes e.store no_vote) ≡ false
   pub in_turn : other_turn l e ≡ false
 
 -- the checks of a take and of a vote, in the order in which they are tried

@@ -3,7 +3,7 @@ use Rattle.log_entry.specs.Entry.{is_take, tx_of}
 use Prim.Native.Nat.{◌<◌}
 use mathlib.Core.Bool.{false}
 use mathlib.Core.List.{List}
-use mathlib.Core.Path.{◌≡◌, ap, sym, ◌∙◌}
+use mathlib.Core.Path.{◌≡◌, ap, subst, sym, ◌∙◌}
 use native.Mathlib.Omega.{arith}
 use lib.ListN.{get_or, length}
 use lib.Seq.{get_or-set_same}
@@ -19,9 +19,10 @@ use Rattle.log_core.specs.Log.{row_of, vote_at}
 use Rattle.log_votes.specs.Row.{in_group, keeping, no_row, no_vote, vote_of_entry}
 use Rattle.log_laws.specs.Holders.{AcceptedTakeHolds}
 use Rattle.log_laws.specs.Reached.{reached}
-use Rattle.log_laws.specs.Votes.{AcceptedVoteIsKept}
+use Rattle.log_laws.specs.Votes.{AcceptedVoteIsKept, KeptAs}
 use Rattle.log_laws.proofs.Feed.{wf_reached}
 use Rattle.log_laws.proofs.Holding.{held_by}
+use Rattle.log_laws.proofs.KeptVotes.{kept_as}
 use Rattle.log_laws.proofs.Replicated.{rows_length, votes_length}
 use Rattle.log_laws.proofs.Steps.{group_after, vote_entered, voted_rows}
 
@@ -39,17 +40,7 @@ stands_there es e vote ok =
     ∙ get_or-set_same (row_of l (tx_of e)).votes e.store (vote_of_entry e) no_vote (omega (arith, votes_length es (tx_of e) (omega (arith, (inside_vote l.stores e inside vote).tx)), inside_store l.stores e inside))
 
 pub vote_is_kept : AcceptedVoteIsKept
-vote_is_kept es e vote ok =
-    let is = stands_there es e vote ok in
-    record {
-      kept = ap (λ (v : Vote). v.kept) is;
-      commit = ap (λ (v : Vote). v.commit) is;
-      list = ap (λ (v : Vote). v.participants) is;
-      process = ap (λ (v : Vote). v.process) is;
-      turn = ap (λ (v : Vote). v.turn) is;
-      by = ap (λ (v : Vote). v.by) is;
-      update = ap (λ (v : Vote). v.update) is;
-    }
+vote_is_kept es e vote ok = subst (λ (v : Vote). KeptAs v e) (sym (stands_there es e vote ok)) (kept_as e)
 
 pub take_holds : AcceptedTakeHolds
 take_holds es e take ok = held_by (reached es) e (wf_reached es).sized take (sym (answer_is (reached es) e) ∙ ok)

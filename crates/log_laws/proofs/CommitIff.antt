@@ -1,5 +1,6 @@
 -- The outcome is commit if and only if a vote is kept, every store listed in a kept vote has a kept
 -- commit vote, and no abort is kept.
+use Rattle.log_votes.specs.Vote.{vote_commit, vote_kept, vote_list}
 use Prim.Native.Nat.{ℕ}
 use mathlib.Core.Path.{◌≡◌, ap}
 use mathlib.Core.Bool.{true, not}
@@ -23,9 +24,9 @@ module _ (l : Log) (w : Wf l) (tx : ℕ) where
     some_kept = let c = covering (row_of l tx).votes (committed_covered (row_of l tx).votes h) in (c.0, c.1);
     listed_commit = λ s t m.
         let c = listed_commits (row_of l tx) (w.row tx) h s t m.0 m.1 in
-        (and_left (vote_at l tx t).kept (vote_at l tx t).commit c, and_right (vote_at l tx t).kept (vote_at l tx t).commit c);
+        (and_left (vote_kept (vote_at l tx t)) (vote_commit (vote_at l tx t)) c, and_right (vote_kept (vote_at l tx t)) (vote_commit (vote_at l tx t)) c);
     no_abort = λ s a.
-        opposed (both (vote_at l tx s).kept (not (vote_at l tx s).commit) a.0 (ap not a.1))
+        opposed (both (vote_kept (vote_at l tx s)) (not (vote_commit (vote_at l tx s))) a.0 (ap not a.1))
         (none_here is_abort no_vote (row_of l tx).votes (committed_no_abort (row_of l tx).votes h) s
         (kept_in (row_of l tx).votes s a.0));
   }
@@ -35,13 +36,13 @@ module _ (l : Log) (w : Wf l) (tx : ℕ) where
       committed_by (row_of l tx).votes
       (none_found is_abort no_vote (row_of l tx).votes (λ s h m.
       a.no_abort s (
-        and_left (vote_at l tx s).kept (not (vote_at l tx s).commit) m,
-        not-true (vote_at l tx s).commit (and_right (vote_at l tx s).kept (not (vote_at l tx s).commit) m),
+        and_left (vote_kept (vote_at l tx s)) (not (vote_commit (vote_at l tx s))) m,
+        not-true (vote_commit (vote_at l tx s)) (and_right (vote_kept (vote_at l tx s)) (not (vote_commit (vote_at l tx s))) m),
       )))
       (cover_made (row_of l tx).votes a.some_kept.0 a.some_kept.1
-      (covered_by (row_of l tx).votes (vote_at l tx a.some_kept.0).participants (λ t m.
+      (covered_by (row_of l tx).votes (vote_list (vote_at l tx a.some_kept.0)) (λ t m.
       let c = a.listed_commit a.some_kept.0 t (a.some_kept.1, m) in
-      both (vote_at l tx t).kept (vote_at l tx t).commit c.0 c.1)))
+      both (vote_kept (vote_at l tx t)) (vote_commit (vote_at l tx t)) c.0 c.1)))
 
 pub commit_iff : OutcomeCommitIff
 commit_iff es tx = (

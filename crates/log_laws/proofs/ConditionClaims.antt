@@ -1,4 +1,5 @@
 -- What the tests of the refusals say.
+use Rattle.log_votes.specs.Vote.{vote_commit, vote_kept, vote_list}
 use Prim.Native.Nat.{ℕ, ◌<◌}
 use mathlib.Core.Path.{◌≡◌, refl, sym, ap, ◌∙◌}
 use mathlib.Core.Bool.{Bool, true, false, not, ◌&&◌, ◌||◌, cond}
@@ -96,15 +97,15 @@ pub clash_by_lists : ClashExactly
 clash_by_lists l e = (
   λ h s k.
       let v = vote_at l (tx_of e) s in
-      fits e v.participants
-      (and_false (is_commit s v) (clashes e v.participants)
+      fits e (vote_list v)
+      (and_false (is_commit s v) (clashes e (vote_list v))
       (none_here (is_clash e) no_vote (row_of l (tx_of e)).votes h s (kept_in (row_of l (tx_of e)).votes s k.0))
-      (both v.kept v.commit k.0 k.1)),
+      (both (vote_kept v) (vote_commit v) k.0 k.1)),
   λ f. none_found (is_clash e) no_vote (row_of l (tx_of e)).votes (λ s b m.
       let v = vote_at l (tx_of e) s in
-      let c = and_left (is_commit s v) (clashes e v.participants) m in
-      opposed (and_right (is_commit s v) (clashes e v.participants) m)
-      (fits_not e v.participants (f s (and_left v.kept v.commit c, and_right v.kept v.commit c)))),
+      let c = and_left (is_commit s v) (clashes e (vote_list v)) m in
+      opposed (and_right (is_commit s v) (clashes e (vote_list v)) m)
+      (fits_not e (vote_list v) (f s (and_left (vote_kept v) (vote_commit v) c, and_right (vote_kept v) (vote_commit v) c)))),
 )
 
 -- ---- 11

@@ -1,4 +1,5 @@
 -- The rows of the empty log, and the row of no transaction: no vote, no group.
+use Rattle.log_votes.specs.Vote.{vote_kept}
 use Prim.Native.Nat.{ℕ, ◌<◌}
 use mathlib.Core.Path.{◌≡◌, refl, sym, subst}
 use mathlib.Core.Bool.{false}
@@ -22,8 +23,8 @@ replicate_cases P n i a d p q =
     (λ h. subst P (sym (get_or-eq_default (replicate n a) d {n = i} (rw (length-replicate n a) h))) q)
     (below_or_not i n)
 
-pub blank_kept : (s : ℕ) → (vote_of_store s blank).kept ≡ false
-blank_kept s = replicate_cases (λ (v : Vote). v.kept ≡ false) stores s no_vote no_vote refl refl
+pub blank_kept : (s : ℕ) → vote_kept (vote_of_store s blank) ≡ false
+blank_kept s = replicate_cases (λ (v : Vote). vote_kept v ≡ false) stores s no_vote no_vote refl refl
 
 pub empty_rows : (P : Row → Type 0) (tx : ℕ) → P blank → P no_row → P (row_of empty_log tx)
 unfolding opened

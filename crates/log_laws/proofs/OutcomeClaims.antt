@@ -1,4 +1,5 @@
 -- Abort and running, by the kept votes.
+use Rattle.log_votes.specs.Vote.{vote_commit, vote_kept}
 use mathlib.Core.Path.{◌≡◌, refl, ap}
 use mathlib.Core.Bool.{Bool, true, not, false≢true}
 use borrow.Author.Tests.{not-true}
@@ -18,10 +19,10 @@ abort_iff l tx = (
   λ h.
       let a = aborted_of (row_of l tx).votes h in
       let v = vote_at l tx a.0 in
-      (a.0, (and_left v.kept (not v.commit) a.2, not-true v.commit (and_right v.kept (not v.commit) a.2))),
+      (a.0, (and_left (vote_kept v) (not (vote_commit v)) a.2, not-true (vote_commit v) (and_right (vote_kept v) (not (vote_commit v)) a.2))),
   λ a.
       let v = vote_at l tx a.0 in
-      aborted_by (row_of l tx).votes a.0 (both v.kept (not v.commit) a.1.0 (ap not a.1.1)),
+      aborted_by (row_of l tx).votes a.0 (both (vote_kept v) (not (vote_commit v)) a.1.0 (ap not a.1.1)),
 )
 
 pub is_open_lem : (o : Outcome) → is_open o ≡ true → o ≡ Open

@@ -1,4 +1,5 @@
 -- What an outcome tells of the votes, and the votes of the outcome.
+use Rattle.log_votes.specs.Vote.{vote_commit, vote_kept, vote_list}
 use Prim.Native.Nat.{ℕ, ◌<◌}
 use mathlib.Core.Path.{◌≡◌, refl, sym, ap, ◌∙◌}
 use mathlib.Core.Bool.{Bool, true, false, not, ◌&&◌, ◌||◌, cond, true≢false, false≢true}
@@ -16,15 +17,15 @@ use Rattle.log_laws.proofs.Scans.{all_here, any_here, each_here, found, none_her
 use Rattle.log_entry.proofs.Tests.{and_false, and_left, and_right, below_or_not, both}
 
 -- a vote that is kept stands in the row
-pub kept_in : (votes : List Vote) (s : ℕ) → (get_or votes s no_vote).kept ≡ true → s < length votes
+pub kept_in : (votes : List Vote) (s : ℕ) → vote_kept (get_or votes s no_vote) ≡ true → s < length votes
 kept_in votes s h =
     ⊎_elim
     (λ (k : s < length votes). k)
-    (λ k. absurd (false≢true (sym (ap (λ (v : Vote). v.kept) (get_or-eq_default votes no_vote {n = s} k)) ∙ h)))
+    (λ k. absurd (false≢true (sym (ap (λ (v : Vote). vote_kept v) (get_or-eq_default votes no_vote {n = s} k)) ∙ h)))
     (below_or_not s (length votes))
 
-pub commit_kept : (s : ℕ) (v : Vote) → is_commit s v ≡ true → v.kept ≡ true
-commit_kept s v h = and_left v.kept v.commit h
+pub commit_kept : (s : ℕ) (v : Vote) → is_commit s v ≡ true → vote_kept v ≡ true
+commit_kept s v h = and_left (vote_kept v) (vote_commit v) h
 
 -- the outcome, by its two tests
 pub is_commit_lem : (o : Outcome) → is_committed o ≡ true → o ≡ Commit
@@ -81,32 +82,32 @@ module _ (votes : List Vote) where
   unfolding outcome_of_votes
   aborted_by s h =
       abort_by (any_abort votes) (any_covered votes)
-      (any_here is_abort no_vote votes s (kept_in votes s (and_left (vote s).kept (not (vote s).commit) h)) h)
+      (any_here is_abort no_vote votes s (kept_in votes s (and_left (vote_kept (vote s)) (not (vote_commit (vote s))) h)) h)
 
   pub aborted_of : outcome_of_votes votes ≡ Abort → (s : ℕ) × (s < length votes) × (is_abort s (vote s) ≡ true)
   unfolding outcome_of_votes
   aborted_of h = found is_abort no_vote votes (abort_of (any_abort votes) (any_covered votes) h)
 
   -- with no abort kept, a kept vote is a commit
-  pub kept_commit : any_abort votes ≡ false → (s : ℕ) → (vote s).kept ≡ true → is_commit s (vote s) ≡ true
+  pub kept_commit : any_abort votes ≡ false → (s : ℕ) → vote_kept (vote s) ≡ true → is_commit s (vote s) ≡ true
   kept_commit h s k =
-      both (vote s).kept (vote s).commit k
-      (not-false (vote s).commit
-      (and_false (vote s).kept (not (vote s).commit) (none_here is_abort no_vote votes h s (kept_in votes s k)) k))
+      both (vote_kept (vote s)) (vote_commit (vote s)) k
+      (not-false (vote_commit (vote s))
+      (and_false (vote_kept (vote s)) (not (vote_commit (vote s))) (none_here is_abort no_vote votes h s (kept_in votes s k)) k))
 
   -- the vote whose list is covered
-  pub covering : any_covered votes ≡ true → (s : ℕ) × ((vote s).kept ≡ true) × (covered (vote s).participants votes ≡ true)
+  pub covering : any_covered votes ≡ true → (s : ℕ) × (vote_kept (vote s) ≡ true) × (covered (vote_list (vote s)) votes ≡ true)
   covering h =
-      let r = found (λ s v. v.kept && covered v.participants votes) no_vote votes h in (
+      let r = found (λ s v. vote_kept v && covered (vote_list v) votes) no_vote votes h in (
         r.0,
-        and_left (vote r.0).kept (covered (vote r.0).participants votes) r.2,
-        and_right (vote r.0).kept (covered (vote r.0).participants votes) r.2,
+        and_left (vote_kept (vote r.0)) (covered (vote_list (vote r.0)) votes) r.2,
+        and_right (vote_kept (vote r.0)) (covered (vote_list (vote r.0)) votes) r.2,
       )
 
-  pub cover_made : (s : ℕ) → (vote s).kept ≡ true → covered (vote s).participants votes ≡ true → any_covered votes ≡ true
+  pub cover_made : (s : ℕ) → vote_kept (vote s) ≡ true → covered (vote_list (vote s)) votes ≡ true → any_covered votes ≡ true
   cover_made s k h =
-      any_here (λ s v. v.kept && covered v.participants votes) no_vote votes s (kept_in votes s k)
-      (both (vote s).kept (covered (vote s).participants votes) k h)
+      any_here (λ s v. vote_kept v && covered (vote_list v) votes) no_vote votes s (kept_in votes s k)
+      (both (vote_kept (vote s)) (covered (vote_list (vote s)) votes) k h)
 
   -- each listed store that stands in the row has a kept commit vote
   pub covered_at : (list t : ℕ) → covered list votes ≡ true → t < length votes → has list t ≡ true → is_commit t (vote t) ≡ true

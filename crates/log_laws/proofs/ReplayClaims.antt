@@ -1,5 +1,6 @@
 -- A store's replay lists the committed transactions with its kept commit vote, each once, by group
 -- and then transaction.
+use Rattle.log_votes.specs.Vote.{vote_commit, vote_kept, vote_update}
 use Prim.Native.Nat.{ℕ, ◌+◌, ◌≤◌, ◌<◌}
 use mathlib.Core.Path.{◌≡◌, refl, sym, ap, subst, subst₂, ◌∙◌}
 use mathlib.Core.Bool.{true}
@@ -33,8 +34,8 @@ module _ (l : Log) (w : Wf l) (store : ℕ) where
   replays_row : (x : Replayed) → In x (replay_rows l store) → Replays l store x
   replays_row x h = record {
     committed = is_commit_lem (outcome_of l x.tx) ((w.row x.tx).in_group (λ z. omega (arith, g, grp, z)));
-    kept_commit = (and_left (vote_at l x.tx store).kept (vote_at l x.tx store).commit vote, and_right (vote_at l x.tx store).kept (vote_at l x.tx store).commit vote);
-    update = ap (λ (t : ℕ). (vote_at l t store).update) tx ∙ sym (ap (λ (y : Replayed). y.update) f.is);
+    kept_commit = (and_left (vote_kept (vote_at l x.tx store)) (vote_commit (vote_at l x.tx store)) vote, and_right (vote_kept (vote_at l x.tx store)) (vote_commit (vote_at l x.tx store)) vote);
+    update = ap (λ (t : ℕ). vote_update (vote_at l t store)) tx ∙ sym (ap (λ (y : Replayed). y.update) f.is);
     group = grp;
   }
     where
@@ -62,7 +63,7 @@ module _ (l : Log) (w : Wf l) (store : ℕ) where
       (subst (λ (y : Replayed). In y (group_replay store x.group 0 l.rows)) same
       (group_has store x.group 0 l.rows x.tx in_rows
       (both (eqb (group_of l x.tx) x.group) _ (eq-eqb (group_of l x.tx) x.group r.group)
-      (both (vote_at l x.tx store).kept (vote_at l x.tx store).commit r.kept_commit.0 r.kept_commit.1))))
+      (both (vote_kept (vote_at l x.tx store)) (vote_commit (vote_at l x.tx store)) r.kept_commit.0 r.kept_commit.1))))
     where
       some : x.group ≢ 0
       some z = (w.row x.tx).has_group (ap is_committed r.committed) (r.group ∙ z)

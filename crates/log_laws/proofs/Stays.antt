@@ -1,4 +1,5 @@
 -- What is kept stays: a kept vote, the row of a committed transaction, an outcome that is not open.
+use Rattle.log_votes.specs.Vote.{vote_commit, vote_kept}
 use Rattle.log_entry.specs.Entry.{tx_of}
 use Prim.Native.Nat.{ℕ}
 use mathlib.Core.Path.{◌≡◌, refl, sym, ap, ◌∙◌}
@@ -28,14 +29,14 @@ use Rattle.log_laws.proofs.WellFormed.{Wf, feed_keeps}
 
 -- this vote is kept there
 abbrev pub Stands : ℕ → ℕ → Vote → Log → Type 0
-Stands tx s v l = (v.kept ≡ true) × (vote_at l tx s ≡ v)
+Stands tx s v l = (vote_kept v ≡ true) × (vote_at l tx s ≡ v)
 
 pub stands_enter : (tx s : ℕ) (v : Vote) (l : Log) (e : Entry) → Wf l → Stands tx s v l → Stands tx s v (enter l e).log
 stands_enter tx s v l e w h = (
   h.0,
   row_cases (λ (r : Row). vote_of_store s r ≡ v) l e tx h.1
       (λ ok k. kept_cases (λ (x : Vote). x ≡ v) (row_of l tx) e s
-      (λ m. absurd (opposed h.0 (ap (λ (x : Vote). x.kept) (sym h.1 ∙ ap (λ (n : ℕ). vote_at l tx n) m) ∙ ok.free)))
+      (λ m. absurd (opposed h.0 (ap (λ (x : Vote). vote_kept x) (sym h.1 ∙ ap (λ (n : ℕ). vote_at l tx n) m) ∙ ok.free)))
       h.1),
 )
 
@@ -45,7 +46,7 @@ vote_stays es more tx s k = (later (Stands tx s (vote_at (reached es) tx s)) (st
 pub commit_stays : (es more : List Entry) (tx s : ℕ) → KeptCommit (reached es) tx s → KeptCommit (reached (es ++ more)) tx s
 commit_stays es more tx s k =
     let stays = vote_stays es more tx s k.0 in
-    (ap (λ (v : Vote). v.kept) stays ∙ k.0, ap (λ (v : Vote). v.commit) stays ∙ k.1)
+    (ap (λ (v : Vote). vote_kept v) stays ∙ k.0, ap (λ (v : Vote). vote_commit v) stays ∙ k.1)
 
 -- this row is committed
 abbrev Settled : ℕ → Row → Log → Type 0
@@ -79,7 +80,7 @@ decided_stays l es tx w n = split (outcome_of l tx) refl
     aborted_stays h =
         let a = aborted_of (row_of l tx).votes h in
         let v = vote_at l tx a.0 in
-        let k = feed_keeps (Stands tx a.0 v) (stands_enter tx a.0 v) l es w (and_left v.kept (not v.commit) a.2, refl) in
+        let k = feed_keeps (Stands tx a.0 v) (stands_enter tx a.0 v) l es w (and_left (vote_kept v) (not (vote_commit v)) a.2, refl) in
         aborted_by (row_of (feed l es) tx).votes a.0 (ap (is_abort a.0) k.1 ∙ a.2) ∙ sym h
 
     split : (o : Outcome) → outcome_of l tx ≡ o → outcome_of (feed l es) tx ≡ outcome_of l tx
@@ -94,5 +95,5 @@ outcome_stays es more tx h =
 pub one_list_named : CommitVotesNameOneList
 one_list_named es tx s t h k =
     ((wf_reached es).row tx).one_list s t
-    (both (vote_at (reached es) tx s).kept (vote_at (reached es) tx s).commit h.0 h.1)
-    (both (vote_at (reached es) tx t).kept (vote_at (reached es) tx t).commit k.0 k.1)
+    (both (vote_kept (vote_at (reached es) tx s)) (vote_commit (vote_at (reached es) tx s)) h.0 h.1)
+    (both (vote_kept (vote_at (reached es) tx t)) (vote_commit (vote_at (reached es) tx t)) k.0 k.1)

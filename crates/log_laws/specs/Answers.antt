@@ -1,5 +1,6 @@
 -- The claims on answers: "The lowest number that applies is given. State and buffers stay
 -- unchanged." They hold of every log.
+use Rattle.log_votes.specs.Vote.{vote_kept}
 use Rattle.std.specs.Prelude.{◌≡◌, Bool, true, false, not, List, [], ◌∷◌, ◌↔◌, ◌≢◌, eqb, get_or}
 use Rattle.log_entry.specs.declared.Entry.{Entry}
 use Rattle.log_entry.specs.Entry.{by_of, ill_formed, is_take, outside, tx_of}
@@ -32,7 +33,7 @@ clash l e = any_clash e (row_of l (tx_of e)).votes
 
 -- 10: this store's vote is kept already
 abbrev pub kept : Log → Entry → Bool
-kept l e = (vote_at l (tx_of e) e.store).kept
+kept l e = vote_kept (vote_at l (tx_of e) e.store)
 
 -- 12, of a vote: its turn is not the holder's
 abbrev pub other_turn : Log → Entry → Bool

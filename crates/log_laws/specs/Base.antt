@@ -1,5 +1,6 @@
 -- The log of document 01, for comparison. Its refusals, and who is involved, are written from that
 -- document; no turn is read. What is accepted is stored as `log_core` does it.
+use Rattle.log_votes.specs.Vote.{vote_kept}
 use Rattle.std.specs.Prelude.{ℕ, ◌≡◌, Bool, ◌&&◌, ◌||◌, not, cond, List, [], ◌∷◌, map, eqb, leb, get_or, is_ok}
 use Rattle.log_entry.specs.declared.Entry.{Entry}
 use Rattle.log_entry.specs.Bits.{has}
@@ -49,7 +50,7 @@ base_vote_checks holders r e =
     check ill_formed_vote (ill_formed e)
     ∷ check not_holder (not (eqb (get_or holders (by_of e) 0) e.process))
     ∷ check other_list (any_clash e r.votes)
-    ∷ check kept_already (vote_of_store e.store r).kept
+    ∷ check kept_already (vote_kept (vote_of_store e.store r))
     ∷ []
 
 -- by the holders, the set of those that took the entry's store, and the row of its transaction

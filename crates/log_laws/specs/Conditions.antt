@@ -1,6 +1,7 @@
 -- What the conditions of the refusals say, in the documents' own words. `Answers` says which of
 -- them gives the answer. Of 2 it is said in log_entry (`OutsideExactly`): it looks at the entry and
 -- the limit alone.
+use Rattle.log_votes.specs.Vote.{vote_list}
 use Rattle.std.specs.Prelude.{ℕ, ◌≤◌, ◌<◌, ◌≡◌, true, false, List, [], ◌∷◌, ◌++◌, ◌↔◌, ◌⊎◌}
 use Rattle.log_entry.specs.declared.Entry.{Entry}
 use Rattle.log_entry.specs.Bits.{has}
@@ -39,7 +40,7 @@ pub record Fits (e : Entry) (list : ℕ) : Type 0 where
 abbrev pub ClashExactly : Type 0
 ClashExactly =
     (l : Log) (e : Entry)
-    → (clash l e ≡ false) ↔ ((s : ℕ) → KeptCommit l (tx_of e) s → Fits e (vote_at l (tx_of e) s).participants)
+    → (clash l e ≡ false) ↔ ((s : ℕ) → KeptCommit l (tx_of e) s → Fits e (vote_list (vote_at l (tx_of e) s)))
 
 -- ---- 11: "it holds another store now"
 
