@@ -4,7 +4,7 @@ use Rattle.log_votes.specs.Vote.{vote_kept}
 use Rattle.std.specs.Prelude.{ℕ, ◌≡◌, Bool, ◌&&◌, ◌||◌, not, cond, List, [], ◌∷◌, map, eqb, leb, get_or, is_ok}
 use Rattle.log_entry.specs.declared.Entry.{Entry}
 use Rattle.log_entry.specs.Bits.{has}
-use Rattle.log_entry.specs.Entry.{by_of, ill_formed, is_take, list_of, no_process, says_commit, tx_of, update_in}
+use Rattle.log_entry.specs.Entry.{by_of, ill_formed, is_take, list_of, no_process, tx_of, update_in}
 use Rattle.log_entry.specs.Limits.{lists, stores, transactions, updates}
 use Rattle.log_entry.specs.Number.{Answer, answer_number}
 use Rattle.log_entry.specs.Refusal.{Check, check, first_refusal, holds_another, ill_formed_vote, kept_already, not_holder, other_list, outside_limits}
