@@ -1,5 +1,5 @@
 -- What the tests of the refusals say.
-use Rattle.log_votes.specs.Vote.{vote_commit, vote_kept, vote_list}
+use Rattle.log_votes.specs.Vote.{vote_list}
 use Prim.Native.Nat.{ℕ, ◌<◌}
 use mathlib.Core.Path.{◌≡◌, refl, sym, ap, ◌∙◌}
 use mathlib.Core.Bool.{Bool, true, false, not, ◌&&◌, ◌||◌, cond}
@@ -21,7 +21,7 @@ use Rattle.log_laws.specs.Reached.{reached}
 use Rattle.log_laws.proofs.Feed.{wf_reached}
 use Rattle.log_laws.proofs.Holding.{holds_only}
 use Rattle.log_laws.proofs.LastTakes.{latest_exactly}
-use Rattle.log_laws.proofs.Outcomes.{kept_in}
+use Rattle.log_laws.proofs.Outcomes.{commit_from, commit_parts, kept_in}
 use Rattle.log_laws.proofs.Scans.{none_found, none_here}
 use Rattle.log_laws.proofs.Sets.{within_by, within_has}
 use Rattle.log_laws.proofs.TakenBefore.{held_exactly}
@@ -100,12 +100,12 @@ clash_by_lists l e = (
       fits e (vote_list v)
       (and_false (is_commit s v) (clashes e (vote_list v))
       (none_here (is_clash e) no_vote (row_of l (tx_of e)).votes h s (kept_in (row_of l (tx_of e)).votes s k.0))
-      (both (vote_kept v) (vote_commit v) k.0 k.1)),
+      (commit_from v k)),
   λ f. none_found (is_clash e) no_vote (row_of l (tx_of e)).votes (λ s b m.
       let v = vote_at l (tx_of e) s in
       let c = and_left (is_commit s v) (clashes e (vote_list v)) m in
       opposed (and_right (is_commit s v) (clashes e (vote_list v)) m)
-      (fits_not e (vote_list v) (f s (and_left (vote_kept v) (vote_commit v) c, and_right (vote_kept v) (vote_commit v) c)))),
+      (fits_not e (vote_list v) (f s (commit_parts v c)))),
 )
 
 -- ---- 11

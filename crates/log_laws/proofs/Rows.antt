@@ -20,7 +20,7 @@ use Rattle.log_votes.specs.Outcome.{is_commit, is_committed, outcome_of_votes}
 use Rattle.log_votes.specs.Refusal.{clashes}
 use Rattle.log_laws.proofs.Accepted.{VoteOk, lists_store}
 use Rattle.log_laws.proofs.KeptVotes.{kept_as, kept_says}
-use Rattle.log_laws.proofs.Outcomes.{commit_kept, committed_covered, committed_no_abort, covered_at, covering, kept_commit, kept_in}
+use Rattle.log_laws.proofs.Outcomes.{commit_parts, committed_covered, committed_no_abort, covered_at, covering, kept_commit, kept_in}
 use Rattle.log_laws.proofs.Places.{set_either}
 use Rattle.log_laws.proofs.Scans.{none_here}
 use Rattle.log_laws.proofs.Sets.{member_below, within_has}
@@ -49,7 +49,7 @@ no_clash_with : (r : Row) (l : Log) (e : Entry) → VoteOk r l e → (s : ℕ) �
 no_clash_with r l e ok s k =
     and_false (is_commit s (vote_of_store s r)) (clashes e (vote_list (vote_of_store s r)))
     (none_here (λ s v. is_commit s v && clashes e (vote_list v)) no_vote r.votes ok.no_clash s
-    (kept_in r.votes s (commit_kept s (vote_of_store s r) k))) k
+    (kept_in r.votes s (commit_parts (vote_of_store s r) k).0)) k
 
 module _ (r : Row) (w : RowWf r) where
   -- of a committed row each store listed in a kept vote has a kept commit vote
@@ -67,7 +67,7 @@ module _ (r : Row) (w : RowWf r) where
       let c = covering r.votes (committed_covered r.votes h) in
       let k = kept_commit r.votes (committed_no_abort r.votes h) c.0 c.1 in
       opposed
-      (commit_kept e.store (vote_of_store e.store r) (listed_commits h c.0 e.store c.1 (listed (vote_list (vote_of_store c.0 r)) (no_clash_with r l e ok c.0 k))))
+      (commit_parts (vote_of_store e.store r) (listed_commits h c.0 e.store c.1 (listed (vote_list (vote_of_store c.0 r)) (no_clash_with r l e ok c.0 k)))).0
       ok.free
     where
       -- a list with which the entry's does not clash has its store
@@ -124,7 +124,7 @@ pub row_empty : (r : Row) → ((s : ℕ) → vote_kept (vote_of_store s r) ≡ f
 row_empty r h z =
     record {
       lists_in = λ s t k m. absurd (opposed k (h s));
-      one_list = λ s t k m. absurd (opposed (commit_kept s (vote_of_store s r) k) (h s));
+      one_list = λ s t k m. absurd (opposed (commit_parts (vote_of_store s r) k).0 (h s));
       has_group = λ c. absurd (let v = covering r.votes (committed_covered r.votes c) in opposed v.1 (h v.0));
       in_group = λ g. absurd (g z);
     }

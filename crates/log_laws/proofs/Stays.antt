@@ -3,7 +3,7 @@ use Rattle.log_votes.specs.Vote.{vote_commit, vote_kept}
 use Rattle.log_entry.specs.Entry.{tx_of}
 use Prim.Native.Nat.{ℕ}
 use mathlib.Core.Path.{◌≡◌, refl, sym, ap, ◌∙◌}
-use mathlib.Core.Bool.{true, not}
+use mathlib.Core.Bool.{true}
 use mathlib.Core.List.{List, ◌++◌}
 use mathlib.Core.Logic.{◌≢◌}
 use Rattle.log_entry.specs.declared.Entry.{Entry}
@@ -21,10 +21,10 @@ use Rattle.log_laws.specs.Reached.{reached}
 use Rattle.log_laws.specs.Votes.{CommitVotesNameOneList, CommittedKeepsNoVote, CommittedRowStays, KeptCommit, KeptVoteStays, OutcomeNeverChanges}
 use Rattle.log_laws.proofs.Accepted.{vote_ok}
 use Rattle.log_laws.proofs.Feed.{feed_append, later, wf_reached}
-use Rattle.log_laws.proofs.Outcomes.{aborted_by, aborted_of}
+use Rattle.log_laws.proofs.Outcomes.{abort_parts, aborted_by, aborted_of, commit_from}
 use Rattle.log_laws.proofs.Rows.{committed_refuses, kept_cases}
 use Rattle.log_laws.proofs.Steps.{row_cases}
-use Rattle.log_entry.proofs.Tests.{and_left, both, opposed}
+use Rattle.log_entry.proofs.Tests.{opposed}
 use Rattle.log_laws.proofs.WellFormed.{Wf, feed_keeps}
 
 -- this vote is kept there
@@ -80,7 +80,7 @@ decided_stays l es tx w n = split (outcome_of l tx) refl
     aborted_stays h =
         let a = aborted_of (row_of l tx).votes h in
         let v = vote_at l tx a.0 in
-        let k = feed_keeps (Stands tx a.0 v) (stands_enter tx a.0 v) l es w (and_left (vote_kept v) (not (vote_commit v)) a.2, refl) in
+        let k = feed_keeps (Stands tx a.0 v) (stands_enter tx a.0 v) l es w ((abort_parts a.0 v a.2).0, refl) in
         aborted_by (row_of (feed l es) tx).votes a.0 (ap (is_abort a.0) k.1 ∙ a.2) ∙ sym h
 
     split : (o : Outcome) → outcome_of l tx ≡ o → outcome_of (feed l es) tx ≡ outcome_of l tx
@@ -95,5 +95,5 @@ outcome_stays es more tx h =
 pub one_list_named : CommitVotesNameOneList
 one_list_named es tx s t h k =
     ((wf_reached es).row tx).one_list s t
-    (both (vote_kept (vote_at (reached es) tx s)) (vote_commit (vote_at (reached es) tx s)) h.0 h.1)
-    (both (vote_kept (vote_at (reached es) tx t)) (vote_commit (vote_at (reached es) tx t)) k.0 k.1)
+    (commit_from (vote_at (reached es) tx s) h)
+    (commit_from (vote_at (reached es) tx t) k)

@@ -1,6 +1,7 @@
 -- A store that is taken over: the commit votes of its earlier holders are rows of the replay, or
 -- their transactions run.
 use Rattle.log_votes.specs.Vote.{vote_commit, vote_kept, vote_process, vote_turn, vote_update}
+use Rattle.std.proofs.lemmas.Bool.{and_parts, and_from}
 use Rattle.log_entry.specs.Entry.{by_of, says_commit}
 use Prim.Native.Nat.{ℕ}
 use mathlib.Core.Path.{◌≡◌, refl, sym, ap, subst, subst₂, ◌∙◌}
@@ -36,13 +37,13 @@ use Rattle.log_laws.proofs.Feed.{later}
 use Rattle.log_laws.proofs.Holding.{HadIn, LostIn, had_enter, held_by, lost_enter, taker_held}
 use Rattle.log_laws.proofs.KeptVotes.{kept_as}
 use Rattle.log_laws.proofs.OutcomeClaims.{running_by_votes}
+use Rattle.log_laws.proofs.Outcomes.{commit_from, commit_parts}
 use Rattle.log_laws.proofs.ReplayClaims.{lists_exactly}
 use Rattle.log_laws.proofs.Rows.{kept_cases}
 use Rattle.log_laws.proofs.Stays.{outcome_stays, row_stays}
 use Rattle.log_laws.proofs.Steps.{row_cases}
 use Rattle.log_laws.proofs.TakenBefore.{took_since}
 use Rattle.log_laws.proofs.WellFormed.{Wf}
-use Rattle.log_entry.proofs.Tests.{and_left, and_right, both}
 
 -- ---- the transactions that are listed
 
@@ -55,9 +56,9 @@ unfolding awaited_of
 awaited_exactly l tx store = (
   λ h.
       let a = sym is ∙ h in
-      let k = and_right (running (row_of l tx)) (is_commit store v) a in
-      (and_left (running (row_of l tx)) (is_commit store v) a, (and_left (vote_kept v) (vote_commit v) k, and_right (vote_kept v) (vote_commit v) k)),
-  λ h. is ∙ both (running (row_of l tx)) (is_commit store v) h.0 (both (vote_kept v) (vote_commit v) h.1.0 h.1.1),
+      let k = and_parts (running (row_of l tx)) (is_commit store v) a in
+      (k.0, commit_parts v k.1),
+  λ h. is ∙ and_from (running (row_of l tx)) (is_commit store v) h.0 (commit_from v h.1),
 )
   where
     v : Vote
