@@ -1,5 +1,4 @@
 -- What is known of an entry that is accepted.
-use Rattle.log_votes.specs.Vote.{vote_kept}
 use Prim.Native.Nat.{ℕ}
 use mathlib.Core.Path.{◌≡◌, refl, sym, ap, ◌∙◌}
 use mathlib.Core.Bool.{Bool, true, false, not, cond}
@@ -22,6 +21,7 @@ use Rattle.log_core.specs.Decide.{refusal}
 use Rattle.log_core.specs.Log.{holder_of, latest_of, row_of, turn_of}
 use Rattle.log_votes.specs.Row.{no_vote}
 use Rattle.log_votes.specs.Refusal.{any_clash, vote_checks}
+use Rattle.log_votes.specs.Vote.{vote_kept}
 use Rattle.log_core.specs.Refusal.{take_checks}
 use Rattle.log_laws.specs.Answers.{None, another, holds_not, other_turn, stale}
 use Rattle.log_laws.proofs.Answers.{conditions, no_refusal, none_applies}

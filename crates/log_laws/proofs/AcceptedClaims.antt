@@ -1,5 +1,4 @@
 -- What an accepted entry leaves in the log.
-use Rattle.log_entry.specs.Entry.{is_take, tx_of}
 use Prim.Native.Nat.{◌<◌}
 use mathlib.Core.Bool.{false}
 use mathlib.Core.List.{List}
@@ -9,6 +8,7 @@ use lib.ListN.{get_or, length}
 use lib.Seq.{get_or-set_same}
 use Rattle.log_entry.proofs.InsideLaws.{inside_store, inside_vote}
 use Rattle.log_entry.specs.declared.Entry.{Entry}
+use Rattle.log_entry.specs.Entry.{is_take, tx_of}
 use Rattle.log_entry.specs.Refusal.{accepted}
 use Rattle.log_core.proofs.EnterLaws.{accepted_inside, answer_is, refusal_of}
 use Rattle.log_core.specs.declared.Log.{Log}

@@ -1,5 +1,4 @@
 -- What an accepted entry leaves as it was.
-use Rattle.log_entry.specs.Entry.{tx_of}
 use Prim.Native.Nat.{ℕ}
 use mathlib.Core.Path.{◌≡◌, refl, ap, ◌∙◌}
 use mathlib.Core.List.{List}
@@ -8,6 +7,7 @@ use lib.ListN.{get_or}
 use lib.Seq.{get_or-set_other}
 use Rattle.log_entry.specs.declared.Entry.{Entry}
 use Rattle.log_entry.specs.Bits.{has}
+use Rattle.log_entry.specs.Entry.{tx_of}
 use Rattle.log_votes.specs.declared.Row.{Row}
 use Rattle.log_votes.specs.Row.{keeping, no_row, no_vote, vote_of_store}
 use Rattle.log_core.specs.declared.Log.{Log}
@@ -51,7 +51,7 @@ module _ (l : Log) (e : Entry) where
   r = keeping (row_of l (tx_of e)) e
 
   -- another row is as it was
-  other_row : (t : ℕ) → t ≢ (tx_of e) → row_of (voted l (tx_of e) r) t ≡ row_of l t
+  other_row : (t : ℕ) → t ≢ tx_of e → row_of (voted l (tx_of e) r) t ≡ row_of l t
   unfolding r
   other_row t n =
       ap (λ (rows : List Row). get_or rows t no_row) (voted_rows l (tx_of e) r)

@@ -1,6 +1,5 @@
 -- The outcome is commit if and only if a vote is kept, every store listed in a kept vote has a kept
 -- commit vote, and no abort is kept.
-use Rattle.log_votes.specs.Vote.{vote_list}
 use Prim.Native.Nat.{ℕ}
 use mathlib.Core.Path.{◌≡◌, ap}
 use mathlib.Core.Bool.{true}
@@ -8,6 +7,7 @@ use Rattle.log_core.specs.declared.Log.{Log}
 use Rattle.log_votes.specs.Row.{no_vote}
 use Rattle.log_core.specs.Log.{row_of, vote_at, outcome_of}
 use Rattle.log_votes.specs.Outcome.{is_abort, is_committed}
+use Rattle.log_votes.specs.Vote.{vote_list}
 use Rattle.log_laws.specs.Reached.{reached}
 use Rattle.log_laws.specs.Votes.{AllCommit, OutcomeCommitIff}
 use Rattle.log_laws.proofs.Feed.{wf_reached}

@@ -1,5 +1,4 @@
 -- What the tests of the refusals say.
-use Rattle.log_votes.specs.Vote.{vote_list}
 use Prim.Native.Nat.{ℕ, ◌<◌}
 use mathlib.Core.Path.{◌≡◌, refl, sym, ap, ◌∙◌}
 use mathlib.Core.Bool.{Bool, true, false, not, ◌&&◌, ◌||◌, cond}
@@ -13,6 +12,7 @@ use Rattle.log_entry.specs.Entry.{by_of, ill_formed, list_of, says_commit, tx_of
 use Rattle.log_votes.specs.Outcome.{is_commit}
 use Rattle.log_votes.specs.Refusal.{clashes, is_clash}
 use Rattle.log_votes.specs.Row.{no_vote}
+use Rattle.log_votes.specs.Vote.{vote_list}
 use Rattle.log_core.specs.declared.Log.{Log}
 use Rattle.log_core.specs.Log.{held_before, holder_of, latest_of, row_of, turn_of, vote_at}
 use Rattle.log_core.specs.Refusal.{is_other, wrong_turn}

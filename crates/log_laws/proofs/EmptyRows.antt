@@ -1,5 +1,4 @@
 -- The rows of the empty log, and the row of no transaction: no vote, no group.
-use Rattle.log_votes.specs.Vote.{vote_kept}
 use Prim.Native.Nat.{ℕ, ◌<◌}
 use mathlib.Core.Path.{◌≡◌, refl, sym, subst}
 use mathlib.Core.Bool.{false}
@@ -10,6 +9,7 @@ use Rattle.log_votes.specs.declared.Row.{Row}
 use Rattle.log_votes.specs.declared.Vote.{Vote}
 use Rattle.log_core.specs.Log.{empty_log, opened, row_of}
 use Rattle.log_votes.specs.Row.{no_row, no_vote, vote_of_store}
+use Rattle.log_votes.specs.Vote.{vote_kept}
 use Rattle.log_entry.proofs.Tests.{below_or_not}
 
 abbrev pub blank : Row

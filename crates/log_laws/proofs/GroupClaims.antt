@@ -1,5 +1,4 @@
 -- Groups: who has one, their numbers, and which one a commit joins or begins.
-use Rattle.log_entry.specs.Entry.{is_take, tx_of}
 use Prim.Native.Nat.{ℕ, ◌+◌}
 use mathlib.Core.Path.{◌≡◌, refl, sym, ap, subst, ◌∙◌}
 use mathlib.Core.Bool.{true, false, cond}
@@ -9,6 +8,7 @@ use native.Mathlib.Omega.{arith}
 use lib.Seq.{append_snoc}
 use Rattle.log_entry.specs.declared.Entry.{Entry}
 use Rattle.log_entry.specs.Bits.{has}
+use Rattle.log_entry.specs.Entry.{is_take, tx_of}
 use Rattle.log_entry.specs.Refusal.{accepted}
 use Rattle.log_core.specs.declared.Log.{Log}
 use Rattle.log_votes.specs.declared.Row.{Row}

@@ -1,6 +1,5 @@
 -- Holders present and past, and their turns: a process holds one store, in its last turn, and a
 -- store that it took before it takes again in a later turn only.
-use Rattle.log_entry.specs.Entry.{is_take}
 use Prim.Native.Nat.{ℕ, ◌≤◌, ◌<◌}
 use mathlib.Core.Path.{◌≡◌, refl, sym, ap, subst, ◌∙◌}
 use mathlib.Core.Bool.{true, false, not, ◌&&◌}
@@ -13,6 +12,7 @@ use borrow.Author.Tests.{eq-eqb, eqb-true, eqb-false, ltb-false, not-false}
 use Rattle.log_entry.proofs.InsideLaws.{inside_process, inside_store, inside_turn}
 use Rattle.log_entry.specs.declared.Entry.{Entry}
 use Rattle.log_entry.specs.Bits.{has, with}
+use Rattle.log_entry.specs.Entry.{is_take}
 use Rattle.log_entry.specs.Limits.{stores}
 use Rattle.log_entry.specs.Refusal.{accepted}
 use Rattle.log_core.proofs.EnterLaws.{refusal_of, take_entered}

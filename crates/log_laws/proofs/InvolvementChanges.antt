@@ -1,6 +1,4 @@
 -- Who is involved, beside document 01: what changed, and what did not.
-use Rattle.log_votes.specs.Vote.{vote_commit, vote_kept, vote_list}
-use Rattle.log_entry.specs.Entry.{list_of, says_commit, tx_of}
 use Prim.Native.Nat.{ℕ}
 use mathlib.Core.Path.{◌≡◌, refl, sym, ap, ap₂, ◌∙◌}
 use mathlib.Core.Bool.{Bool, true, false, cond}
@@ -8,6 +6,7 @@ use mathlib.Core.List.{List, ◌++◌}
 use mathlib.Core.Logic.{⊎_elim}
 use Rattle.log_entry.specs.declared.Entry.{Entry}
 use Rattle.log_entry.specs.Bits.{has}
+use Rattle.log_entry.specs.Entry.{list_of, says_commit, tx_of}
 use Rattle.log_votes.specs.declared.Involvement.TheVariants.{No, Unknown, Yes}
 use Rattle.log_votes.specs.declared.Row.{Row}
 use Rattle.log_votes.specs.declared.Vote.{Vote}
@@ -17,6 +16,7 @@ use Rattle.log_votes.specs.Outcome.{is_commit}
 use Rattle.log_votes.specs.Refusal.{any_clash}
 use Rattle.log_votes.specs.Row.{vote_of_store}
 use Rattle.log_votes.specs.Scan.{any_from}
+use Rattle.log_votes.specs.Vote.{vote_commit, vote_kept, vote_list}
 use Rattle.log_core.specs.Enter.{enter}
 use Rattle.log_core.specs.Log.{involvement_of, row_of, vote_at}
 use Rattle.log_laws.specs.Base.{base_involvement_of}
@@ -64,7 +64,7 @@ module _ (es : List Entry) (tx store : ℕ) (right : WrongGuess (reached es) tx 
 
   same_with_commit : SomeCommitKept l tx → involvement_of l tx store ≡ base_involvement_of l tx store
   same_with_commit c =
-      let list = (vote_list (vote_at l tx c.0)) in
+      let list = vote_list (vote_at l tx c.0) in
       let answer : (b : Bool) → has list store ≡ b → involvement_of l tx store ≡ cond b Yes No = λ b is. by_commit es tx store c.0 c.1 ∙ ap (λ (x : Bool). cond x Yes No) is in
       ⊎_elim
       (λ (is : has list store ≡ true). answer true is ∙ sym (base_yes l tx store c.0 (c.1.0, is)))

@@ -1,5 +1,4 @@
 -- Involvement, by the kept votes.
-use Rattle.log_votes.specs.Vote.{vote_commit, vote_kept, vote_list}
 use Prim.Native.Nat.{ℕ}
 use mathlib.Core.Path.{◌≡◌, refl, sym, ap, ap₂, ◌∙◌}
 use mathlib.Core.Bool.{Bool, true, false, cond, true≢false, false≢true}
@@ -16,6 +15,7 @@ use Rattle.log_votes.specs.Involvement.{any_listing, commit_vote, involvement_of
 use Rattle.log_votes.specs.Outcome.{is_commit, is_commit_vote}
 use Rattle.log_votes.specs.Row.{no_vote}
 use Rattle.log_votes.specs.Scan.{any_from}
+use Rattle.log_votes.specs.Vote.{vote_commit, vote_kept, vote_list}
 use Rattle.log_core.specs.Log.{involvement_of, row_of, vote_at}
 use Rattle.log_laws.specs.Involvement.{AbortLists, InvolvementExactly, InvolvementStays, Involved, SomeCommitKept}
 use Rattle.log_laws.specs.Reached.{reached}

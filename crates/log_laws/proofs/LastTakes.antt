@@ -1,5 +1,4 @@
 -- A process's last turn is that of its last accepted take among the entries.
-use Rattle.log_entry.specs.Entry.{is_take}
 use Prim.Native.Nat.{ℕ, ◌≤◌}
 use mathlib.Core.Path.{◌≡◌, refl, sym, ap, subst, ◌∙◌}
 use mathlib.Core.Bool.{true, false}
@@ -9,6 +8,7 @@ use native.Mathlib.Omega.{arith}
 use lib.ListN.{get_or}
 use Rattle.log_entry.proofs.InsideLaws.{inside_turn}
 use Rattle.log_entry.specs.declared.Entry.{Entry}
+use Rattle.log_entry.specs.Entry.{is_take}
 use Rattle.log_entry.specs.Limits.{process_places}
 use Rattle.log_entry.specs.Refusal.{accepted}
 use Rattle.log_core.proofs.EnterLaws.{accepted_inside, answer_is}

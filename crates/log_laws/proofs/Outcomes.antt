@@ -1,5 +1,4 @@
 -- What an outcome tells of the votes, and the votes of the outcome.
-use Rattle.log_votes.specs.Vote.{vote_commit, vote_kept, vote_list}
 use Prim.Native.Nat.{ℕ, ◌<◌}
 use mathlib.Core.Path.{◌≡◌, refl, sym, ap, ◌∙◌}
 use mathlib.Core.Bool.{Bool, true, false, not, ◌&&◌, ◌||◌, cond, true≢false, false≢true}
@@ -14,6 +13,7 @@ use Rattle.log_votes.specs.declared.Outcome.TheVariants.{Open, Commit, Abort}
 use Rattle.log_votes.specs.declared.Vote.{Vote}
 use Rattle.log_votes.specs.Row.{no_vote}
 use Rattle.log_votes.specs.Outcome.{any_abort, any_covered, covered, is_abort, is_commit, is_commit_vote, is_committed, outcome_of_votes}
+use Rattle.log_votes.specs.Vote.{vote_commit, vote_kept, vote_list}
 use Rattle.log_laws.proofs.Scans.{all_here, any_here, each_here, found, none_here}
 use Rattle.log_entry.proofs.Tests.{and_false, below_or_not}
 

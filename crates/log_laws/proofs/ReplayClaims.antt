@@ -1,6 +1,5 @@
 -- A store's replay lists the committed transactions with its kept commit vote, each once, by group
 -- and then transaction.
-use Rattle.log_votes.specs.Vote.{vote_update}
 use Prim.Native.Nat.{ℕ, ◌+◌, ◌≤◌, ◌<◌}
 use mathlib.Core.Path.{◌≡◌, refl, sym, ap, subst, subst₂, ◌∙◌}
 use mathlib.Core.Bool.{true}
@@ -19,6 +18,7 @@ use Rattle.log_votes.specs.declared.Row.{Row}
 use Rattle.log_core.specs.Log.{group_of, row_of, vote_at, outcome_of}
 use Rattle.log_votes.specs.Row.{no_row, replays}
 use Rattle.log_votes.specs.Outcome.{is_commit, is_committed}
+use Rattle.log_votes.specs.Vote.{vote_update}
 use Rattle.log_core.specs.Replay.{group_replay, no_replayed, replay_of, replay_rows}
 use Rattle.log_laws.specs.Reached.{reached}
 use Rattle.log_laws.specs.Replays.{Before, ReplayListsExactly, ReplayListsOnce, ReplayOrdered, Replays, replayed}

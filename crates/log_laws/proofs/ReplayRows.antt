@@ -1,5 +1,4 @@
 -- The rows of a replay, from the rows of the log: which there are, and in which order.
-use Rattle.log_votes.specs.Vote.{vote_update}
 use Prim.Native.Nat.{ℕ, zero, suc, ◌+◌, ◌≤◌, ◌<◌}
 use mathlib.Core.Path.{◌≡◌, refl, sym, ap, subst, ◌∙◌}
 use mathlib.Core.Bool.{Bool, true, false, cond}
@@ -10,6 +9,7 @@ use lib.ListN.{get_or, length}
 use Rattle.log_core.specs.declared.Replayed.{Replayed}
 use Rattle.log_votes.specs.declared.Row.{Row}
 use Rattle.log_votes.specs.Row.{no_row, replays, vote_of_store}
+use Rattle.log_votes.specs.Vote.{vote_update}
 use Rattle.log_core.specs.Replay.{group_replay, replay_from}
 use Rattle.log_laws.specs.Replays.{Before}
 use Rattle.log_laws.proofs.Lists.{In, Sorted, in_either, in_left, in_right, sorted_append}
@@ -17,7 +17,7 @@ use Rattle.log_entry.proofs.Tests.{by_test, opposed, same_number}
 
 -- what group g replays of a row, which is that of tx
 abbrev pub replayed_of : ℕ → ℕ → ℕ → Row → Replayed
-replayed_of store g tx r = record { group = g; tx = tx; update = (vote_update (vote_of_store store r)) }
+replayed_of store g tx r = record { group = g; tx = tx; update = vote_update (vote_of_store store r) }
 
 -- row k of the rows is replayed as x; the first of the rows is that of tx
 pub record From (store g tx : ℕ) (rows : List Row) (x : Replayed) : Type 0 where

@@ -1,7 +1,5 @@
 -- A transaction's row: what holds of each row of a reachable log, and that an accepted
 -- vote keeps it so.
-use Rattle.log_votes.specs.Vote.{vote_kept, vote_list}
-use Rattle.log_entry.specs.Entry.{list_of, says_commit}
 use Prim.Native.Nat.{ℕ, ◌<◌}
 use mathlib.Core.Path.{◌≡◌, ap, refl, sym, subst, ◌∙◌}
 use mathlib.Core.Bool.{Bool, true, false, ◌&&◌}
@@ -11,6 +9,7 @@ use borrow.Author.Tests.{eqb-true, not-false}
 use Rattle.log_entry.proofs.InsideLaws.{inside_vote}
 use Rattle.log_entry.specs.declared.Entry.{Entry}
 use Rattle.log_entry.specs.Bits.{has}
+use Rattle.log_entry.specs.Entry.{list_of, says_commit}
 use Rattle.log_entry.specs.Limits.{stores}
 use Rattle.log_core.specs.declared.Log.{Log}
 use Rattle.log_votes.specs.declared.Row.{Row}
@@ -18,6 +17,7 @@ use Rattle.log_votes.specs.declared.Vote.{Vote}
 use Rattle.log_votes.specs.Row.{in_group, keeping, no_vote, vote_of_entry, vote_of_store}
 use Rattle.log_votes.specs.Outcome.{is_commit, is_committed, outcome_of_votes}
 use Rattle.log_votes.specs.Refusal.{clashes}
+use Rattle.log_votes.specs.Vote.{vote_kept, vote_list}
 use Rattle.log_laws.proofs.Accepted.{VoteOk, lists_store}
 use Rattle.log_laws.proofs.KeptVotes.{kept_as, kept_says}
 use Rattle.log_laws.proofs.Outcomes.{commit_parts, committed_covered, committed_no_abort, covered_at, covering, kept_commit, kept_in}

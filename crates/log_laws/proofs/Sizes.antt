@@ -1,10 +1,10 @@
 -- The arrays of a log keep their lengths.
-use Rattle.log_entry.specs.Entry.{tx_of}
 use Prim.Native.Nat.{ℕ, ◌<◌}
 use mathlib.Core.Path.{◌≡◌, refl, ap, ◌∙◌}
 use mathlib.Core.List.{List}
 use lib.ListN.{get_or-replicate, length, length-set, replicate}
 use Rattle.log_entry.specs.declared.Entry.{Entry}
+use Rattle.log_entry.specs.Entry.{tx_of}
 use Rattle.log_entry.specs.Limits.{process_places, stores, transactions}
 use Rattle.log_core.specs.declared.Log.{Log}
 use Rattle.log_votes.specs.declared.Row.{Row}

@@ -1,12 +1,11 @@
 -- What is kept stays: a kept vote, the row of a committed transaction, an outcome that is not open.
-use Rattle.log_votes.specs.Vote.{vote_commit, vote_kept}
-use Rattle.log_entry.specs.Entry.{tx_of}
 use Prim.Native.Nat.{ℕ}
 use mathlib.Core.Path.{◌≡◌, refl, sym, ap, ◌∙◌}
 use mathlib.Core.Bool.{true}
 use mathlib.Core.List.{List, ◌++◌}
 use mathlib.Core.Logic.{◌≢◌}
 use Rattle.log_entry.specs.declared.Entry.{Entry}
+use Rattle.log_entry.specs.Entry.{tx_of}
 use Rattle.log_core.specs.declared.Log.{Log}
 use Rattle.log_votes.specs.declared.Outcome.{Outcome}
 use Rattle.log_votes.specs.declared.Outcome.TheVariants.{Open, Commit, Abort}
@@ -17,6 +16,7 @@ use Rattle.log_core.specs.Enter.{enter, feed}
 use Rattle.log_core.specs.Log.{empty_log, row_of, vote_at, outcome_of}
 use Rattle.log_votes.specs.Outcome.{is_abort, is_committed, outcome_of_votes}
 use Rattle.log_votes.specs.Row.{vote_of_store}
+use Rattle.log_votes.specs.Vote.{vote_commit, vote_kept}
 use Rattle.log_laws.specs.Reached.{reached}
 use Rattle.log_laws.specs.Votes.{CommitVotesNameOneList, CommittedKeepsNoVote, CommittedRowStays, KeptCommit, KeptVoteStays, OutcomeNeverChanges}
 use Rattle.log_laws.proofs.Accepted.{vote_ok}

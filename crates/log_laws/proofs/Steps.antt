@@ -1,6 +1,5 @@
 -- An entry leaves the log as it was, or it is an accepted take or an accepted vote: what stands
 -- where after each.
-use Rattle.log_entry.specs.Entry.{is_take, tx_of}
 use Prim.Native.Nat.{ℕ, ◌-◌}
 use mathlib.Core.Path.{◌≡◌, ap, refl, sym, subst, ◌∙◌}
 use mathlib.Core.Bool.{Bool, true, false, ◌&&◌, not, cond}
@@ -9,6 +8,7 @@ use lib.ListN.{get_or, set}
 use Rattle.std.specs.Result.{is_ok}
 use Rattle.log_entry.specs.declared.Entry.{Entry}
 use Rattle.log_entry.specs.Bits.{has}
+use Rattle.log_entry.specs.Entry.{is_take, tx_of}
 use Rattle.log_entry.specs.Refusal.{accepted}
 use Rattle.log_core.specs.declared.Entered.{Entered}
 use Rattle.log_core.specs.declared.Log.{Log}

@@ -1,5 +1,4 @@
 -- A process held a store before exactly if a take of it stands among the entries, and was accepted.
-use Rattle.log_entry.specs.Entry.{is_take}
 use Prim.Native.Nat.{ℕ, ◌≤◌}
 use native.Mathlib.Omega.{arith}
 use mathlib.Core.Path.{◌≡◌, refl, sym, ap, subst, subst₂, ◌∙◌}
@@ -10,6 +9,7 @@ use lib.ListN.{get_or}
 use Rattle.log_entry.proofs.InsideLaws.{inside_turn}
 use Rattle.log_entry.specs.declared.Entry.{Entry}
 use Rattle.log_entry.specs.Bits.{has}
+use Rattle.log_entry.specs.Entry.{is_take}
 use Rattle.log_entry.specs.Limits.{stores}
 use Rattle.log_entry.specs.Refusal.{accepted}
 use Rattle.log_core.proofs.EnterLaws.{accepted_inside, answer_is}

@@ -1,6 +1,5 @@
 -- A store that is taken over: the commit votes of its earlier holders are rows of the replay, or
 -- their transactions run.
-use Rattle.log_votes.specs.Vote.{vote_commit, vote_kept, vote_process, vote_turn, vote_update}
 use Rattle.std.proofs.lemmas.Bool.{and_parts, and_from}
 use Rattle.log_entry.specs.Entry.{by_of, says_commit}
 use Prim.Native.Nat.{ℕ}
@@ -20,6 +19,7 @@ use Rattle.log_votes.specs.declared.Vote.{Vote}
 use Rattle.log_votes.specs.Outcome.{is_commit, outcome_of_votes, running}
 use Rattle.log_votes.specs.Row.{no_row, vote_of_store}
 use Rattle.log_votes.specs.Scan.{any_from}
+use Rattle.log_votes.specs.Vote.{vote_commit, vote_kept, vote_process, vote_turn, vote_update}
 use Rattle.log_votes.proofs.SetLaws.{set_has}
 use Rattle.log_core.proofs.EnterLaws.{answer_is}
 use Rattle.log_core.specs.Enter.{enter}
@@ -122,7 +122,7 @@ replayed_or_awaited es more tx s k c = go (outcome_of l tx) refl
     l = reached es
 
     row : Replayed
-    row = record { group = group_of l tx; tx = tx; update = (vote_update (vote_at l tx s)) }
+    row = record { group = group_of l tx; tx = tx; update = vote_update (vote_at l tx s) }
 
     go : (o : Outcome) → outcome_of l tx ≡ o → RowIn (replay_of l s) tx (vote_update (vote_at l tx s)) ⊎ (has (awaited_of l s) tx ≡ true)
     go Open h = inr (open_runs l tx s k h)

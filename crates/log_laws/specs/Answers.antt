@@ -1,6 +1,5 @@
 -- The claims on answers: "The lowest number that applies is given. State and buffers stay
 -- unchanged." They hold of every log.
-use Rattle.log_votes.specs.Vote.{vote_kept}
 use Rattle.std.specs.Prelude.{◌≡◌, Bool, true, false, not, List, [], ◌∷◌, ◌↔◌, ◌≢◌, eqb, get_or}
 use Rattle.log_entry.specs.declared.Entry.{Entry}
 use Rattle.log_entry.specs.Entry.{by_of, ill_formed, is_take, outside, tx_of}
@@ -10,6 +9,7 @@ use Rattle.log_core.specs.declared.Log.{Log}
 use Rattle.log_core.specs.Enter.{enter}
 use Rattle.log_core.specs.Log.{holder_of, latest_of, row_of, turn_of, vote_at}
 use Rattle.log_votes.specs.Refusal.{any_clash}
+use Rattle.log_votes.specs.Vote.{vote_kept}
 use Rattle.log_core.specs.Refusal.{holds_another, wrong_turn}
 
 -- no condition holds

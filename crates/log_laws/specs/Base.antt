@@ -1,6 +1,5 @@
 -- The log of document 01, for comparison. Its refusals, and who is involved, are written from that
 -- document; no turn is read. What is accepted is stored as `log_core` does it.
-use Rattle.log_votes.specs.Vote.{vote_kept}
 use Rattle.std.specs.Prelude.{ℕ, ◌≡◌, Bool, ◌&&◌, ◌||◌, not, cond, List, [], ◌∷◌, map, eqb, leb, get_or, is_ok}
 use Rattle.log_entry.specs.declared.Entry.{Entry}
 use Rattle.log_entry.specs.Bits.{has}
@@ -16,6 +15,7 @@ use Rattle.log_votes.specs.Outcome.{is_commit}
 use Rattle.log_votes.specs.Refusal.{any_clash}
 use Rattle.log_votes.specs.Row.{vote_of_store}
 use Rattle.log_votes.specs.Scan.{any_from}
+use Rattle.log_votes.specs.Vote.{vote_kept}
 use Rattle.log_core.specs.declared.Effect.{Effect}
 use Rattle.log_core.specs.declared.Entered.{Entered}
 use Rattle.log_core.specs.declared.Log.{Log}

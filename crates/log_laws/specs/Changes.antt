@@ -1,7 +1,7 @@
 -- What an accepted entry changes, and nothing else. A refused one changes nothing (`Answers`).
-use Rattle.log_entry.specs.Entry.{is_take, tx_of}
 use Rattle.std.specs.Prelude.{ℕ, ◌≡◌, true, false, List, ◌≢◌}
 use Rattle.log_entry.specs.declared.Entry.{Entry}
+use Rattle.log_entry.specs.Entry.{is_take, tx_of}
 use Rattle.log_core.specs.declared.Log.{Log}
 use Rattle.log_core.specs.Enter.{enter}
 use Rattle.log_core.specs.Log.{group_of, held_before, holder_of, latest_of, turn_of, vote_at}

@@ -1,12 +1,12 @@
 -- What the conditions of the refusals say, in the documents' own words. `Answers` says which of
 -- them gives the answer. Of 2 it is said in log_entry (`OutsideExactly`): it looks at the entry and
 -- the limit alone.
-use Rattle.log_votes.specs.Vote.{vote_list}
 use Rattle.std.specs.Prelude.{ℕ, ◌≤◌, ◌<◌, ◌≡◌, true, false, List, [], ◌∷◌, ◌++◌, ◌↔◌, ◌⊎◌}
 use Rattle.log_entry.specs.declared.Entry.{Entry}
 use Rattle.log_entry.specs.Bits.{has}
 use Rattle.log_entry.specs.Entry.{by_of, ill_formed, is_take, list_of, says_commit, tx_of, update_in}
 use Rattle.log_entry.specs.Refusal.{accepted}
+use Rattle.log_votes.specs.Vote.{vote_list}
 use Rattle.log_core.specs.declared.Log.{Log}
 use Rattle.log_core.specs.Enter.{enter, feed}
 use Rattle.log_core.specs.Log.{empty_log, held_before, holder_of, latest_of, turn_of, vote_at}

@@ -1,10 +1,10 @@
 -- The claims on groups: "At a commit: if the transaction was running when the last group was begun,
 -- it joins that group; else it begins a new group, numbered from 1. For every group, the
 -- transactions running just before its first commit are remembered."
-use Rattle.log_entry.specs.Entry.{is_take, tx_of}
 use Rattle.std.specs.Prelude.{ℕ, ◌+◌, ◌≤◌, ◌≡◌, Bool, false, cond, List, [], ◌∷◌, ◌++◌, ◌↔◌, ◌≢◌, ◌⊎◌}
 use Rattle.log_entry.specs.declared.Entry.{Entry}
 use Rattle.log_entry.specs.Bits.{has}
+use Rattle.log_entry.specs.Entry.{is_take, tx_of}
 use Rattle.log_entry.specs.Limits.{transactions}
 use Rattle.log_entry.specs.Refusal.{accepted}
 use Rattle.log_core.specs.declared.Log.{Log}

@@ -1,7 +1,7 @@
 -- The claims on holders and their turns. Processes and turns are numbered from 1; 0 means none.
-use Rattle.log_entry.specs.Entry.{is_take}
 use Rattle.std.specs.Prelude.{ℕ, ◌≤◌, ◌<◌, ◌≡◌, true, false, List, ◌∷◌, ◌++◌, ◌≢◌}
 use Rattle.log_entry.specs.declared.Entry.{Entry}
+use Rattle.log_entry.specs.Entry.{is_take}
 use Rattle.log_entry.specs.Refusal.{accepted}
 use Rattle.log_core.specs.declared.Log.{Log}
 use Rattle.log_core.specs.Enter.{enter}

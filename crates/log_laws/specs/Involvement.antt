@@ -1,12 +1,12 @@
 -- The claims on involvement, in terms of the kept votes alone. In each, `es` are any entries from
 -- the empty log on, and `more` any that follow.
-use Rattle.log_votes.specs.Vote.{vote_list}
 use Rattle.std.specs.Prelude.{ℕ, ◌≡◌, true, false, cond, List, ◌++◌, ◌↔◌, ◌⊎◌}
 use Rattle.log_entry.specs.declared.Entry.{Entry}
 use Rattle.log_entry.specs.Bits.{has}
 use Rattle.log_votes.specs.declared.Involvement.{Involvement}
 use Rattle.log_votes.specs.declared.Involvement.TheVariants.{No, Unknown, Yes}
 use Rattle.log_votes.specs.declared.Outcome.TheVariants.{Abort}
+use Rattle.log_votes.specs.Vote.{vote_list}
 use Rattle.log_core.specs.declared.Log.{Log}
 use Rattle.log_core.specs.Log.{involvement_of, outcome_of, vote_at}
 use Rattle.log_laws.specs.Base.{base_involvement_of}

@@ -1,10 +1,10 @@
 -- The claims on a store's replay: "by group, then tx, the (tx, update) of each committed tx with a
 -- kept commit vote of that store."
-use Rattle.log_votes.specs.Vote.{vote_update}
 use Rattle.std.specs.Prelude.{ℕ, ◌<◌, ◌≡◌, List, ◌↔◌, ◌⊎◌}
 use Rattle.log_entry.specs.declared.Entry.{Entry}
 use Rattle.log_core.specs.declared.Log.{Log}
 use Rattle.log_votes.specs.declared.Outcome.TheVariants.{Commit}
+use Rattle.log_votes.specs.Vote.{vote_update}
 use Rattle.log_core.specs.declared.Replayed.{Replayed}
 use Rattle.log_core.specs.Log.{group_of, vote_at, outcome_of}
 use Rattle.log_core.specs.Replay.{replay_of, row_at}

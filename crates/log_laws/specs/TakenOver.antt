@@ -1,6 +1,5 @@
 -- The claims on a store that is taken over: what its next holder gets of the commit votes that
 -- earlier holders cast.
-use Rattle.log_votes.specs.Vote.{vote_process, vote_turn, vote_update}
 use Rattle.std.specs.Prelude.{ℕ, ◌<◌, ◌≡◌, true, List, ◌++◌, ◌↔◌, ◌⊎◌}
 use Rattle.log_entry.specs.declared.Entry.{Entry}
 use Rattle.log_entry.specs.Bits.{has}
@@ -8,6 +7,7 @@ use Rattle.log_core.specs.declared.Log.{Log}
 use Rattle.log_core.specs.declared.Replay.{Replay}
 use Rattle.log_votes.specs.declared.Outcome.TheVariants.{Commit}
 use Rattle.log_votes.specs.Outcome.{running}
+use Rattle.log_votes.specs.Vote.{vote_process, vote_turn, vote_update}
 use Rattle.log_core.specs.Follow.{awaited_of}
 use Rattle.log_core.specs.Log.{outcome_of, row_of, vote_at}
 use Rattle.log_core.specs.Replay.{replay_of, row_at}

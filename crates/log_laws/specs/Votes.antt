@@ -1,15 +1,15 @@
 -- The claims on kept votes and outcomes. In each, `es` are any entries from the empty log on, and
 -- `more` any that follow.
-use Rattle.log_votes.specs.Vote.{vote_by, vote_commit, vote_kept, vote_list, vote_process, vote_turn, vote_update}
-use Rattle.log_entry.specs.Entry.{by_of, is_take, list_of, says_commit, tx_of, update_in}
 use Rattle.std.specs.Prelude.{ℕ, ◌≡◌, true, false, List, ◌++◌, ◌↔◌, ◌≢◌}
 use Rattle.log_entry.specs.declared.Entry.{Entry}
 use Rattle.log_entry.specs.Bits.{has}
+use Rattle.log_entry.specs.Entry.{by_of, is_take, list_of, says_commit, tx_of, update_in}
 use Rattle.log_entry.specs.Refusal.{accepted}
 use Rattle.log_core.specs.declared.Log.{Log}
 use Rattle.log_votes.specs.declared.Outcome.TheVariants.{Abort, Commit, Open}
 use Rattle.log_votes.specs.declared.Vote.{Vote}
 use Rattle.log_votes.specs.Outcome.{running}
+use Rattle.log_votes.specs.Vote.{vote_by, vote_commit, vote_kept, vote_list, vote_process, vote_turn, vote_update}
 use Rattle.log_core.specs.Enter.{enter}
 use Rattle.log_core.specs.Log.{row_of, vote_at, outcome_of}
 use Rattle.log_laws.specs.Reached.{reached}
