@@ -108,11 +108,11 @@ module _ (l : Log) (e : Entry) (z : Sized l) (rows : (tx : ℕ) → RowWf (row_o
           → let g = cond c (cond j l.groups (next_group l.groups)) l.groups in
           cond (eqb g 0) 0 (get_or (cond c (cond j l.remembered (set l.remembered (next_group l.groups - 1) (running_set l.rows))) l.remembered) (g - 1) 0)
           ≡ running_set l.rows
-      split true true h = absurd (let y : ⊥ = omega arith in y)
+      split true true h = absurd (omega arith)
       split true false h =
           rw (ne_eqb (next_group l.groups) 0 (omega arith))
           (get_or-set_same l.remembered (next_group l.groups - 1) (running_set l.rows) 0 (omega (arith, next_is, room, z.remembered_size)))
-      split false j h = absurd (let y : ⊥ = omega arith in y)
+      split false j h = absurd (omega arith)
 
 pub grouping_enter : (l : Log) (e : Entry) → Sized l → ((tx : ℕ) → RowWf (row_of l tx)) → Grouping l.rows l.groups
     → Grouping (enter l e).log.rows (enter l e).log.groups

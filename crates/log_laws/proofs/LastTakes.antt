@@ -148,7 +148,7 @@ latest_exactly es p t = (
   λ h. ⊎_elim
       (λ (k : LastTake es p (latest_of (reached es) p)). subst (λ (n : ℕ). LastTake es p n) h.1 k)
       (λ none. let z : latest_of (reached es) p ≡ 0 = latest_since empty_log es p none ∙ no_turn_at_first p in
-      absurd (let y : ⊥ = omega (arith, h.0, h.1, z) in y))
+      absurd (omega (arith, h.0, h.1, z)))
       (found_last empty_log es p wf_empty),
   turn_of_last es p t,
 )

@@ -14,7 +14,7 @@ module _ {A : Type 0} (f : ℕ → A → Bool) (d : A) where
 
   any_from_lem : (i : ℕ) (xs : List A) (k : ℕ) → k < length xs → f (i + k) (get_or xs k d) ≡ true → any_from f i xs ≡ true
   unfolding any_from
-  any_from_lem i [] k h e = absurd (let z : ⊥ = omega arith in z)
+  any_from_lem i [] k h e = absurd (omega arith)
   any_from_lem i (x ∷ xs) zero h e = or_left (f i x) (any_from f (suc i) xs) (moved x (omega arith) e)
   any_from_lem i (x ∷ xs) (suc k) h e =
       or_right (f i x) (any_from f (suc i) xs) (any_from_lem (suc i) xs k (omega arith) (moved (get_or xs k d) (omega arith) e))
@@ -40,7 +40,7 @@ module _ {A : Type 0} (f : ℕ → A → Bool) (d : A) where
 
   each_from : (i : ℕ) (xs : List A) → all_from f i xs ≡ true → (k : ℕ) → k < length xs → f (i + k) (get_or xs k d) ≡ true
   unfolding all_from
-  each_from i [] e k h = absurd (let z : ⊥ = omega arith in z)
+  each_from i [] e k h = absurd (omega arith)
   each_from i (x ∷ xs) e zero h = moved x (omega arith) (and_left (f i x) (all_from f (suc i) xs) e)
   each_from i (x ∷ xs) e (suc k) h =
       moved (get_or xs k d) (omega arith) (each_from (suc i) xs (and_right (f i x) (all_from f (suc i) xs) e) k (omega arith))
@@ -71,7 +71,7 @@ module _ {A : Type 0} (f : A → Bool) (d : A) where
   pub first_passes : (xs : List A) (k : ℕ) → k < length xs → f (get_or xs k d) ≡ true
       → (j : ℕ) × (first_of f d xs ≡ get_or xs j d) × (f (get_or xs j d) ≡ true)
   unfolding first_of
-  first_passes [] k h e = absurd (let z : ⊥ = omega arith in z)
+  first_passes [] k h e = absurd (omega arith)
   first_passes (x ∷ xs) zero h e = (0, ap (λ (b : Bool). cond b x (first_of f d xs)) e, e)
   first_passes (x ∷ xs) (suc k) h e = split (f x) refl (first_passes xs k (omega arith) e)
     where
