@@ -40,7 +40,7 @@ conditions cs = map (λ (c : Check). c.applies) cs
 differs : (m n : Answer) → other m n ≡ true → m ≡ n → ⊥
 differs m n h e = opposed (eq-eqb (answer_number m) (answer_number n) (ap answer_number e)) (not-true _ h)
 
--- a number that no check has is given only if none is tried: 0
+-- an answer that no check has is given only where none applies, and then it is accepted
 pub not_given : (n : Answer) (cs : List Check) → n ≢ accepted → fresh n cs ≡ true → first_refusal cs ≡ n → ⊥
 unfolding first_refusal
 not_given n [] z f e = z (sym e)
