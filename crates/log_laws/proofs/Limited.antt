@@ -54,7 +54,7 @@ pub limited_is_full : LimitedIsFull
 unfolding opened
 limited_is_full n es = fed_same n empty_log es (opened_limit stores)
 
-full_reached : (es : List Entry) → (reached es).stores ≡ stores
+pub full_reached : (es : List Entry) → (reached es).stores ≡ stores
 full_reached es = keeps_limit stores es
 
 pub every_limit_as_full : EveryLimitAsFull
