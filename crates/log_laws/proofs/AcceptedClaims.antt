@@ -16,7 +16,7 @@ use Rattle.log_votes.specs.declared.Row.{Row}
 use Rattle.log_votes.specs.declared.Vote.{Vote}
 use Rattle.log_core.specs.Enter.{enter}
 use Rattle.log_core.specs.Log.{row_of, vote_at}
-use Rattle.log_votes.specs.Row.{in_group, keeping, no_row, no_vote, vote_of_entry}
+use Rattle.log_votes.specs.Row.{in_group, no_row, no_vote, vote_of_entry}
 use Rattle.log_laws.specs.Holders.{AcceptedTakeHolds}
 use Rattle.log_laws.specs.Reached.{reached}
 use Rattle.log_laws.specs.Votes.{AcceptedVoteIsKept, KeptAs}
@@ -24,7 +24,7 @@ use Rattle.log_laws.proofs.Feed.{wf_reached}
 use Rattle.log_laws.proofs.Holding.{held_by}
 use Rattle.log_laws.proofs.KeptVotes.{kept_as}
 use Rattle.log_laws.proofs.Replicated.{rows_length, votes_length}
-use Rattle.log_laws.proofs.Steps.{group_after, vote_entered, voted_rows}
+use Rattle.log_laws.proofs.Steps.{group_after, row_with, vote_entered, voted_rows}
 
 stands_there : (es : List Entry) (e : Entry) → is_take e ≡ false → (enter (reached es) e).answer ≡ accepted
     → vote_at (enter (reached es) e).log (tx_of e) e.store ≡ vote_of_entry e
@@ -32,7 +32,7 @@ stands_there es e vote ok =
     let l = reached es in
     let is : refusal_of l e ≡ accepted = sym (answer_is l e) ∙ ok in
     let inside = accepted_inside l e is in
-    let r = keeping (row_of l (tx_of e)) e in
+    let r = row_with l e in
     let tx : tx_of e < length l.rows = omega (arith, rows_length es, (inside_vote l.stores e inside vote).tx) in
     ap (λ (m : Log). vote_at m (tx_of e) e.store) (vote_entered l e is vote)
     ∙ ap (λ (rows : List Row). get_or (get_or rows (tx_of e) no_row).votes e.store no_vote) (voted_rows l (tx_of e) r)

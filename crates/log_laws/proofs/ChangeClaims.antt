@@ -9,13 +9,13 @@ use Rattle.log_entry.specs.declared.Entry.{Entry}
 use Rattle.log_entry.specs.Bits.{has}
 use Rattle.log_entry.specs.Entry.{tx_of}
 use Rattle.log_votes.specs.declared.Row.{Row}
-use Rattle.log_votes.specs.Row.{keeping, no_row, no_vote, vote_of_store}
+use Rattle.log_votes.specs.Row.{no_row, no_vote, vote_of_store}
 use Rattle.log_core.specs.declared.Log.{Log}
 use Rattle.log_core.specs.Log.{row_of}
 use Rattle.log_laws.specs.Changes.{OnlyHolderChanges, OnlyVoteChanges, TakeChangesOnly, VoteChangesOnly}
 use Rattle.log_laws.specs.Reached.{reached}
 use Rattle.log_laws.proofs.Places.{set_either}
-use Rattle.log_laws.proofs.Steps.{Holders, answer_cases, holders_of, voted, voted_holders, voted_limit, voted_rows}
+use Rattle.log_laws.proofs.Steps.{Holders, answer_cases, holders_of, row_with, voted, voted_holders, voted_limit, voted_rows}
 use Rattle.log_entry.proofs.Tests.{opposed}
 
 pub only_holder : TakeChangesOnly
@@ -48,7 +48,7 @@ only_holder es e t =
 
 module _ (l : Log) (e : Entry) where
   r : Row
-  r = keeping (row_of l (tx_of e)) e
+  r = row_with l e
 
   -- another row is as it was
   other_row : (t : ℕ) → t ≢ tx_of e → row_of (voted l (tx_of e) r) t ≡ row_of l t
@@ -86,7 +86,7 @@ only_vote es e t =
       turns = ap (λ (x : Holders). x.turns) same;
       takers = ap (λ (x : Holders). x.takers) same;
       latest = ap (λ (x : Holders). x.latest) same;
-      limit = voted_limit l (tx_of e) (keeping (row_of l (tx_of e)) e);
+      limit = voted_limit l (tx_of e) (row_with l e);
       other_stores = λ s n. other_vote l e s n;
       other_votes = λ t s n. ap (λ (x : Row). vote_of_store s x) (other_row l e t n);
       other_groups = λ t n. ap (λ (x : Row). x.group) (other_row l e t n);
@@ -95,5 +95,5 @@ only_vote es e t =
     l : Log
     l = reached es
 
-    same : holders_of (voted l (tx_of e) (keeping (row_of l (tx_of e)) e)) ≡ holders_of l
-    same = voted_holders l (tx_of e) (keeping (row_of l (tx_of e)) e)
+    same : holders_of (voted l (tx_of e) (row_with l e)) ≡ holders_of l
+    same = voted_holders l (tx_of e) (row_with l e)

@@ -16,7 +16,7 @@ use Rattle.log_core.specs.Enter.{enter, feed}
 use Rattle.log_core.proofs.EnterLaws.{answer_is, refusal_of}
 use Rattle.log_core.specs.Group.{next_group, remembered}
 use Rattle.log_core.specs.Log.{empty_log, row_of, outcome_of}
-use Rattle.log_votes.specs.Row.{in_group, keeping}
+use Rattle.log_votes.specs.Row.{in_group}
 use Rattle.log_votes.specs.Outcome.{is_committed, outcome_of_votes, running}
 use Rattle.log_laws.specs.Groups.{Begins, BegunByCommit, FirstCommitBegins, GroupAtCommit, GroupIffCommitted, GroupNeverChanges, Grouped, GroupsWithoutGaps, JoinsIfRunningWhenBegun}
 use Rattle.log_laws.specs.Reached.{reached}
@@ -29,7 +29,7 @@ use Rattle.log_laws.proofs.Remembered.{remembered_stays, remembers_running}
 use Rattle.log_laws.proofs.RowSteps.{joins_some}
 use Rattle.log_laws.proofs.Rows.{committed}
 use Rattle.log_laws.proofs.Stays.{row_stays}
-use Rattle.log_laws.proofs.Steps.{answer_cases, group_after, groups_after, joins, vote_entered, voted_groups}
+use Rattle.log_laws.proofs.Steps.{answer_cases, group_after, groups_after, joins, row_with, vote_entered, voted_groups}
 use Rattle.log_entry.proofs.Tests.{by_test, either, opposed}
 use Rattle.log_laws.proofs.WellFormed.{Wf}
 
@@ -52,7 +52,7 @@ never_changes es more tx h = ap (λ (r : Row). r.group) (row_stays es more tx ((
 -- a vote that is accepted, and the row with it
 module _ (l : Log) (e : Entry) (w : Wf l) (vote : is_take e ≡ false) (ok : refusal_of l e ≡ accepted) where
   abbrev after : Row
-  after = keeping (row_of l (tx_of e)) e
+  after = row_with l e
 
   fine : VoteOk (row_of l (tx_of e)) l e
   fine = vote_ok l e vote ok
@@ -98,7 +98,7 @@ first_begins es e z c =
 -- an entry that begins a group is an accepted vote that commits
 module _ (l : Log) (e : Entry) (w : Wf l) where
   Accepted : Type 0
-  Accepted = (is_take e ≡ false) × (refusal_of l e ≡ accepted) × (committed (keeping (row_of l (tx_of e)) e) ≡ true)
+  Accepted = (is_take e ≡ false) × (refusal_of l e ≡ accepted) × (committed (row_with l e) ≡ true)
 
   begun : Begins l e → Accepted
   unfolding Accepted
@@ -106,14 +106,14 @@ module _ (l : Log) (e : Entry) (w : Wf l) where
       answer_cases (λ (x : Log). x.groups ≡ l.groups + 1 → Accepted) l e
       (λ h. absurd (none h))
       (λ ok t h. absurd (none h))
-      (λ ok t h. (t, ok, commit (sym (voted_groups l (tx_of e) (keeping (row_of l (tx_of e)) e)) ∙ h)))
+      (λ ok t h. (t, ok, commit (sym (voted_groups l (tx_of e) (row_with l e)) ∙ h)))
     where
       none : l.groups ≡ l.groups + 1 → ⊥
       none h = omega arith
 
-      commit : groups_after l (tx_of e) (keeping (row_of l (tx_of e)) e) ≡ l.groups + 1 → committed (keeping (row_of l (tx_of e)) e) ≡ true
+      commit : groups_after l (tx_of e) (row_with l e) ≡ l.groups + 1 → committed (row_with l e) ≡ true
       commit =
-          by_test (λ (g : ℕ). g ≡ l.groups + 1 → committed (keeping (row_of l (tx_of e)) e) ≡ true) (committed (keeping (row_of l (tx_of e)) e)) _ _
+          by_test (λ (g : ℕ). g ≡ l.groups + 1 → committed (row_with l e) ≡ true) (committed (row_with l e)) _ _
           (λ c h. c) (λ c h. absurd (none h))
 
 pub by_commit : BegunByCommit

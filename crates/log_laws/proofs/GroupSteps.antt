@@ -18,21 +18,21 @@ use Rattle.log_votes.specs.declared.Row.{Row}
 use Rattle.log_core.specs.Enter.{enter}
 use Rattle.log_core.specs.Group.{next_group, remembered, running_set}
 use Rattle.log_core.specs.Log.{empty_log, group_of, opened, row_of}
-use Rattle.log_votes.specs.Row.{in_group, keeping, no_row}
+use Rattle.log_votes.specs.Row.{in_group, no_row}
 use Rattle.log_laws.proofs.Accepted.{VoteOk}
 use Rattle.log_laws.proofs.EmptyRows.{empty_rows}
 use Rattle.log_laws.proofs.Grouping.{Grouping, group_room, grouping_set}
 use Rattle.log_laws.proofs.RowSteps.{no_group}
 use Rattle.log_laws.proofs.Rows.{RowWf, committed}
 use Rattle.log_laws.proofs.Sizes.{Sized}
-use Rattle.log_laws.proofs.Steps.{enter_cases, group_after, groups_after, joins, voted, voted_groups, voted_remembered, voted_rows}
+use Rattle.log_laws.proofs.Steps.{enter_cases, group_after, groups_after, joins, row_with, voted, voted_groups, voted_remembered, voted_rows}
 use Rattle.log_entry.proofs.Tests.{by_test}
 
 -- an accepted vote, and the row with it
 module _ (l : Log) (e : Entry) (z : Sized l) (rows : (tx : ℕ) → RowWf (row_of l tx)) (w : Grouping l.rows l.groups)
     (ok : VoteOk (row_of l (tx_of e)) l e) where
   abbrev after : Row
-  after = keeping (row_of l (tx_of e)) e
+  after = row_with l e
 
   pub in_rows : tx_of e < length l.rows
   in_rows = subst (λ (n : ℕ). tx_of e < n) (sym z.rows_size) (inside_vote l.stores e ok.in_limits ok.is_vote).tx

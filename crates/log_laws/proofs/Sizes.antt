@@ -10,9 +10,9 @@ use Rattle.log_core.specs.declared.Log.{Log}
 use Rattle.log_votes.specs.declared.Row.{Row}
 use Rattle.log_core.specs.Enter.{enter}
 use Rattle.log_core.specs.Log.{empty_log, opened, row_of}
-use Rattle.log_votes.specs.Row.{keeping, no_row, no_vote, vote_of_entry}
+use Rattle.log_votes.specs.Row.{no_row, no_vote, vote_of_entry}
 use Rattle.log_laws.proofs.Rows.{committed}
-use Rattle.log_laws.proofs.Steps.{Holders, enter_cases, holder_cases, joins, row_cases, voted_remembered, voted_rows}
+use Rattle.log_laws.proofs.Steps.{Holders, enter_cases, holder_cases, joins, row_cases, row_with, voted_remembered, voted_rows}
 use Rattle.log_entry.proofs.Tests.{by_test}
 
 pub record Sized (l : Log) : Type 0 where
@@ -66,4 +66,4 @@ sized_enter l e w = record {
 }
   where
     after : Row
-    after = keeping (row_of l (tx_of e)) e
+    after = row_with l e
