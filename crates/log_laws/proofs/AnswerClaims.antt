@@ -3,7 +3,6 @@ use mathlib.Core.Path.{◌≡◌, refl, sym, ap, subst, ◌∙◌}
 use mathlib.Core.Bool.{Bool, true}
 use mathlib.Core.List.{List, [], ◌∷◌, ◌++◌}
 use mathlib.Core.Logic.{◌↔◌, ◌≢◌}
-use native.Mathlib.Omega.{arith}
 use Rattle.std.specs.Result.{is_ok}
 use Rattle.log_entry.specs.declared.Entry.{Entry}
 use Rattle.log_entry.specs.Entry.{ill_formed, outside}
@@ -15,14 +14,15 @@ use Rattle.log_core.specs.Enter.{enter, entered}
 use Rattle.log_core.proofs.EnterLaws.{answer_is, refusal_of}
 use Rattle.log_laws.specs.Answers.{First, None, RefusedEntryChangesNothing, TakeAnswerExactly, VoteAnswerExactly, another, clash, holds_not, kept, other_turn, stale}
 use Rattle.log_laws.proofs.Accepted.{take_refusal, take_list, vote_refusal_lem, vote_list}
-use Rattle.log_laws.proofs.Answers.{conditions, fresh, given_exactly, no_refusal, none_applies, ok_accepts}
+use Rattle.log_laws.proofs.Answers.{conditions, fresh, given_exactly, no_refusal, none_applies}
+use Rattle.log_entry.proofs.AnswerLaws.{err_ok, ok_accepted}
 use Rattle.log_entry.proofs.Tests.{by_test}
 
 pub refused_same : RefusedEntryChangesNothing
 unfolding enter entered effect_of
 refused_same l e =
     by_test (λ (x : Log). refusal_of l e ≢ accepted → x ≡ l) (is_ok (refusal_of l e)) _ _
-    (λ h n. absurd (n (ok_accepts (refusal_of l e) h)))
+    (λ h n. absurd (n (ok_accepted (refusal_of l e) h)))
     (λ h n. refl)
 
 -- the entry's answer is by this list of checks
@@ -39,12 +39,12 @@ module _ (l : Log) (e : Entry) (cs : List Check) (is : refusal_of l e ≡ first_
 
 pub vote_exactly : VoteAnswerExactly
 vote_exactly l e v = record {
-  is_2 = by [] (c7 ∷ c8 ∷ c9 ∷ c10 ∷ c12 ∷ []) outside_limits (outside l.stores e) (grind arith) refl refl;
-  is_7 = by (c2 ∷ []) (c8 ∷ c9 ∷ c10 ∷ c12 ∷ []) ill_formed_vote (ill_formed e) (grind arith) refl refl;
-  is_8 = by (c2 ∷ c7 ∷ []) (c9 ∷ c10 ∷ c12 ∷ []) not_holder (holds_not l e) (grind arith) refl refl;
-  is_9 = by (c2 ∷ c7 ∷ c8 ∷ []) (c10 ∷ c12 ∷ []) other_list (clash l e) (grind arith) refl refl;
-  is_10 = by (c2 ∷ c7 ∷ c8 ∷ c9 ∷ []) (c12 ∷ []) kept_already (kept l e) (grind arith) refl refl;
-  is_12 = by (c2 ∷ c7 ∷ c8 ∷ c9 ∷ c10 ∷ []) [] wrong_turn (other_turn l e) (grind arith) refl refl;
+  is_2 = by [] (c7 ∷ c8 ∷ c9 ∷ c10 ∷ c12 ∷ []) outside_limits (outside l.stores e) err_ok refl refl;
+  is_7 = by (c2 ∷ []) (c8 ∷ c9 ∷ c10 ∷ c12 ∷ []) ill_formed_vote (ill_formed e) err_ok refl refl;
+  is_8 = by (c2 ∷ c7 ∷ []) (c9 ∷ c10 ∷ c12 ∷ []) not_holder (holds_not l e) err_ok refl refl;
+  is_9 = by (c2 ∷ c7 ∷ c8 ∷ []) (c10 ∷ c12 ∷ []) other_list (clash l e) err_ok refl refl;
+  is_10 = by (c2 ∷ c7 ∷ c8 ∷ c9 ∷ []) (c12 ∷ []) kept_already (kept l e) err_ok refl refl;
+  is_12 = by (c2 ∷ c7 ∷ c8 ∷ c9 ∷ c10 ∷ []) [] wrong_turn (other_turn l e) err_ok refl refl;
   is_0 = zero_exactly l e cs (vote_refusal_lem l e v) refl;
 }
   where
@@ -75,9 +75,9 @@ vote_exactly l e v = record {
 
 pub take_exactly : TakeAnswerExactly
 take_exactly l e v = record {
-  is_2 = exactly l e cs is [] (c11 ∷ c12 ∷ []) outside_limits (outside l.stores e) (grind arith) refl refl;
-  is_11 = exactly l e cs is (c2 ∷ []) (c12 ∷ []) holds_another (another l e) (grind arith) refl refl;
-  is_12 = exactly l e cs is (c2 ∷ c11 ∷ []) [] wrong_turn (stale l e) (grind arith) refl refl;
+  is_2 = exactly l e cs is [] (c11 ∷ c12 ∷ []) outside_limits (outside l.stores e) err_ok refl refl;
+  is_11 = exactly l e cs is (c2 ∷ []) (c12 ∷ []) holds_another (another l e) err_ok refl refl;
+  is_12 = exactly l e cs is (c2 ∷ c11 ∷ []) [] wrong_turn (stale l e) err_ok refl refl;
   is_0 = zero_exactly l e cs is refl;
 }
   where

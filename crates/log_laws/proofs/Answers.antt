@@ -6,24 +6,16 @@ use mathlib.Core.Logic.{◌↔◌, ◌≢◌, ◌⊎◌, inl, inr}
 use lib.Dec.{eqb}
 use borrow.Author.Tests.{eq-eqb, not-true}
 use Rattle.std.specs.Prelude.{Err, Ok}
-use Rattle.std.specs.Result.{is_ok}
 use Rattle.log_entry.specs.Number.{Answer, answer_number}
 use Rattle.log_entry.specs.Refusal.{Check, accepted, check, first_refusal}
 use Rattle.log_laws.specs.Answers.{First, None}
+use Rattle.log_entry.proofs.AnswerLaws.{err_ok}
 use Rattle.log_entry.proofs.Tests.{and_left, and_right, opposed}
-
--- an answer that is no refusal accepts, and the other way round
-pub ok_accepts : (a : Answer) → is_ok a ≡ true → a ≡ accepted
-ok_accepts (Ok done) h = refl
-ok_accepts (Err r) h = absurd (false≢true h)
-
-pub accepts_ok : (a : Answer) → a ≡ accepted → is_ok a ≡ true
-accepts_ok a h = ap is_ok h
 
 -- an answer accepts or is a refusal
 pub accepts_or_not : (a : Answer) → (a ≡ accepted) ⊎ (a ≢ accepted)
 accepts_or_not (Ok done) = inl refl
-accepts_or_not (Err r) = inr (λ h. false≢true (ap is_ok h))
+accepts_or_not (Err r) = inr err_ok
 
 -- two answers have different numbers
 abbrev other : Answer → Answer → Bool

@@ -20,9 +20,9 @@ use Rattle.log_core.specs.Log.{row_of, with_group, with_holder, with_row}
 use Rattle.log_core.proofs.EnterLaws.{enter_accepted, refusal_of, stored_holder}
 use Rattle.log_votes.specs.Row.{in_group, keeping, no_row}
 use Rattle.log_laws.proofs.Accepted.{TakeOk, VoteOk, take_ok, vote_ok}
-use Rattle.log_laws.proofs.Answers.{ok_accepts}
 use Rattle.log_laws.proofs.Places.{set_either}
 use Rattle.log_laws.proofs.Rows.{committed}
+use Rattle.log_entry.proofs.AnswerLaws.{ok_accepted}
 use Rattle.log_entry.proofs.Tests.{by_test}
 
 -- a part of a choice is a choice of the parts
@@ -107,7 +107,7 @@ pub answer_cases : (P : Log → Type 0) (l : Log) (e : Entry) → P l
     → P (enter l e).log
 unfolding enter entered effect_of
 answer_cases P l e old take vote =
-    by_test P (is_ok (refusal_of l e)) _ _ (λ h. by_kind (is_take e) refl (ok_accepts (refusal_of l e) h)) (λ h. old)
+    by_test P (is_ok (refusal_of l e)) _ _ (λ h. by_kind (is_take e) refl (ok_accepted (refusal_of l e) h)) (λ h. old)
   where
     by_kind : (t : Bool) → is_take e ≡ t → refusal_of l e ≡ accepted → P (stored l e (effect_of (parts_of l e) e))
     by_kind true k ok = subst P (stored_holder l e (effect_of (parts_of l e) e) k) (take ok k)

@@ -27,7 +27,6 @@ use Rattle.log_laws.specs.Involvement.{ChangesExactly}
 use Rattle.log_laws.specs.Reached.{reached}
 use Rattle.log_laws.specs.WithoutTurns.{AllFirst, TakeAgrees, TakesWithoutTurns, VotesWithoutTurns, WithoutTurns}
 use Rattle.log_laws.proofs.Accepted.{process_from_1}
-use Rattle.log_laws.proofs.Answers.{accepts_ok, ok_accepts}
 use Rattle.log_laws.proofs.AnswerClaims.{take_exactly, vote_exactly}
 use Rattle.log_laws.proofs.ConditionClaims.{another_by_holders}
 use Rattle.log_laws.proofs.EmptyRows.{replicate_cases}
@@ -38,6 +37,7 @@ use Rattle.log_laws.proofs.Limited.{full_reached}
 use Rattle.log_laws.proofs.Places.{set_either}
 use Rattle.log_laws.proofs.Steps.{Holders, holder_cases}
 use Rattle.log_laws.proofs.TakenBefore.{held_exactly}
+use Rattle.log_entry.proofs.AnswerLaws.{ok_accepted}
 use Rattle.log_entry.proofs.Tests.{is_false, opposed}
 use Rattle.log_laws.proofs.WellFormed.{Wf, wf_empty, wf_enter}
 
@@ -68,7 +68,7 @@ take_after : (l : Log) (e : Entry) → is_take e ≡ true → (m n : Answer) →
 unfolding after
 take_after l e k m n h =
     ap₂ (λ (b : Bool) (x : Log). cond b x l)
-    (same_test (is_ok m) (is_ok n) (λ a. accepts_ok n (h.0 (ok_accepts m a))) (λ a. accepts_ok m (h.1 (ok_accepts n a))))
+    (same_test (is_ok m) (is_ok n) (λ a. ap is_ok (h.0 (ok_accepted m a))) (λ a. ap is_ok (h.1 (ok_accepted n a))))
     (sym (stored_holder l e (effect_by m (parts_of l e) e) k) ∙ stored_holder l e (effect_by n (parts_of l e) e) k)
 
 log_same : (l : Log) (e : Entry) → l.stores ≡ stores → Wf l → Early l → e.turn ≡ 1 → (enter l e).log ≡ (base_enter l e).log
