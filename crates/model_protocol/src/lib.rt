@@ -108,12 +108,11 @@ pub struct Round {
     pub promises: u8,
     // The highest accepted ballot among the promises, 0 if none; `batch` is its batch.
     pub accepted: u8,
-    pub proposed: bool,
     // The acceptors whose acceptance was heard, bit a for acceptor a.
     pub acceptances: u8,
     pub batch: Batch,
-    // The batch proposed.
-    pub proposal: Batch,
+    // The batch proposed, if one was.
+    pub proposal: Option<Batch>,
 }
 
 #[derive(Clone, Copy)]
@@ -206,6 +205,22 @@ pub struct Parts {
     pub message: Message,
 }
 
+// What a step does to the logs, replays and follows, which stand beside the parts.
+#[derive(Clone, Copy)]
+pub enum Beside {
+    Nothing,
+    // The coordinator learned this batch, for its log.
+    Learns(Batch),
+    // By the coordinator's log its store's replay goes with the message sent.
+    GivesReplay,
+    // The process takes the replay of the message delivered.
+    TakesReplay,
+    // The process takes the follow that is the message delivered.
+    KeepsFollow,
+    // The process starts anew: what stands beside it is as in a fresh world.
+    StartsAnew,
+}
+
 // The answer to a step, the parts after it, and what it sends.
 #[derive(Clone, Copy)]
 pub struct Change {
@@ -214,16 +229,7 @@ pub struct Change {
     // So many messages: this one first, and then the same to acceptors 1, 2 and so on.
     pub count: u8,
     pub message: Message,
-    // The batch that the coordinator learned, for its log; one without entries if none.
-    pub learned: Batch,
-    // Whether its store's replay goes with the message, by the coordinator's log.
-    pub gives: bool,
-    // Whether the process takes the replay of the message delivered.
-    pub takes: bool,
-    // Whether the process takes the follow that is the message delivered.
-    pub follows: bool,
-    // Whether the process starts anew: what stands beside it is as in a fresh world.
-    pub anew: bool,
+    pub beside: Beside,
 }
 
 // Where in the world the parts of a step stand.
