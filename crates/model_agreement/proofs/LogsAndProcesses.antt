@@ -35,7 +35,7 @@ use Rattle.model_protocol.specs.declared.Coordinator.{Coordinator}
 use Rattle.model_protocol.specs.declared.Queue.{Queue}
 use Rattle.model_protocol.specs.declared.World.{World}
 use Rattle.model_protocol.specs.Batch.{batch_of, entries_of, no_batch, no_entry}
-use Rattle.model_protocol.specs.Coordinator.{batch_to_propose, counting, learning}
+use Rattle.model_protocol.specs.Coordinator.{batch_to_propose, counting, learning, proposal_of}
 use Rattle.model_protocol.specs.Limits.{batch_entries, queue_places}
 use Rattle.model_protocol.specs.Queue.{first_batch, left_by, queue_of, queued, without}
 use Rattle.model_protocol.specs.Step.{held_store, update_of, voting_store}
@@ -356,12 +356,12 @@ module _ {w : World} {h : List Event} (s : Shape w) (R : Range w) (I : Inv w) (H
   learned_fact : {h' : List Event} (b a : ℕ) → Later h h'
       → S (accepted (coordinator_of w (owner b)).applied (coordinator_of w (owner b)).round.ballot a)
       → Majority w.acceptors (counting (coordinator_of w (owner b)).round a).acceptances
-      → CoFact w.acceptors h' S (learning (coordinator_of w (owner b))) (feed (log_of w (owner b)) (entries_of (coordinator_of w (owner b)).round.proposal))
+      → CoFact w.acceptors h' S (learning (coordinator_of w (owner b))) (feed (log_of w (owner b)) (entries_of (proposal_of (coordinator_of w (owner b)).round)))
   unfolding learning
   learned_fact b a l r q =
       record {
         fed = rw e (fed_more _ _ (O.cos (owner b)).fed (learns_chosen (co_count (I.co (owner b)) a r) I.core q));
-        queue = λ x t. asked_up l ((O.cos (owner b)).queue x (in_left c.queue c.round.proposal (s.queues (owner b)) t));
+        queue = λ x t. asked_up l ((O.cos (owner b)).queue x (in_left c.queue (proposal_of c.round) (s.queues (owner b)) t));
       }
     where
       c : Coordinator

@@ -25,7 +25,7 @@ use Rattle.model_protocol.specs.declared.Process.{Process}
 use Rattle.model_protocol.specs.declared.Queue.{Queue}
 use Rattle.model_protocol.specs.declared.World.{World}
 use Rattle.model_protocol.specs.Batch.{entries_of, no_entry}
-use Rattle.model_protocol.specs.Coordinator.{learning}
+use Rattle.model_protocol.specs.Coordinator.{learning, proposal_of}
 use Rattle.model_protocol.specs.Limits.{slot_places, queue_places}
 use Rattle.model_protocol.specs.Queue.{is_full, joined, left_by, queue_of, queued, without}
 use Rattle.model_protocol.specs.World.{coordinator_of, follows_of, fresh_coordinator, fresh_process, no_followed, no_follows, process_of, started_in}
@@ -248,7 +248,7 @@ module _ {w : World} (s : Shape w) where
   shape_move (hears j i b a d v d' v' _ _ _ _) = co_changes (owner b) _ _ _ none_sent (s.queues (owner b))
   shape_move (passes_promise j i b a d v _) = s
   shape_move (counts j i b a _ _ _ _) = co_changes (owner b) _ _ _ none_sent (s.queues (owner b))
-  shape_move (learns j i b a _ _ _ _) = co_learns (owner b) _ (coordinator_of w (owner b)).round.proposal (left_ok _ _ (s.queues (owner b)))
+  shape_move (learns j i b a _ _ _ _) = co_learns (owner b) _ (proposal_of (coordinator_of w (owner b)).round) (left_ok _ _ (s.queues (owner b)))
   shape_move (passes_accepted j i b a _ _) = s
   shape_move (joins j k e _ f) = co_changes k _ _ _ none_sent (joins_ok k e f)
   shape_move (passes_request j k e _) = s
