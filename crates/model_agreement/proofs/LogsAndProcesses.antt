@@ -30,14 +30,12 @@ use Rattle.model_paxos.specs.Rules.{Chosen}
 use Rattle.model_paxos.proofs.Grow.{Best, New, NewAll, chosen_up, kind, new, new_at}
 use Rattle.model_paxos.proofs.Local.{co_count, learns_chosen}
 use Rattle.model_paxos.proofs.Sets.{majority→, with_lt}
-use Rattle.model_protocol.specs.declared.Batch.{Batch}
 use Rattle.model_protocol.specs.declared.Coordinator.{Coordinator}
-use Rattle.model_protocol.specs.declared.Queue.{Queue}
 use Rattle.model_protocol.specs.declared.World.{World}
-use Rattle.model_protocol.specs.Batch.{batch_of, entries_of, no_batch, no_entry}
+use Rattle.model_protocol.specs.Batch.{Batch, batch_of, entries_of, no_batch, no_entry}
 use Rattle.model_protocol.specs.Coordinator.{batch_to_propose, counting, learning, proposal_of}
 use Rattle.model_protocol.specs.Limits.{batch_entries, queue_places}
-use Rattle.model_protocol.specs.Queue.{first_batch, left_by, queue_of, queued, without}
+use Rattle.model_protocol.specs.Queue.{Queue, first_batch, left_by, queue_of, queued, without}
 use Rattle.model_protocol.specs.Step.{held_store, update_of, voting_store}
 use Rattle.model_protocol.specs.World.{coordinator_of, fresh_coordinator, log_of}
 use Rattle.model_agreement.specs.Plain.{all_entries, plain_log}

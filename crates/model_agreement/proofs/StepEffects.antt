@@ -27,7 +27,7 @@ use Rattle.model_steps.specs.Limits.{ballots, coordinators, instances, messages,
 use Rattle.model_owners.specs.Owners.{owner}
 use Rattle.model_paxos.specs.Majority.{majority}
 use Rattle.model_paxos.specs.Messages.{accept, accepted, prepare, promise}
-use Rattle.model_protocol.specs.declared.Batch.{Batch}
+use Rattle.model_protocol.specs.Batch.{Batch}
 use Rattle.model_protocol.specs.declared.AcceptorSlot.{AcceptorSlot}
 use Rattle.model_protocol.specs.declared.Change.{Change}
 use Rattle.model_protocol.specs.declared.Coordinator.{Coordinator}
@@ -37,7 +37,6 @@ use Rattle.model_protocol.specs.Kind as kind
 use Rattle.model_protocol.specs.declared.Message.{Message}
 use Rattle.model_protocol.specs.declared.Parts.{Parts}
 use Rattle.model_protocol.specs.declared.Places.{Places}
-use Rattle.model_protocol.specs.declared.Queue.{Queue}
 use Rattle.model_protocol.specs.declared.Round.{Round}
 use Rattle.model_protocol.specs.declared.World.{World}
 use Rattle.model_protocol.specs.Acceptor as acceptor
@@ -49,7 +48,7 @@ use Rattle.model_protocol.specs.Limits.{slot_places}
 use Rattle.model_protocol.specs.Message.{accept_to, accepted_from, follow_to, prepare_to, promise_from, request_to, restore_to, said_accepted, said_acceptor, said_ballot, said_batch, said_entry, said_inst, said_kind, said_outcome, said_position, said_running, said_store, said_to, said_turn, said_tx, said_update, tell_to}
 use Rattle.model_protocol.specs.Places.{delivery_places, places_of}
 use Rattle.model_protocol.specs.Process.{following, hearing_outcome, taking, takes_follow, takes_restore}
-use Rattle.model_protocol.specs.Queue.{is_full, is_in, joined, joining, queued}
+use Rattle.model_protocol.specs.Queue.{Queue, is_full, is_in, joined, joining, queued}
 use Rattle.model_protocol.specs.Send.{lacks_numbers}
 use Rattle.model_protocol.specs.Step.{acceptors_counted, cannot_open, cannot_propose, changed, change_of, held_store, message_for, message_in, parts_at, parts_of, places_in, replay_in, step_checks, step_of, step_refusal, other_turn, update_of, voter_not_holder, voting_store}
 use Rattle.model_protocol.specs.World.{slot_of, coordinator_of, crashed, follows_of, log_of, message_of, new_round, process_of, replay_with, started_in, up_again}

@@ -15,7 +15,7 @@ use Rattle.model_steps.specs.Limits.{ballots, coordinators, instances, messages,
 use Rattle.model_owners.specs.Owners.{owner}
 use Rattle.model_paxos.specs.Majority.{majority}
 use Rattle.model_protocol.specs.declared.AcceptorSlot.{AcceptorSlot}
-use Rattle.model_protocol.specs.declared.Batch.{Batch}
+use Rattle.model_protocol.specs.Batch.{Batch}
 use Rattle.model_protocol.specs.declared.Coordinator.{Coordinator}
 use Rattle.model_protocol.specs.Kind.{Accept, Accepted, Prepare, Promise}
 use Rattle.model_protocol.specs.declared.Message.{Message}

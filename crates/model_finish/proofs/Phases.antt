@@ -18,11 +18,11 @@ use Rattle.model_steps.specs.Limits.{instances, messages, most_acceptors}
 use Rattle.model_owners.specs.Owners.{owner}
 use Rattle.model_paxos.specs.Majority.{majority}
 use Rattle.model_protocol.specs.declared.AcceptorSlot.{AcceptorSlot}
-use Rattle.model_protocol.specs.declared.Batch.{Batch}
+use Rattle.model_protocol.specs.Batch.{Batch}
 use Rattle.model_protocol.specs.declared.Coordinator.{Coordinator}
 use Rattle.model_protocol.specs.declared.Down.{Down}
 use Rattle.model_protocol.specs.declared.Message.{Message}
-use Rattle.model_protocol.specs.declared.Queue.{Queue}
+use Rattle.model_protocol.specs.Queue.{Queue}
 use Rattle.model_protocol.specs.declared.Round.{Round}
 use Rattle.model_protocol.specs.declared.World.{World}
 use Rattle.model_protocol.specs.Acceptor.{accepting, promising}

@@ -1,13 +1,12 @@
 -- The parts of the world that a step touches, with one of them changed, and changes.
 use Rattle.std.specs.Prelude.{ℕ, Bool, false, true}
 use Rattle.log_entry.specs.Refusal.{accepted}
-use Rattle.model_protocol.specs.declared.Batch.{Batch}
 use Rattle.model_protocol.specs.declared.AcceptorSlot.{AcceptorSlot}
 use Rattle.model_protocol.specs.declared.Coordinator.{Coordinator}
 use Rattle.model_protocol.specs.declared.Down.{Down}
 use Rattle.model_protocol.specs.declared.Message.{Message}
 use Rattle.model_protocol.specs.declared.Process.{Process}
-use Rattle.model_protocol.specs.Batch.{no_batch}
+use Rattle.model_protocol.specs.Batch.{Batch, no_batch}
 use Rattle.model_protocol.specs.Message.{no_message}
 use Rattle.model_protocol.specs.declared.Beside.{Beside}
 use Rattle.model_protocol.specs.declared.Beside.TheVariants.{Nothing, Learns, GivesReplay, TakesReplay, KeepsFollow, StartsAnew}

@@ -3,12 +3,10 @@ use Rattle.std.specs.Prelude.{ℕ, ◌+◌, min, Bool, ◌&&◌, cond, Some, is_
 use Rattle.std.specs.Option.{unwrap_or}
 use Rattle.log_entry.specs.Bits.{with}
 use Rattle.model_steps.specs.Limits.{instances, most_acceptors}
-use Rattle.model_protocol.specs.declared.Batch.{Batch}
 use Rattle.model_protocol.specs.declared.Coordinator.{Coordinator}
-use Rattle.model_protocol.specs.declared.Queue.{Queue}
 use Rattle.model_protocol.specs.declared.Round.{Round}
-use Rattle.model_protocol.specs.Batch.{no_batch}
-use Rattle.model_protocol.specs.Queue.{first_batch, left_by}
+use Rattle.model_protocol.specs.Batch.{Batch, no_batch}
+use Rattle.model_protocol.specs.Queue.{Queue, first_batch, left_by}
 use Rattle.model_protocol.specs.World.{new_round}
 
 -- ---- the coordinator with one part changed

@@ -2,6 +2,8 @@
 // joins them. These are the values; what each step does to them stands in specs/.
 #![tactic(auto)]
 
+ghost use Rattle.std.specs.Prelude.{◌≡◌, take};
+
 use limits::{
     ACCEPTOR_PLACES, BATCH_PLACES, COORDINATOR_PLACES, MESSAGE_PLACES, QUEUE_PLACES, SLOT_PLACES,
 };
@@ -13,12 +15,27 @@ pub mod limits;
 
 use log_votes::Outcome;
 
-// A batch: its first `count` entries. A count of one byte would have seven after it that nothing
+// The first `count` entries of a row. A count of one byte would have seven after it that nothing
 // uses, and they would be copied with every step.
 #[derive(Clone, Copy)]
-pub struct Batch {
-    pub entries: [Entry; BATCH_PLACES],
+pub struct Entries<const N: usize> {
+    pub entries: [Entry; N],
     pub count: usize,
+}
+
+// A batch.
+pub type Batch = Entries<BATCH_PLACES>;
+
+// The entries that a coordinator was sent, oldest first.
+pub type Queue = Entries<QUEUE_PLACES>;
+
+impl<const N: usize> Entries<N> {
+    // All of the row where the count is above it.
+    pub fn as_slice(&self) -> &[Entry]
+        ensures { result.now ≡ take self.now.count self.now.entries }
+    {
+        &self.entries[..self.count.min(N)]
+    }
 }
 
 // A message, by its kind.
@@ -89,13 +106,6 @@ pub struct AcceptorSlot {
     // The accepted ballot, 0 if none, and its batch.
     pub ballot: u8,
     pub batch: Batch,
-}
-
-// The entries that a coordinator was sent: the first `count`, oldest first.
-#[derive(Clone, Copy)]
-pub struct Queue {
-    pub entries: [Entry; QUEUE_PLACES],
-    pub count: usize,
 }
 
 // The ballot that a coordinator opened last in its current instance, and what came of it. The small
