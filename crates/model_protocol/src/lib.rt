@@ -10,6 +10,7 @@ use limits::{
 use log_core::{Log, Replay};
 use log_entry::Entry;
 use log_entry::limits::{PROCESS_PLACES, TRANSACTION_PLACES, Update};
+use log_entry::refusal::Answer;
 
 pub mod limits;
 
@@ -234,7 +235,7 @@ pub enum Beside {
 // The answer to a step, the parts after it, and what it sends.
 #[derive(Clone, Copy)]
 pub struct Change {
-    pub answer: u8,
+    pub answer: Answer,
     pub parts: Parts,
     // So many messages: this one first, and then the same to acceptors 1, 2 and so on.
     pub count: u8,
@@ -254,5 +255,5 @@ pub struct Places {
 #[derive(Clone, Copy)]
 pub struct Stepped {
     pub world: World,
-    pub answer: u8,
+    pub answer: Answer,
 }
