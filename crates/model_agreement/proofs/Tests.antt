@@ -4,7 +4,7 @@ use mathlib.Core.Path.{◌≡◌, refl, subst}
 use mathlib.Core.Logic.{◌≢◌}
 use mathlib.Core.Bool.{Bool, true, false, ◌&&◌, ◌||◌, not, cond}
 use mathlib.Core.List.{List, [], ◌∷◌}
-use lib.Dec.{T, T_not, eqb, eqb→eq, eqb_refl, ltb}
+use lib.Dec.{T, T_not, eqb, eqb_refl}
 use Rattle.std.proofs.Common.{Err, Ok, is_err, is_ok}
 use Rattle.log_entry.specs.Number.{Answer}
 use Rattle.log_entry.specs.Refusal.{Check, first_refusal}
