@@ -11,10 +11,9 @@ use log_core::{Log, Replay};
 use log_entry::Entry;
 use log_entry::limits::{PROCESS_PLACES, TRANSACTION_PLACES, Update};
 use log_entry::refusal::Answer;
+use log_votes::Outcome;
 
 pub mod limits;
-
-use log_votes::Outcome;
 
 // The first `count` entries of a row. A count of one byte would have seven after it that nothing
 // uses, and they would be copied with every step.
