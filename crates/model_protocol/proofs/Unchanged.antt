@@ -6,13 +6,13 @@ use mathlib.Core.Path.{◌≡◌, ap, refl, subst, sym, ◌∙◌}
 use mathlib.Core.Bool.{Bool, true, false, cond, ◌||◌}
 use mathlib.Core.List.{List, [], ◌∷◌}
 use mathlib.Core.Logic.{◌≢◌}
-use borrow.Author.Tests.{eqb-true}
-use lib.Dec.{eqb}
+use Rattle.std.proofs.Common.{is_ok}
 use lib.ListN.{get_or, length, set}
 use lib.Seq.{get_or-set_other, get_or-set_same}
 use Rattle.log_entry.specs.Entry.{no_process, no_turn}
 use Rattle.log_entry.specs.Limits.{process_places}
 use Rattle.log_entry.specs.Refusal.{accepted, first_refusal}
+use Rattle.log_entry.proofs.AnswerLaws.{err_ok, ok_accepted}
 use Rattle.log_entry.proofs.InsideLaws.{process_inside}
 use Rattle.log_entry.proofs.Tests.{neither_left}
 use Rattle.log_core.specs.Replay.{no_replay}
@@ -23,8 +23,8 @@ use Rattle.model_steps.specs.declared.Step.{Step}
 use Rattle.model_steps.specs.declared.Step.TheVariants.{Back, Crash, Deliver, Follow, Open, Propose, Request, Restore, Setup, Tell}
 use Rattle.model_protocol.specs.declared.Change.{Change}
 use Rattle.model_protocol.specs.declared.Down.{Down}
-use Rattle.model_protocol.specs.declared.Kind.{Kind}
-use Rattle.model_protocol.specs.declared.Kind.TheVariants as kind
+use Rattle.model_protocol.specs.Kind.{Kind}
+use Rattle.model_protocol.specs.Kind as kind
 use Rattle.model_protocol.specs.declared.Message.{Message}
 use Rattle.model_protocol.specs.declared.Parts.{Parts}
 use Rattle.model_protocol.specs.declared.Stepped.{Stepped}
@@ -32,9 +32,9 @@ use Rattle.model_protocol.specs.declared.World.{World}
 use Rattle.model_paxos.specs.Majority.{majority}
 use Rattle.model_protocol.specs.Acceptor.{accepting, accepts, promises, promising}
 use Rattle.model_protocol.specs.Change.{coordinator_now, done, keeps_follow, learns, process_now, sending, slot_now, takes_replay}
-use Rattle.model_protocol.specs.Coordinator.{counting, is_heard, learning, promise_heard, with_round}
+use Rattle.model_protocol.specs.Coordinator.{counting, is_heard, learning, promise_heard, proposal_of, with_round}
 use Rattle.model_protocol.specs.Deliver.{delivery_change}
-use Rattle.model_protocol.specs.Message.{accepted_from, promise_from}
+use Rattle.model_protocol.specs.Message.{accepted_from, promise_from, said_accepted, said_acceptor, said_ballot, said_batch, said_inst, said_kind, said_position, said_running, said_store, said_turn, said_tx}
 use Rattle.model_protocol.specs.Process.{following, taking, takes_follow, takes_restore}
 use Rattle.model_protocol.specs.Places.{places_of}
 use Rattle.model_protocol.specs.Send.{send_to_all}
@@ -51,21 +51,21 @@ either_arm P false a b f g = g
 -- the world after a step: changed as the definitions say, or as it was
 step_cases : (P : World → Type 0) (w : World) (s : Step) → P (changed w (places_in w s) (replay_in w s) (change_of (parts_of w s) s)) → P w → P (step_of w s).world
 unfolding step_of
-step_cases P w s new old = either_arm (λ (x : Stepped). P x.world) (eqb (step_refusal (parts_of w s) s) accepted) _ _ new old
+step_cases P w s new old = either_arm (λ (x : Stepped). P x.world) (is_ok (step_refusal (parts_of w s) s)) _ _ new old
 
 -- the answer is the first refusal, accepted if there is none
 pub answer_is_refusal : (w : World) (s : Step) → (step_of w s).answer ≡ step_refusal (parts_of w s) s
 unfolding step_of
-answer_is_refusal w s = go (eqb (step_refusal (parts_of w s) s) accepted) refl
+answer_is_refusal w s = go (is_ok (step_refusal (parts_of w s) s)) refl
   where
-    go : (b : Bool) → eqb (step_refusal (parts_of w s) s) accepted ≡ b → (step_of w s).answer ≡ step_refusal (parts_of w s) s
-    go true e = rw e (sym (eqb-true (step_refusal (parts_of w s) s) accepted e))
+    go : (b : Bool) → is_ok (step_refusal (parts_of w s) s) ≡ b → (step_of w s).answer ≡ step_refusal (parts_of w s) s
+    go true e = rw e (sym (ok_accepted (step_refusal (parts_of w s) s) e))
     go false e = rw e
 
 pub refused_same : RefusedStepChangesNothing
 unfolding step_of
 refused_same w s =
-    either_arm (λ (x : Stepped). x.answer ≢ accepted → x.world ≡ w) (eqb (step_refusal (parts_of w s) s) accepted) _ _
+    either_arm (λ (x : Stepped). x.answer ≢ accepted → x.world ≡ w) (is_ok (step_refusal (parts_of w s) s)) _ _
     (λ n. absurd (n refl)) (λ n. refl)
 
 pub crash_keeps : CrashChangesOnlyDown
@@ -104,33 +104,33 @@ delivered_down p kind.Request = refl
 delivered_down p kind.Prepare =
     let m = p.message in
     let x = p.slot in
-    same_down p (promises x m.ballot)
-    (sending (slot_now p (promising x m.ballot)) 1 (promise_from m.inst m.ballot m.acceptor x.ballot x.batch)) (done p) refl refl
+    same_down p (promises x (said_ballot m))
+    (sending (slot_now p (promising x (said_ballot m))) 1 (promise_from (said_inst m) (said_ballot m) (said_acceptor m) x.ballot x.batch)) (done p) refl refl
 delivered_down p kind.Accept =
     let m = p.message in
-    same_down p (accepts p.slot m.ballot)
-    (sending (slot_now p (accepting m.ballot m.batch)) 1 (accepted_from m.inst m.ballot m.acceptor)) (done p) refl refl
+    same_down p (accepts p.slot (said_ballot m))
+    (sending (slot_now p (accepting (said_ballot m) (said_batch m))) 1 (accepted_from (said_inst m) (said_ballot m) (said_acceptor m))) (done p) refl refl
 delivered_down p kind.Promise =
     let m = p.message in
     let c = p.coordinator in
-    same_down p (is_heard c m.inst m.ballot m.acceptor)
-    (done (coordinator_now p (with_round c (promise_heard c.round m.acceptor m.accepted m.batch)))) (done p) refl refl
+    same_down p (is_heard c (said_inst m) (said_ballot m) (said_acceptor m))
+    (done (coordinator_now p (with_round c (promise_heard c.round (said_acceptor m) (said_accepted m) (said_batch m))))) (done p) refl refl
 delivered_down p kind.Accepted =
     let m = p.message in
     let c = p.coordinator in
-    let r = counting c.round m.acceptor in
-    let l = learns (coordinator_now p (learning c)) c.round.proposal in
+    let r = counting c.round (said_acceptor m) in
+    let l = learns (coordinator_now p (learning c)) (proposal_of c.round) in
     let n = done (coordinator_now p (with_round c r)) in
-    same_down p (is_heard c m.inst m.ballot m.acceptor) (cond (majority p.acceptors r.acceptances) l n) (done p)
+    same_down p (is_heard c (said_inst m) (said_ballot m) (said_acceptor m)) (cond (majority p.acceptors r.acceptances) l n) (done p)
     (same_down p (majority p.acceptors r.acceptances) l n refl refl) refl
 delivered_down p kind.Tell = refl
 delivered_down p kind.Restore =
     let m = p.message in
-    same_down p (takes_restore p.process m.turn m.position)
-    (takes_replay (process_now p (taking p.process m.store m.position m.running))) (done p) refl refl
+    same_down p (takes_restore p.process (said_turn m) (said_position m))
+    (takes_replay (process_now p (taking p.process (said_store m) (said_position m) (said_running m)))) (done p) refl refl
 delivered_down p kind.Follow =
     let m = p.message in
-    same_down p (takes_follow p.process m.store m.tx) (keeps_follow (process_now p (following p.process m.tx))) (done p) refl refl
+    same_down p (takes_follow p.process (said_store m) (said_tx m)) (keeps_follow (process_now p (following p.process (said_tx m)))) (done p) refl refl
 
 -- a flag that is set stays set when another is
 flag_stays : (l : List Bool) (i j : ℕ) → get_or l j false ≡ true → get_or (set l i true) j false ≡ true
@@ -164,7 +164,7 @@ change_down p (Setup n) role id again h = h
 change_down p (Request e to) role id again h = h
 change_down p (Open c i b) role id again h = h
 change_down p (Propose c i b) role id again h = h
-change_down p (Deliver m) role id again h = subst (λ (d : Down). is_down d role id ≡ true) (sym (delivered_down p p.message.kind)) h
+change_down p (Deliver m) role id again h = subst (λ (d : Down). is_down d role id ≡ true) (sym (delivered_down p (said_kind p.message))) h
 change_down p (Tell c q tx) role id again h = h
 change_down p (Restore c q) role id again h = h
 change_down p (Follow c q tx) role id again h = h
@@ -194,7 +194,7 @@ unfolding step_refusal first_refusal outside_step
 back_inside w p t h = go (no_process p || no_turn t) refl (sym (answer_is_refusal w (Back p t)) ∙ h)
   where
     go : (b : Bool) → (no_process p || no_turn t) ≡ b → step_refusal (parts_of w (Back p t)) (Back p t) ≡ accepted → p < process_places
-    go true e k = absurd (let z : ⊥ = omega (arith, rw e at k) in z)
+    go true e k = absurd (err_ok (rw e at k))
     go false e k = omega (arith, process_inside p (neither_left (no_process p) (no_turn t) e))
 
 module _ (w : World) (p t : ℕ) (has : HasProcesses w) (inside : p < process_places) where

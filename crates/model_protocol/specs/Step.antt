@@ -1,13 +1,15 @@
 -- The steps of the world: for each kind the refusals, in the order in which they are tried, and
 -- what the step does. Both go by the parts of the world that the step touches.
-use Rattle.std.specs.Prelude.{ℕ, suc, Bool, ◌&&◌, ◌||◌, not, cond, List, [], ◌∷◌, eqb, leb, get_or, set}
+use Rattle.std.specs.Prelude.{ℕ, suc, Bool, ◌&&◌, ◌||◌, not, cond, List, [], ◌∷◌, eqb, leb, get_or, is_ok, set}
 use Rattle.log_entry.specs.declared.Entry.{Entry}
-use Rattle.log_entry.specs.Entry.{ill_formed}
+use Rattle.log_entry.specs.Entry.{by_of, ill_formed, is_take}
 use Rattle.log_entry.specs.Limits.{stores}
+use Rattle.log_entry.specs.Number.{Answer}
 use Rattle.log_entry.specs.Refusal.{accepted, check, Check, first_refusal, ill_formed_vote, no_place, not_met, not_sent_yet, outside_limits, party_down}
 use Rattle.log_core.specs.declared.Log.{Log}
 use Rattle.log_core.specs.declared.Replay.{Replay}
 use Rattle.log_core.specs.Enter.{feed}
+use Rattle.log_votes.specs.Vote.{vote_update}
 use Rattle.log_votes.specs.Outcome.{is_commit, is_committed, is_open}
 use Rattle.log_core.specs.Follow.{awaited_of}
 use Rattle.log_core.specs.Log.{outcome_of, turn_of, vote_at}
@@ -27,10 +29,10 @@ use Rattle.model_protocol.specs.declared.World.{World}
 use Rattle.model_owners.specs.Owners.{owner}
 use Rattle.model_paxos.specs.Majority.{majority}
 use Rattle.model_protocol.specs.Batch.{entries_of}
-use Rattle.model_protocol.specs.Change.{acceptors_now, coordinator_now, done, down_now, gives_replay, parts, process_now, sending, starts_anew}
-use Rattle.model_protocol.specs.Coordinator.{batch_to_propose, proposing, with_round}
+use Rattle.model_protocol.specs.Change.{acceptors_now, coordinator_now, done, down_now, gives_replay, is_anew, is_given, is_kept, is_taken, learned_by, parts, process_now, sending, starts_anew}
+use Rattle.model_protocol.specs.Coordinator.{batch_to_propose, is_proposed, proposing, with_round}
 use Rattle.model_protocol.specs.Deliver.{delivery_change, no_place_for, receiver_down}
-use Rattle.model_protocol.specs.Message.{accept_to, follow_to, prepare_to, request_to, restore_to, tell_to}
+use Rattle.model_protocol.specs.Message.{accept_to, follow_to, prepare_to, request_to, restore_to, said_kind, said_outcome, said_store, tell_to}
 use Rattle.model_protocol.specs.Places.{message_at, places_of}
 use Rattle.model_protocol.specs.Process.{believes, with_follow}
 use Rattle.model_protocol.specs.Send.{copy_of, lacks_numbers, send_to_all}
@@ -59,13 +61,13 @@ voting_store l process tx = let s = held_store l process in cond (is_commit s (v
 
 -- "the update (0 if aborted)" of the store's vote on a decided transaction
 abbrev pub update_of : Log → ℕ → ℕ → ℕ
-update_of l tx store = cond (is_committed (outcome_of l tx)) (vote_at l tx store).update 0
+update_of l tx store = cond (is_committed (outcome_of l tx)) (vote_update (vote_at l tx store)) 0
 
 -- ---- refusals
 
 -- "voter does not believe it holds `by`"
 abbrev pub voter_not_holder : Entry → Process → Bool
-voter_not_holder e p = not e.take && not (believes p e.by)
+voter_not_holder e p = not (is_take e) && not (believes p (by_of e))
 
 -- "A take or vote with another turn than the process's present one"
 abbrev pub other_turn : Entry → Process → Bool
@@ -81,7 +83,7 @@ cannot_propose n k i b =
     not (eqb i k.applied)
     || not (eqb b k.round.ballot)
     || not (majority n k.round.promises)
-    || k.round.proposed
+    || is_proposed k.round
     || eqb k.round.accepted 0 && eqb k.queue.count 0
 
 -- the refusals after 2, by the parts that the step touches. A message that was not sent has no
@@ -94,7 +96,7 @@ step_checks p (Request e to) =
     check party_down (is_down p.down Proc e.process || is_down p.down Coord to)
     ∷ check not_met (not_set_up p || other_turn e p.process || voter_not_holder e p.process)
     ∷ check no_place (lacks_numbers p.sent 1)
-    ∷ check ill_formed_vote (not e.take && ill_formed e)
+    ∷ check ill_formed_vote (not (is_take e) && ill_formed e)
     ∷ []
 step_checks p (Open c i b) =
     check party_down (is_down p.down Coord c)
@@ -108,25 +110,25 @@ step_checks p (Propose c i b) =
     ∷ []
 step_checks p (Deliver m) =
     check not_sent_yet (leb p.sent m)
-    ∷ check party_down (receiver_down p.down p.message p.message.kind)
+    ∷ check party_down (receiver_down p.down p.message (said_kind p.message))
     ∷ check not_met (not_set_up p)
-    ∷ check no_place (no_place_for p p.message.kind)
+    ∷ check no_place (no_place_for p (said_kind p.message))
     ∷ []
 step_checks p (Tell c process tx) =
     check party_down (is_down p.down Coord c || is_down p.down Proc process)
-    ∷ check not_met (not_set_up p || is_open p.message.outcome)
+    ∷ check not_met (not_set_up p || is_open (said_outcome p.message))
     ∷ check no_place (lacks_numbers p.sent 1)
     ∷ []
 step_checks p (Restore c process) =
     check party_down (is_down p.down Coord c || is_down p.down Proc process)
-    ∷ check not_met (not_set_up p || leb stores p.message.store)
+    ∷ check not_met (not_set_up p || leb stores (said_store p.message))
     ∷ check no_place (lacks_numbers p.sent 1)
     ∷ []
 -- "Follow is refused 5 while the transaction runs, where the process is not the holder, or where the
 -- store has no kept commit vote on it." `FollowRefusedExactly` says it of the log
 step_checks p (Follow c process tx) =
     check party_down (is_down p.down Coord c || is_down p.down Proc process)
-    ∷ check not_met (not_set_up p || is_open p.message.outcome || leb stores p.message.store)
+    ∷ check not_met (not_set_up p || is_open (said_outcome p.message) || leb stores (said_store p.message))
     ∷ check no_place (lacks_numbers p.sent 1)
     ∷ []
 step_checks p (Crash role id) = check party_down (is_down p.down role id) ∷ check not_met (not_set_up p) ∷ []
@@ -135,7 +137,7 @@ step_checks p (Crash role id) = check party_down (is_down p.down role id) ∷ ch
 step_checks p (Back process turn) = check not_met (not_set_up p || leb turn p.process.turn) ∷ []
 
 -- the answer to a step: "The lowest number that applies is given."
-unfoldable pub step_refusal : Parts → Step → ℕ
+unfoldable pub step_refusal : Parts → Step → Answer
 step_refusal p s = first_refusal (check outside_limits (outside_step (acceptors_counted p.acceptors) s) ∷ step_checks p s)
 
 -- ---- what an accepted step does to the parts, and what it sends
@@ -149,7 +151,7 @@ change_of p (Open c i b) = sending (coordinator_now p (with_round p.coordinator 
 change_of p (Propose c i b) =
     let v = batch_to_propose p.coordinator in
     sending (coordinator_now p (with_round p.coordinator (proposing p.coordinator.round v))) p.acceptors (accept_to i b v 0)
-change_of p (Deliver m) = delivery_change p p.message.kind
+change_of p (Deliver m) = delivery_change p (said_kind p.message)
 change_of p (Tell c process tx) = sending p 1 p.message
 change_of p (Restore c process) = gives_replay p p.message
 change_of p (Follow c process tx) = sending p 1 p.message
@@ -223,21 +225,21 @@ put_back w at r ch =
       acceptors = ch.parts.acceptors;
       slots = set w.slots at.slot ch.parts.slot;
       coordinators = set w.coordinators at.coordinator ch.parts.coordinator;
-      logs = set w.logs at.coordinator (feed log (entries_of ch.learned));
+      logs = set w.logs at.coordinator (feed log (entries_of (learned_by ch.beside)));
       processes = set w.processes at.process ch.parts.process;
       restored =
-          cond ch.anew
+          cond (is_anew ch.beside)
           (set w.restored at.process no_replay)
-          (cond ch.takes (set w.restored at.process r) w.restored);
+          (cond (is_taken ch.beside) (set w.restored at.process r) w.restored);
       follows =
-          cond ch.anew
+          cond (is_anew ch.beside)
           (set w.follows at.process no_follows)
-          (cond ch.follows
+          (cond (is_kept ch.beside)
           (set w.follows at.process (with_follow (follows_of w at.process) ch.parts.message))
           w.follows);
       down = ch.parts.down;
       messages = w.messages;
-      replays = cond ch.gives (set w.replays w.sent (replay_of log ch.message.store)) w.replays;
+      replays = cond (is_given ch.beside) (set w.replays w.sent (replay_of log (said_store ch.message))) w.replays;
       sent = w.sent;
     }
 
@@ -245,14 +247,14 @@ put_back w at r ch =
 abbrev pub changed : World → Places → Replay → Change → World
 changed w at r ch = send_to_all (put_back w at r ch) ch.count (copy_of ch.message)
 
-abbrev pub answered : World → ℕ → Stepped
-answered w n = record { world = w; answer = n }
+abbrev pub answered : World → Answer → Stepped
+answered w a = record { world = w; answer = a }
 
 -- the world after the step, and the answer: a refused step leaves the world as it was
 unfoldable pub step_of : World → Step → Stepped
 step_of w s =
     let p = parts_of w s in
-    cond (eqb (step_refusal p s) accepted) (answered (changed w (places_in w s) (replay_in w s) (change_of p s)) accepted) (answered w (step_refusal p s))
+    cond (is_ok (step_refusal p s)) (answered (changed w (places_in w s) (replay_in w s) (change_of p s)) accepted) (answered w (step_refusal p s))
 
 -- "Each later one gets the world that the last one handed back"
 unfoldable pub run : World → List Step → World

@@ -2,71 +2,101 @@
 // joins them. These are the values; what each step does to them stands in specs/.
 #![tactic(auto)]
 
+ghost use Rattle.std.specs.Prelude.{◌≡◌, take};
+
 use limits::{
     ACCEPTOR_PLACES, BATCH_PLACES, COORDINATOR_PLACES, MESSAGE_PLACES, QUEUE_PLACES, SLOT_PLACES,
 };
 use log_core::{Log, Replay};
 use log_entry::Entry;
 use log_entry::limits::{PROCESS_PLACES, TRANSACTION_PLACES, Update};
+use log_entry::refusal::Answer;
+use log_votes::Outcome;
 
 pub mod limits;
 
-use log_votes::Outcome;
-
-// A batch: its first `count` entries. A count of one byte would have seven after it that nothing
+// The first `count` entries of a row. A count of one byte would have seven after it that nothing
 // uses, and they would be copied with every step.
 #[derive(Clone, Copy)]
-pub struct Batch {
-    pub entries: [Entry; BATCH_PLACES],
+pub struct Entries<const N: usize> {
+    pub entries: [Entry; N],
     pub count: usize,
 }
 
-#[derive(Clone, Copy)]
-pub enum Kind {
-    // To a coordinator: an entry.
-    Request,
-    // To an acceptor, from the ballot's coordinator.
-    Prepare,
-    Accept,
-    // From an acceptor, to the ballot's coordinator.
-    Promise,
-    Accepted,
-    // To a process, from a coordinator.
-    Tell,
-    Restore,
-    Follow,
+// A batch.
+pub type Batch = Entries<BATCH_PLACES>;
+
+// The entries that a coordinator was sent, oldest first.
+pub type Queue = Entries<QUEUE_PLACES>;
+
+impl<const N: usize> Entries<N> {
+    // All of the row where the count is above it.
+    pub fn as_slice(&self) -> &[Entry]
+        ensures { result.now ≡ take self.now.count self.now.entries }
+    {
+        &self.entries[..self.count.min(N)]
+    }
 }
 
-// A message. What its kind does not use is 0.
+// A message, by its kind.
 #[derive(Clone, Copy)]
-pub struct Message {
-    pub kind: Kind,
-    // Of a request the coordinator, of a tell, a restore and a follow the process that it goes to.
-    pub to: u8,
-    // Of a restore: the holder's turn. It stands here, where a byte more costs no room.
-    pub turn: u8,
-    // The acceptor that a prepare or an accept goes to, or that a promise or an acceptance comes
-    // from.
-    pub acceptor: u8,
-    pub inst: u8,
-    pub ballot: u8,
-    // Of a promise: the ballot that the acceptor accepted, 0 if none.
-    pub accepted: u8,
-    // Of a promise: the batch that goes with `accepted`; of an accept: the batch proposed.
-    pub batch: Batch,
-    // Of a request.
-    pub entry: Entry,
-    // Of a tell and a follow.
-    pub tx: u8,
-    pub outcome: Outcome,
-    // Of a restore and a follow.
-    pub store: u8,
-    // Of a restore: the sender's applied count, and the transactions that run with a kept commit
-    // vote of the store, bit t for transaction t. The world has its replay.
-    pub position: u8,
-    pub running: u32,
-    // Of a follow: the update of the store's commit vote, 0 if the transaction was aborted.
-    pub update: Update,
+pub enum Message {
+    // To the coordinator `to`.
+    Request {
+        to: u8,
+        entry: Entry,
+    },
+    // To the acceptor, from the ballot's coordinator.
+    Prepare {
+        inst: u8,
+        ballot: u8,
+        acceptor: u8,
+    },
+    // The same, with the batch proposed.
+    Accept {
+        inst: u8,
+        ballot: u8,
+        acceptor: u8,
+        batch: Batch,
+    },
+    // From the acceptor, to the ballot's coordinator: the ballot that it accepted, 0 if none, and
+    // the batch that goes with it.
+    Promise {
+        inst: u8,
+        ballot: u8,
+        acceptor: u8,
+        accepted: u8,
+        batch: Batch,
+    },
+    // The same way.
+    Accepted {
+        inst: u8,
+        ballot: u8,
+        acceptor: u8,
+    },
+    // To the process `to`, from a coordinator, as the two below.
+    Tell {
+        to: u8,
+        tx: u8,
+        outcome: Outcome,
+    },
+    // The holder's turn, the sender's applied count as position, and the transactions that run with
+    // a kept commit vote of the store, bit t for transaction t. The world has its replay.
+    Restore {
+        to: u8,
+        turn: u8,
+        store: u8,
+        position: u8,
+        running: u32,
+    },
+    // With the update of the store's commit vote, 0 if the transaction was aborted.
+    Follow {
+        to: u8,
+        store: u8,
+        tx: u8,
+        outcome: Outcome,
+        update: Update,
+    },
 }
 
 // What an acceptor holds of an instance, 0 at first.
@@ -76,13 +106,6 @@ pub struct AcceptorSlot {
     // The accepted ballot, 0 if none, and its batch.
     pub ballot: u8,
     pub batch: Batch,
-}
-
-// The entries that a coordinator was sent: the first `count`, oldest first.
-#[derive(Clone, Copy)]
-pub struct Queue {
-    pub entries: [Entry; QUEUE_PLACES],
-    pub count: usize,
 }
 
 // The ballot that a coordinator opened last in its current instance, and what came of it. The small
@@ -95,12 +118,11 @@ pub struct Round {
     pub promises: u8,
     // The highest accepted ballot among the promises, 0 if none; `batch` is its batch.
     pub accepted: u8,
-    pub proposed: bool,
     // The acceptors whose acceptance was heard, bit a for acceptor a.
     pub acceptances: u8,
     pub batch: Batch,
-    // The batch proposed.
-    pub proposal: Batch,
+    // The batch proposed, if one was.
+    pub proposal: Option<Batch>,
 }
 
 #[derive(Clone, Copy)]
@@ -193,24 +215,31 @@ pub struct Parts {
     pub message: Message,
 }
 
+// What a step does to the logs, replays and follows, which stand beside the parts.
+#[derive(Clone, Copy)]
+pub enum Beside {
+    Nothing,
+    // The coordinator learned this batch, for its log.
+    Learns(Batch),
+    // By the coordinator's log its store's replay goes with the message sent.
+    GivesReplay,
+    // The process takes the replay of the message delivered.
+    TakesReplay,
+    // The process takes the follow that is the message delivered.
+    KeepsFollow,
+    // The process starts anew: what stands beside it is as in a fresh world.
+    StartsAnew,
+}
+
 // The answer to a step, the parts after it, and what it sends.
 #[derive(Clone, Copy)]
 pub struct Change {
-    pub answer: u8,
+    pub answer: Answer,
     pub parts: Parts,
     // So many messages: this one first, and then the same to acceptors 1, 2 and so on.
     pub count: u8,
     pub message: Message,
-    // The batch that the coordinator learned, for its log; one without entries if none.
-    pub learned: Batch,
-    // Whether its store's replay goes with the message, by the coordinator's log.
-    pub gives: bool,
-    // Whether the process takes the replay of the message delivered.
-    pub takes: bool,
-    // Whether the process takes the follow that is the message delivered.
-    pub follows: bool,
-    // Whether the process starts anew: what stands beside it is as in a fresh world.
-    pub anew: bool,
+    pub beside: Beside,
 }
 
 // Where in the world the parts of a step stand.
@@ -225,5 +254,5 @@ pub struct Places {
 #[derive(Clone, Copy)]
 pub struct Stepped {
     pub world: World,
-    pub answer: u8,
+    pub answer: Answer,
 }
