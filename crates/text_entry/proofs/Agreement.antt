@@ -9,9 +9,11 @@ use mathlib.Core.Path.{◌≡◌, refl, sym, ◌∙◌, ap, subst}
 use Rattle.text_ascii.specs.Hex.{update_digits}
 use Rattle.text_ascii.proofs.Words.{clash}
 use Rattle.log_entry.specs.declared.Entry.{Entry}
-use Rattle.log_entry.specs.Entry.{outside, take_entry}
+use Rattle.log_entry.specs.Entry.{is_take, list_of, outside, take_entry, update_in}
 use Rattle.log_entry.specs.Limits.{lists}
-use Rattle.text_entry.specs.declared.Reading.TheVariants.{Read, Outside, Unreadable}
+use Rattle.std.proofs.Common.{Ok, Err, Result}
+use Rattle.text_entry.specs.declared.Unread.{Unread}
+use Rattle.text_entry.specs.declared.Unread.TheVariants.{Unreadable, Outside}
 use Rattle.text_entry.specs.Claims.{IsText, OutsideLineIsText, ReadLineIsText, ReadsExactly, TextReadsBack, TextWithinLimitsRead, UnreadableIsNoText}
 use Rattle.text_entry.specs.Fields.{in_hex, line_text}
 use Rattle.text_entry.specs.Kinds.{take_kind, take_with, vote_kind, vote_with}
@@ -35,7 +37,7 @@ module _ (s : List ℕ) (e : Entry) (t : IsText s e) where
       known_take [] t.way.shown (take_values e) s
       (subst (LineIs k (take_values e)) (sym written) (written_line k (take_values e) (take_writable t.way.shown e t.has_text.0)))
 
-  vote_line : (e.take ≡ false) × (e.participants < lists) × (e.update < 16 ^ t.way.digits) → LineIs vote_kind (vote_values e) s
+  vote_line : (is_take e ≡ false) × (list_of e < lists) × (update_in e < 16 ^ t.way.digits) → LineIs vote_kind (vote_values e) s
   unfolding text_in
   vote_line h =
       let k = vote_with (turn_in t.way.shown) (in_hex t.way.digits) in
@@ -93,7 +95,7 @@ reads_exactly s e = (read_is_text s e, every_text_reads s e)
 
 -- ---- the reader's answers
 
-pub distinct : Distinct Read Outside Unreadable
+pub distinct : Distinct {A = Entry} {R = Result Entry Unread} Ok (Err Outside) (Err Unreadable)
 distinct = record {
   read_same = λ a b h. cc;
   read_outside = λ a h. let z : ◌≡◌ {A = ℕ} 0 1 = cc in omega arith;
@@ -116,14 +118,14 @@ pub text_within_limits_read : TextWithinLimitsRead
 text_within_limits_read n s e t h = ap reading_of (every_text_reads s e t) ∙ read_by e (within_bytes n s e t h)
 
 pub read_line_is_text : ReadLineIsText
-read_line_is_text s e h = read_is_text s e (read_some Read Outside Unreadable beyond distinct (read_entry s) e h)
+read_line_is_text s e h = read_is_text s e (read_some Ok (Err Outside) (Err Unreadable) beyond distinct (read_entry s) e h)
 
 pub outside_line_is_text : OutsideLineIsText
 outside_line_is_text s h =
-    let t = outside_some Read Outside Unreadable beyond distinct (read_entry s) h in
+    let t = outside_some Ok (Err Outside) (Err Unreadable) beyond distinct (read_entry s) h in
     let r = read_is_text s t.0 t.1 in
     (t.0, r, λ n. text_beyond n s t.0 r t.2)
 
 pub unreadable_is_no_text : UnreadableIsNoText
 unreadable_is_no_text s h e t =
-    some_not e (sym (unreadable_none Read Outside Unreadable beyond distinct (read_entry s) h) ∙ every_text_reads s e t)
+    some_not e (sym (unreadable_none Ok (Err Outside) (Err Unreadable) beyond distinct (read_entry s) h) ∙ every_text_reads s e t)

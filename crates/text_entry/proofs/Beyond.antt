@@ -1,4 +1,5 @@
 -- A number beyond a byte is outside its limits.
+use Rattle.log_entry.specs.Entry.{by_of, is_take, list_of, tx_of, update_in}
 use Prim.Native.Nat.{ℕ, ◌≤◌}
 use native.Mathlib.Omega.{arith}
 use mathlib.Core.Bool.{Bool, true, false, ◌&&◌, ◌||◌, not, false≢true}
@@ -46,7 +47,7 @@ no_such_turn t h = elim (eqb t 0) as (λ x. (x || ltb turns t) ≡ true) [ true 
 -- the parts of a vote's limits that a take has none of, in a log of limit n
 module _ (n : ℕ) (e : Entry) where
   others : Bool
-  others = no_store n e.by || no_transaction n e.tx || no_list n e.participants || leb updates e.update
+  others = no_store n (by_of e) || no_transaction n (tx_of e) || no_list n (list_of e) || leb updates (update_in e)
 
   abbrev process : Bool
   process = no_process e.process
@@ -59,7 +60,7 @@ module _ (n : ℕ) (e : Entry) where
 
   one_outside : (process || turn || store) ≡ true → outside n e ≡ true
   unfolding outside others
-  one_outside h = ap (λ (b : Bool). b || not e.take && others) h
+  one_outside h = ap (λ (b : Bool). b || not (is_take e) && others) h
 
   process_outside : 256 ≤ e.process → outside n e ≡ true
   process_outside h = one_outside (first_of process turn store (no_such_process e.process h))
@@ -70,25 +71,25 @@ module _ (n : ℕ) (e : Entry) where
   store_outside : 256 ≤ e.store → outside n e ≡ true
   store_outside h = one_outside (third_of process turn store (le-leb (stores_of n) e.store (omega (arith, stores_within n))))
 
-  others_outside : others ≡ true → e.take ≡ false → outside n e ≡ true
+  others_outside : others ≡ true → (is_take e) ≡ false → outside n e ≡ true
   unfolding outside others
-  others_outside h t = third_of (process || turn) store (not e.take && others) (rw t h)
+  others_outside h t = third_of (process || turn) store (not (is_take e) && others) (rw t h)
 
-  by_outside : 256 ≤ e.by → e.take ≡ false → outside n e ≡ true
+  by_outside : 256 ≤ (by_of e) → (is_take e) ≡ false → outside n e ≡ true
   unfolding others
-  by_outside h = others_outside (rw (le-leb (stores_of n) e.by (omega (arith, stores_within n))))
+  by_outside h = others_outside (rw (le-leb (stores_of n) (by_of e) (omega (arith, stores_within n))))
 
-  tx_outside : 256 ≤ e.tx → e.take ≡ false → outside n e ≡ true
+  tx_outside : 256 ≤ (tx_of e) → (is_take e) ≡ false → outside n e ≡ true
   unfolding others
   tx_outside h =
       others_outside
-      (ap (λ (b : Bool). b || leb updates e.update) (second_of (no_store n e.by) (no_transaction n e.tx) (no_list n e.participants) (le-leb (transactions_of n) e.tx (omega (arith, transactions_within n)))))
+      (ap (λ (b : Bool). b || leb updates (update_in e)) (second_of (no_store n (by_of e)) (no_transaction n (tx_of e)) (no_list n (list_of e)) (le-leb (transactions_of n) (tx_of e) (omega (arith, transactions_within n)))))
 
-  list_outside : 256 ≤ e.participants → e.take ≡ false → outside n e ≡ true
+  list_outside : 256 ≤ (list_of e) → (is_take e) ≡ false → outside n e ≡ true
   unfolding others
   list_outside h =
       others_outside
-      (ap (λ (b : Bool). b || leb updates e.update) (third_of (no_store n e.by) (no_transaction n e.tx) (no_list n e.participants) (le-leb (lists_of n) e.participants (omega (arith, lists_within n)))))
+      (ap (λ (b : Bool). b || leb updates (update_in e)) (third_of (no_store n (by_of e)) (no_transaction n (tx_of e)) (no_list n (list_of e)) (le-leb (lists_of n) (list_of e) (omega (arith, lists_within n)))))
 
 -- what a take does not use is no number beyond a byte
 no_number : (n : ℕ) → n ≡ 0 → 256 ≤ n → ⊥
@@ -101,12 +102,12 @@ beyond_is_outside n w e (t, inl h) =
       (
         turn_outside n e,
         (
-          (λ m. absurd (no_number e.by (ap (λ (x : Entry). x.by) h) m)),
+          (λ m. absurd (no_number (by_of e) (ap (λ (x : Entry). (by_of x)) h) m)),
           (
             store_outside n e,
             (
-              (λ m. absurd (no_number e.tx (ap (λ (x : Entry). x.tx) h) m)),
-              ((λ m. absurd (no_number e.participants (ap (λ (x : Entry). x.participants) h) m)), tt),
+              (λ m. absurd (no_number (tx_of e) (ap (λ (x : Entry). (tx_of x)) h) m)),
+              ((λ m. absurd (no_number (list_of e) (ap (λ (x : Entry). (list_of x)) h) m)), tt),
             ),
           ),
         ),

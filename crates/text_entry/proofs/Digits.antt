@@ -1,56 +1,68 @@
--- Digits of a line, read from a place on.
-use Prim.Native.Nat.{ℕ, suc, ◌≤◌, ◌<◌, ◌+◌, ◌-◌, ◌*◌, ◌^◌, min}
+-- Digits of a line, one after the other.
+use Prim.Native.Nat.{ℕ, suc, ◌≤◌, ◌<◌, ◌+◌, ◌*◌, ◌^◌, min}
 use native.Mathlib.Omega.{arith}
 use native.Mathlib.Nat.{pow-suc, pow-le-pow_right, le_trans}
 use native.Mathlib.Numerals.{add-one}
-use mathlib.Core.Bool.{Bool, true, false, ◌&&◌, cond, false≢true}
+use mathlib.Core.Bool.{Bool, true, false, ◌&&◌, not, cond, false≢true}
 use mathlib.Core.List.{List, [], ◌∷◌}
-use mathlib.Core.Path.{◌≡◌, refl, sym, ◌∙◌, ap}
+use mathlib.Core.Path.{◌≡◌, refl, sym, ◌∙◌, ap, subst}
 use lib.Dec.{eqb}
-use lib.ListN.{length, drop, get_or, drop_of_length-le}
-use lib.Seq.{drop-cons}
 use native.Mathlib.Decide.{dec_lt}
-use Rattle.text_ascii.specs.Decimal.{begins_digit, byte_numbers, grown, is_digit}
+use Rattle.std.proofs.Common.{Bor, Option, None, Some, is_some}
+use borrow.Author.Tests.{eq-eqb, ne_eqb}
 use Rattle.log_entry.specs.Limits.{updates}
-use Rattle.text_ascii.specs.Hex.{begins_hex_digit, is_hex_digit, hex_grown, update_digits}
-use Rattle.text_ascii.proofs.Decimals.{is_digit_low, is_digit_high}
+use Rattle.text_ascii.specs.Decimal.{begins_digit, byte_numbers, digit_of, grown, is_digit}
+use Rattle.text_ascii.specs.Hex.{begins_hex_digit, hex_digit_of, hex_grown, is_hex_digit, update_digits}
+use Rattle.text_ascii.proofs.Decimals.{is_digit_low}
+use Rattle.text_ascii.proofs.Hexes.{hex_digit_bound}
 use Rattle.text_entry.specs.Fields.{in_decimal}
 use Rattle.text_entry.specs.Read.{part, unreadable, leading_zero, read_digits, read_decimal, read_hex, read_value}
-use Rattle.text_entry.specs.Seen.{capped}
+use Rattle.text_entry.specs.Seen.{capped, first_digit, first_hex_digit, found, found_if}
 
-module _ (s : List ℕ) (at : ℕ) where
-  pub digit_far : length s ≤ at → begins_digit (drop at s) ≡ false
-  digit_far h = rw (drop_of_length-le s {i = at} h)
+-- whether something was found
+pub nothing : {A : Type 0} (a : A) → ◌≡◌ {A = Option A} None (Some a) → ⊥
+nothing a h = let z : ◌≡◌ {A = ℕ} 0 1 = cc in omega arith
 
-  pub digit_at : at < length s → begins_digit (drop at s) ≡ is_digit (get_or s at 0)
-  digit_at h = rw (drop-cons s at 0 h)
+pub found_if_none : (b : Bool) (n : ℕ) (s : List ℕ) → found_if b n s ≡ None → b ≡ false
+found_if_none true n s h = absurd (nothing (n, s) (sym h))
+found_if_none false n s h = refl
 
-  pub digit_inside : begins_digit (drop at s) ≡ true → at < length s
-  digit_inside e = elim (dec_lt at (length s)) [
-    | yes h ↦ h
-    | no h ↦ absurd (false≢true (sym (digit_far (omega arith)) ∙ e))
-  ]
+module _ (b : Bool) (n m : ℕ) (s t : List ℕ) where
+  pub found_if_some : found_if b n s ≡ Some (m, t) → b ≡ true
+  found_if_some h = go b h
+    where
+      go : (a : Bool) → found_if a n s ≡ Some (m, t) → a ≡ true
+      go true h = refl
+      go false h = absurd (nothing (m, t) h)
 
-  pub digit_low : begins_digit (drop at s) ≡ true → 48 ≤ get_or s at 0
-  digit_low e = is_digit_low (get_or s at 0) (sym (digit_at (digit_inside e)) ∙ e)
+  pub found_if_number : found_if b n s ≡ Some (m, t) → n ≡ m
+  found_if_number h = go b h
+    where
+      go : (a : Bool) → found_if a n s ≡ Some (m, t) → n ≡ m
+      go true h = let e : (n, s) ≡ (m, t) = cc in ap (λ (p : ℕ × List ℕ). p.0) e
+      go false h = absurd (nothing (m, t) h)
 
-  pub digit_high : begins_digit (drop at s) ≡ true → get_or s at 0 ≤ 57
-  digit_high e = is_digit_high (get_or s at 0) (sym (digit_at (digit_inside e)) ∙ e)
+  pub found_if_left : found_if b n s ≡ Some (m, t) → s ≡ t
+  found_if_left h = go b h
+    where
+      go : (a : Bool) → found_if a n s ≡ Some (m, t) → s ≡ t
+      go true h = let e : (n, s) ≡ (m, t) = cc in ap (λ (p : ℕ × List ℕ). p.1) e
+      go false h = absurd (nothing (m, t) h)
 
-  pub zero_far : length s ≤ at → leading_zero (drop at s) ≡ false
-  zero_far h = rw (drop_of_length-le s {i = at} h)
+-- ---- decimals
 
-  pub zero_at : at < length s → leading_zero (drop at s) ≡ (eqb (get_or s at 0) 48 && begins_digit (drop (at + 1) s))
-  zero_at h = rw (drop-cons s at 0 h, add-one)
-
-  pub digits_more : (n : ℕ) → begins_digit (drop at s) ≡ true → read_digits n (drop at s) ≡ read_digits (grown n (get_or s at 0)) (drop (at + 1) s)
-  unfolding read_digits
-  digits_more n e = rw (drop-cons s at 0 (digit_inside e), sym (digit_at (digit_inside e)) ∙ e, add-one)
-
-pub digits_end : (n : ℕ) (s : List ℕ) → begins_digit s ≡ false → read_digits n s ≡ part n s
+pub digits_more : (n d : ℕ) (s t : List ℕ) → first_digit s ≡ Some (d, t) → read_digits n s ≡ read_digits (n * 10 + d) t
 unfolding read_digits
-digits_end n [] e = refl
-digits_end n (c ∷ s) e = rw e
+digits_more n d [] t h = absurd (nothing (d, t) h)
+digits_more n d (c ∷ s) t h =
+    let e : digit_of c ≡ d = found_if_number _ _ _ _ _ h in
+    let f : s ≡ t = found_if_left _ _ _ _ _ h in
+    rw (found_if_some _ _ _ _ _ h) (λ i. read_digits (n * 10 + e i) (f i))
+
+pub digits_end : (n : ℕ) (s : List ℕ) → first_digit s ≡ None → read_digits n s ≡ part n s
+unfolding read_digits
+digits_end n [] h = refl
+digits_end n (c ∷ s) h = rw (found_if_none _ _ _ h)
 
 -- the count up to `byte_numbers` is told by the count so far up to `byte_numbers`
 pub digits_capped : (m n : ℕ) (s : List ℕ) → min m byte_numbers ≡ min n byte_numbers → capped (read_digits m s) ≡ capped (read_digits n s)
@@ -63,52 +75,83 @@ digits_capped m n (c ∷ s) e = go (is_digit c) (digits_capped (grown m c) (grow
     go true h = h
     go false h = λ i. part (e i) (c ∷ s)
 
-module _ (s : List ℕ) where
-  pub decimal_none : begins_digit s ≡ false → unreadable ≡ read_value in_decimal s
+pub decimal_none : (s : List ℕ) → first_digit s ≡ None → unreadable ≡ read_value in_decimal s
+unfolding read_value read_decimal
+decimal_none [] h = refl
+decimal_none (c ∷ s) h = rw (found_if_none _ _ _ h)
+
+begins_none : (s : List ℕ) → first_digit s ≡ None → begins_digit s ≡ false
+begins_none [] h = refl
+begins_none (c ∷ s) h = found_if_none _ _ _ h
+
+begins_some : (d : ℕ) (s t : List ℕ) → first_digit s ≡ Some (d, t) → begins_digit s ≡ true
+begins_some d [] t h = absurd (nothing (d, t) h)
+begins_some d (c ∷ s) t h = found_if_some _ _ _ _ _ h
+
+pub begins_is : (o : Option (ℕ × Bor (List ℕ))) (s : List ℕ) → found o ≡ first_digit s → is_some o ≡ begins_digit s
+begins_is None s h = sym (begins_none s (sym h))
+begins_is (Some p) s h = sym (begins_some p.0 s p.1.now (sym h))
+
+module _ (d : ℕ) where
+  -- a 0, and a digit behind it
+  pub decimal_zero : (s t : List ℕ) → first_digit s ≡ Some (d, t) → d ≡ 0 → begins_digit t ≡ true → unreadable ≡ read_value in_decimal s
   unfolding read_value read_decimal
-  decimal_none h = rw h
+  decimal_zero [] t h z k = refl
+  decimal_zero (c ∷ s) t h z k =
+      let i : is_digit c ≡ true = found_if_some _ _ _ _ _ h in
+      let e : digit_of c ≡ d = found_if_number _ _ _ _ _ h in
+      let f : s ≡ t = found_if_left _ _ _ _ _ h in
+      let low : 48 ≤ c = is_digit_low c i in
+      rw (i, eq-eqb c 48 (omega arith), f, k) refl
 
-  pub decimal_zero : begins_digit s ≡ true → leading_zero s ≡ true → unreadable ≡ read_value in_decimal s
+  -- no 0, or no digit behind it
+  pub decimal_digits : (s t : List ℕ) → first_digit s ≡ Some (d, t) → (d ≡ 0 → begins_digit t ≡ false) → read_digits 0 s ≡ read_value in_decimal s
   unfolding read_value read_decimal
-  decimal_zero h k = rw (h, k)
+  decimal_digits [] t h z = absurd (nothing (d, t) h)
+  decimal_digits (c ∷ s) t h z =
+      let i : is_digit c ≡ true = found_if_some _ _ _ _ _ h in
+      let e : digit_of c ≡ d = found_if_number _ _ _ _ _ h in
+      let f : s ≡ t = found_if_left _ _ _ _ _ h in
+      let low : 48 ≤ c = is_digit_low c i in
+      elim (dec_lt 48 c) [
+        | yes k ↦ rw (i, ne_eqb c 48 (λ m. omega arith)) refl
+        | no k ↦ rw (i, eq-eqb c 48 (omega arith), f, z (omega arith)) refl
+      ]
 
-  pub decimal_digits : begins_digit s ≡ true → leading_zero s ≡ false → read_digits 0 s ≡ read_value in_decimal s
-  unfolding read_value read_decimal
-  decimal_digits h k = rw (h, k)
+-- ---- hexadecimal digits
 
-module _ (s : List ℕ) (at : ℕ) where
-  pub hex_far : length s ≤ at → begins_hex_digit (drop at s) ≡ false
-  hex_far h = rw (drop_of_length-le s {i = at} h)
-
-  pub hex_at : at < length s → begins_hex_digit (drop at s) ≡ is_hex_digit (get_or s at 0)
-  hex_at h = rw (drop-cons s at 0 h)
-
-  pub hex_inside : begins_hex_digit (drop at s) ≡ true → at < length s
-  hex_inside e = elim (dec_lt at (length s)) [
-    | yes h ↦ h
-    | no h ↦ absurd (false≢true (sym (hex_far (omega arith)) ∙ e))
-  ]
-
-module _ (s : List ℕ) (at left n : ℕ) (k : 0 < left) where
-  one_more : left ≡ suc (left - 1)
-  one_more = omega arith
-
-  pub hex_other : begins_hex_digit (drop at s) ≡ false → read_hex left n (drop at s) ≡ unreadable
+module _ (k left n : ℕ) where
+  pub hex_more : (d : ℕ) (s t : List ℕ) → left ≡ suc k → first_hex_digit s ≡ Some (d, t) → read_hex left n s ≡ read_hex k (n * 16 + d) t
   unfolding read_hex
-  hex_other e = ap (λ (j : ℕ). read_hex j n (drop at s)) one_more ∙ go (drop at s) e
-    where
-      go : (t : List ℕ) → begins_hex_digit t ≡ false → read_hex (suc (left - 1)) n t ≡ unreadable
-      go [] e = refl
-      go (c ∷ t) e = rw e
+  hex_more d [] t l h = absurd (nothing (d, t) h)
+  hex_more d (c ∷ s) t l h =
+      let e : hex_digit_of c ≡ d = found_if_number _ _ _ _ _ h in
+      let f : s ≡ t = found_if_left _ _ _ _ _ h in
+      rw (l, found_if_some _ _ _ _ _ h) (λ i. read_hex k (n * 16 + e i) (f i))
 
-  pub hex_more : begins_hex_digit (drop at s) ≡ true → read_hex left n (drop at s) ≡ read_hex (left - 1) (hex_grown n (get_or s at 0)) (drop (at + 1) s)
-  unfolding read_hex
-  hex_more e = ap (λ (j : ℕ). read_hex j n (drop at s)) one_more ∙ rw (drop-cons s at 0 (hex_inside s at e), sym (hex_at s at (hex_inside s at e)) ∙ e, add-one)
+begins_hex_none : (s : List ℕ) → first_hex_digit s ≡ None → begins_hex_digit s ≡ false
+begins_hex_none [] h = refl
+begins_hex_none (c ∷ s) h = found_if_none _ _ _ h
 
-pub hex_end : (s : List ℕ) (left n : ℕ) → left ≤ 0 → read_hex left n s ≡ part n s
+pub hex_stops : (s : List ℕ) (left n : ℕ) → 0 < left → begins_hex_digit s ≡ false → read_hex left n s ≡ unreadable
 unfolding read_hex
-hex_end s ℕ.zero n h = refl
-hex_end s (suc left) n h = absurd (omega arith)
+hex_stops s ℕ.zero n l h = absurd (omega arith)
+hex_stops [] (suc k) n l h = refl
+hex_stops (c ∷ s) (suc k) n l h = rw h
+
+pub hex_other : (left n : ℕ) (s : List ℕ) → 0 < left → first_hex_digit s ≡ None → read_hex left n s ≡ unreadable
+hex_other left n s l h = hex_stops s left n l (begins_hex_none s h)
+
+pub hex_end : (left n : ℕ) (s : List ℕ) → left ≡ 0 → read_hex left n s ≡ part n s
+unfolding read_hex
+hex_end left n s h = rw h
+
+pub hex_small : (d : ℕ) (s t : List ℕ) → first_hex_digit s ≡ Some (d, t) → d < 16
+hex_small d [] t h = absurd (nothing (d, t) h)
+hex_small d (c ∷ s) t h =
+    let e : hex_digit_of c ≡ d = found_if_number _ _ _ _ _ h in
+    let g : hex_digit_of c < 16 = hex_digit_bound c (found_if_some _ _ _ _ _ h) in
+    subst (λ (m : ℕ). m < 16) e g
 
 -- one digit more after n of them; with those of an update, the number is an update
 pub hex_grown_lem : (done n d : ℕ) → n < 16 ^ done → d < 16 → n * 16 + d < 16 ^ (done + 1)

@@ -4,7 +4,8 @@ pub mod Cases
 pub mod Counts
 pub mod DecimalLaws
 pub mod Digits
-pub mod Follows
+pub mod Entries
+pub mod Fronts
 pub mod LineTexts
 pub mod Parts
 pub mod ReadsText

@@ -2,16 +2,19 @@
 use Prim.Native.Nat.{ℕ, suc}
 use native.Mathlib.Omega.{arith}
 use native.Mathlib.Decide.{dec_lt}
-use borrow.Author.Tests.{le-leb, lt-leb}
+use borrow.Author.Tests.{ne_eqb}
 use mathlib.Core.Bool.{Bool, true, false, ◌&&◌, and_assoc, cond, false≢true, true≢false}
 use mathlib.Core.List.{List, [], ◌∷◌, ◌++◌}
 use mathlib.Core.Path.{◌≡◌, refl, sym, ◌∙◌, ap}
 use lib.Dec.{eqb, leb}
 use lib.ListN.{length, drop, drop_of_length-le, length-append}
 use lib.Seq.{drop-cons, drop-drop}
+use Rattle.std.proofs.Common.{Bor, Option, None, Some}
+use Rattle.std.specs.Bool.{◌==◌}
+use Rattle.std.specs.Option.{MatchOption}
 use Rattle.text_ascii.specs.Bytes.{begins}
 use Rattle.text_entry.specs.Fields.{Form, in_hex, in_hex_or, in_words, keyed, optional}
-use Rattle.text_entry.specs.Seen.{word_after}
+use Rattle.text_entry.specs.Seen.{seen}
 use Rattle.text_entry.specs.Read.{Part, part, unreadable, after, or_part, word_or, read_hex, read_word, read_value, value_after, keyed_value, without, read_in, is_end}
 
 module _ (w : List ℕ) (p : Part) where
@@ -59,55 +62,10 @@ value_stopped f p h = rw h
 pub value_there : (f : Form) (p : Part) → p.readable ≡ true → read_value f p.rest ≡ value_after f p
 value_there f p h = rw h
 
--- the word is there exactly if it stands behind the part
-module _ (w : List ℕ) (n : ℕ) (p other : Part) where
-  pub word_none : (after w p).readable ≡ false → other ≡ word_after w n p other
-  unfolding after
-  word_none h = go p.readable (begins p.rest w) h
-    where
-      go : (a b : Bool) → (cond (a && b) (part 0 (drop (length w) p.rest)) unreadable).readable ≡ false
-          → other ≡ cond a (cond b (part n (drop (length w) p.rest)) other) other
-      go true true h = absurd (true≢false h)
-      go true false h = refl
-      go false b h = refl
-
-  pub word_there : (after w p).readable ≡ true → part n (after w p).rest ≡ word_after w n p other
-  unfolding after
-  word_there h = go p.readable (begins p.rest w) h
-    where
-      go : (a b : Bool) → (cond (a && b) (part 0 (drop (length w) p.rest)) unreadable).readable ≡ true
-          → part n (cond (a && b) (part 0 (drop (length w) p.rest)) unreadable).rest ≡ cond a (cond b (part n (drop (length w) p.rest)) other) other
-      go true true h = refl
-      go true false h = absurd (false≢true h)
-      go false b h = absurd (false≢true h)
-
--- a line ends at a place that is not before its end
-pub ends_there : (s : List ℕ) (at : ℕ) → leb (length s) at ≡ is_end (drop at s)
-ends_there s at = elim (dec_lt at (length s)) [
-  | yes h ↦ lt-leb (length s) at h ∙ rw (drop-cons s at 0 h)
-  | no h ↦ le-leb (length s) at (omega arith) ∙ rw (drop_of_length-le s {i = at} (omega arith))
-]
-
--- the words, tried one after the other
-abbrev pub words_after : ℕ → List (List ℕ) → Part → Part
-words_after n [] p = unreadable
-words_after n (w ∷ ws) p = word_after w n p (words_after (suc n) ws p)
-
-pub words_after_lem : (n : ℕ) (ws : List (List ℕ)) (p : Part) → words_after n ws p ≡ cond p.readable (read_word n ws p.rest) unreadable
-unfolding read_word
-words_after_lem n [] p = elim p.readable as (λ b. unreadable ≡ cond b unreadable unreadable) [ true ↦ refl | false ↦ refl ]
-words_after_lem n (w ∷ ws) p =
-    ap (word_after w n p) (words_after_lem (suc n) ws p) ∙ go p.readable
-  where
-    go : (b : Bool)
-        → cond b (word_or w n p.rest (cond b (read_word (suc n) ws p.rest) unreadable)) (cond b (read_word (suc n) ws p.rest) unreadable)
-        ≡ cond b (word_or w n p.rest (read_word (suc n) ws p.rest)) unreadable
-    go true = refl
-    go false = refl
-
-pub words_value : (ws : List (List ℕ)) (p : Part) → words_after 0 ws p ≡ value_after (in_words ws) p
-unfolding read_value
-words_value ws p = words_after_lem 0 ws p
+-- whether a line ends there
+pub ends_is : (s : List ℕ) → (length s == 0) ≡ is_end s
+ends_is [] = refl
+ends_is (c ∷ s) = ne_eqb (length (c ∷ s)) 0 (λ e. omega arith)
 
 -- so many digits, or else as many others
 module _ (k j : ℕ) (p : Part) where
@@ -136,3 +94,43 @@ module _ (n : ℕ) (key : List ℕ) (form : Form) (p : Part) where
 
   pub field_absent : (after (keyed key) p).readable ≡ false → without n p ≡ read_in (optional n) key form p
   field_absent h = rw h
+
+-- what does not read at one word does not read at it and more
+pub unread_then : (v w : List ℕ) (p : Part) → unreadable ≡ after v p → unreadable ≡ after (v ++ w) p
+unfolding after
+unread_then v w p h = ap (after w) h ∙ after_both v w p
+
+-- so many digits, or else as many others
+pub or_hex : (k j : ℕ) (s : List ℕ) (o r : Option (ℕ × Bor (List ℕ))) {other : Type 0} → seen o ≡ read_value (in_hex k) s → MatchOption o other (λ x. r ≡ Some x)
+    → (other → seen r ≡ read_value (in_hex j) s) → seen r ≡ read_value (in_hex_or k j) s
+unfolding read_value
+or_hex k j s None r h m f = let e : read_hex k 0 s ≡ unreadable = sym h in rw e (f m)
+or_hex k j s (Some x) r h m f = rw (sym h, m)
+
+-- ---- words
+
+module _ (n : ℕ) (w : List ℕ) (ws : List (List ℕ)) (s : List ℕ) where
+  pub word_first : {t : List ℕ} → part 0 t ≡ after w (part 0 s) → part n t ≡ read_word n (w ∷ ws) s
+  unfolding read_word after
+  word_first {t} h = go (begins s w) h
+    where
+      go : (b : Bool) → part 0 t ≡ cond b (part 0 (drop (length w) s)) unreadable → part n t ≡ cond b (part n (drop (length w) s)) (read_word (suc n) ws s)
+      go true h = ap (λ (p : Part). part n p.rest) h
+      go false h = absurd (true≢false (ap (λ (p : Part). p.readable) h))
+
+  pub word_later : unreadable ≡ after w (part 0 s) → read_word (suc n) ws s ≡ read_word n (w ∷ ws) s
+  unfolding read_word after
+  word_later h = go (begins s w) h
+    where
+      go : (b : Bool) → unreadable ≡ cond b (part 0 (drop (length w) s)) unreadable → read_word (suc n) ws s ≡ cond b (part n (drop (length w) s)) (read_word (suc n) ws s)
+      go true h = absurd (false≢true (ap (λ (p : Part). p.readable) h))
+      go false h = refl
+
+pub word_none : (n : ℕ) (s : List ℕ) → unreadable ≡ read_word n [] s
+unfolding read_word
+word_none n s = refl
+
+-- one of these words behind its key
+pub words_behind : (key : List ℕ) (ws : List (List ℕ)) (s t : List ℕ) → part 0 t ≡ after (keyed key) (part 0 s) → read_word 0 ws t ≡ keyed_value key (in_words ws) (part 0 s)
+unfolding read_value
+words_behind key ws s t h = ap (value_after (in_words ws)) h

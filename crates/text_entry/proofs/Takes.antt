@@ -8,20 +8,21 @@ use Rattle.log_entry.specs.declared.Entry.{Entry}
 use Rattle.log_entry.specs.Entry.{take_entry}
 use Rattle.text_ascii.specs.Bytes.{ascii}
 use Rattle.text_ascii.proofs.Words.{clash}
-use Rattle.text_entry.specs.declared.Reading.TheVariants.{Outside}
+use Rattle.std.proofs.Common.{Err}
+use Rattle.text_entry.specs.declared.Unread.TheVariants.{Outside}
 use Rattle.text_entry.specs.Entry.{HasTurnIn, reading_of, take_of, take_values, turn_in}
 use Rattle.text_entry.specs.Fields.{Field, Kind, Presence, kind}
 use Rattle.text_entry.specs.Kinds.{proc, store, take_kind, take_with, turn, turn_presence}
 use Rattle.text_entry.specs.Table.{any_beyond, at}
 use Rattle.text_entry.proofs.Counts.{at_counts}
-use Rattle.text_entry.proofs.DecimalLaws.{capped, capped_same}
-use Rattle.text_entry.proofs.Follows.{counts}
+use Rattle.text_entry.proofs.DecimalLaws.{capped_all, capped_same}
+use Rattle.text_entry.proofs.Fronts.{counts}
 use Rattle.text_entry.proofs.LineTexts.{LineIs, WritableAll, one_text_all}
 use Rattle.text_entry.proofs.TextReads.{OtherKeys, SoundAll, clash_all}
 use Rattle.text_entry.proofs.Turns.{known_turn, turn_writable, which_turn}
 use Rattle.text_entry.proofs.Votes.{outside_by}
 
-take_outside : (p t s : ℕ) → any_beyond (p ∷ t ∷ s ∷ []) ≡ true → reading_of (some (take_entry p t s)) ≡ Outside
+take_outside : (p t s : ℕ) → any_beyond (p ∷ t ∷ s ∷ []) ≡ true → reading_of (some (take_entry p t s)) ≡ Err Outside
 take_outside p t s h = outside_by (take_entry p t s) h
 
 -- only the counts of a take's decimals matter
@@ -29,8 +30,8 @@ pub take_counts : (vs : List ℕ) → reading_of (some (take_of vs)) ≡ reading
 take_counts vs =
     let k = at_counts take_kind.fields vs in
     let ns = at vs 0 ∷ at vs 1 ∷ at vs 2 ∷ [] in
-    let ms = capped ns in
-    capped_same (λ (ks : List ℕ). reading_of (some (take_entry (at ks 0) (at ks 1) (at ks 2)))) Outside ns
+    let ms = capped_all ns in
+    capped_same (λ (ks : List ℕ). reading_of (some (take_entry (at ks 0) (at ks 1) (at ks 2)))) (Err Outside) ns
     (take_outside (at ns 0) (at ns 1) (at ns 2)) (take_outside (at ms 0) (at ms 1) (at ms 2))
     ∙ (λ i. reading_of (some (take_entry (sym (k 0) i) (sym (k 1) i) (sym (k 2) i))))
 

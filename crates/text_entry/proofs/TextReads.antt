@@ -20,7 +20,7 @@ use Rattle.text_ascii.proofs.Hexes.{hex_digit_is, hex_digit_number}
 use Rattle.text_ascii.proofs.Words.{begins_word, clash, clash_begins, both_l, both_r}
 use Rattle.text_entry.specs.Fields.{Form, in_decimal, in_hex, in_hex_or, in_words, Presence, always, optional, absent, Field, keyed, key_text, Kind, name_text}
 use Rattle.text_entry.specs.Read.{Part, part, unreadable, read_digits, read_decimal, read_hex, read_word, or_part, read_value, after, value_after, keyed_value, without, read_in, read_field, is_end, with, read_fields, read_kind}
-use Rattle.text_entry.proofs.Digits.{hex_other}
+use Rattle.text_entry.proofs.Digits.{hex_stops}
 use Rattle.text_entry.proofs.LineTexts.{FieldsAre, InDigits, IsFieldIn, IsValue, Lacks, LineIs, Stands}
 
 -- ---- decimals
@@ -153,7 +153,7 @@ too_few k j v t r l h e =
     ap (λ (u : List ℕ). read_hex k 0 (u ++ r)) h.1
     ∙ ap (λ (n : ℕ). read_hex n 0 (hex j v ++ r)) m
     ∙ hex_reads j (k - j) 0 v r h.0
-    ∙ hex_other r 0 (k - j) (0 * 16 ^ j + v) (omega arith) e
+    ∙ hex_stops r (k - j) (0 * 16 ^ j + v) (omega arith) e
 
 no_digit : (c : ℕ) → is_hex_digit c ≡ false → is_digit c ≡ false
 no_digit c h = go (is_digit c) h
@@ -273,13 +273,13 @@ unfolding after
 other_kind k other vs s h l = rw (ap (λ (r : List ℕ). begins r (name_text k)) l.text ∙ clash_begins (name_text other) (name_text k) l.rest h)
 
 -- nothing reads behind what does not read
-stopped_in : (p : Presence) (key : List ℕ) (form : Form) (q : Part) → q.readable ≡ false → (read_in p key form q).readable ≡ false
+pub stopped_in : (p : Presence) (key : List ℕ) (form : Form) (q : Part) → q.readable ≡ false → (read_in p key form q).readable ≡ false
 unfolding after
 stopped_in always key form q h = rw h
 stopped_in (optional n) key form q h = rw h
 stopped_in (absent n) key form q h = h
 
-stopped : (fs : List Field) (p : Part) → p.readable ≡ false → read_fields fs p ≡ none
+pub stopped : (fs : List Field) (p : Part) → p.readable ≡ false → read_fields fs p ≡ none
 unfolding read_fields
 stopped [] p h = rw h
 stopped (f ∷ fs) p h = ap (with (read_field f p).value) (stopped fs (read_field f p) (stopped_in f.presence f.key f.form p h))

@@ -1,7 +1,7 @@
 -- The values of a vote's line and the vote that they make.
 use Prim.Native.Nat.{ℕ, suc, ◌<◌, ◌^◌}
 use native.Mathlib.Omega.{arith}
-use mathlib.Core.Bool.{Bool, true, false}
+use mathlib.Core.Bool.{Bool, true, false, true≢false}
 use mathlib.Core.List.{List, [], ◌∷◌}
 use mathlib.Core.Logic.{◌⊎◌, inl, inr}
 use mathlib.Core.Option.{some}
@@ -10,30 +10,36 @@ use lib.Dec.{eqb}
 use Rattle.text_ascii.specs.Bytes.{ascii}
 use Rattle.text_ascii.proofs.Words.{clash}
 use Rattle.log_entry.specs.declared.Entry.{Entry}
-use Rattle.log_entry.specs.Entry.{vote_entry}
+use Rattle.log_entry.specs.declared.Request.{Request}
+use Rattle.log_entry.specs.declared.Request.TheVariants.{Take, Vote}
+use Rattle.log_entry.specs.declared.Say.{Say}
+use Rattle.log_entry.specs.declared.Say.TheVariants.{Abort, Commit}
+use Rattle.log_entry.specs.Entry.{say_of as said_of}
+use Rattle.log_entry.specs.Entry.{in_is_take, is_commit, is_take, list_of, says_commit, update_in, vote_entry}
 use Rattle.log_entry.specs.Limits.{lists}
 use Rattle.text_ascii.specs.Hex.{earlier_digits, update_digits}
-use Rattle.text_entry.specs.declared.Reading.TheVariants.{Read, Outside}
+use Rattle.std.proofs.Common.{Ok, Err}
+use Rattle.text_entry.specs.declared.Unread.TheVariants.{Outside}
 use Rattle.text_entry.specs.Entry.{HasTurnIn, Known, Way, beyond, reading_of, say_of, turn_in, vote_of, vote_values}
 use Rattle.text_entry.specs.Fields.{Field, Form, Kind, Presence, in_hex, kind}
 use Rattle.text_entry.specs.Kinds.{by, list, proc, say, store, turn, turn_presence, tx, upd, update_form, vote_kind, vote_with}
 use Rattle.text_entry.specs.Table.{any_beyond, at}
 use Rattle.text_entry.proofs.Counts.{at_counts, beyond_before}
-use Rattle.text_entry.proofs.DecimalLaws.{capped, capped_same}
-use Rattle.text_entry.proofs.Follows.{counts}
+use Rattle.text_entry.proofs.DecimalLaws.{capped_all, capped_same}
+use Rattle.text_entry.proofs.Fronts.{counts}
 use Rattle.text_entry.proofs.Table.{elements}
 use Rattle.text_entry.proofs.LineTexts.{LineIs, WritableAll, in_first, in_second, one_text_all, which_digits}
 use Rattle.text_entry.proofs.TextReads.{OtherKeys, SoundAll, apart, clash_all}
 use Rattle.text_entry.proofs.Turns.{known_turn, turn_writable, which_turn}
 
-pub outside_by : (e : Entry) → beyond e ≡ true → reading_of (some e) ≡ Outside
+pub outside_by : (e : Entry) → beyond e ≡ true → reading_of (some e) ≡ Err Outside
 outside_by e h = rw h
 
-pub read_by : (e : Entry) → beyond e ≡ false → reading_of (some e) ≡ Read e
+pub read_by : (e : Entry) → beyond e ≡ false → reading_of (some e) ≡ Ok e
 read_by e h = rw h
 
 -- only the counts of a vote's decimals matter
-vote_outside : (p t b s x l : ℕ) (c : Bool) (u : ℕ) → any_beyond (p ∷ t ∷ b ∷ s ∷ x ∷ []) ≡ true → reading_of (some (vote_entry p t b s x l c u)) ≡ Outside
+vote_outside : (p t b s x l : ℕ) (c : Bool) (u : ℕ) → any_beyond (p ∷ t ∷ b ∷ s ∷ x ∷ []) ≡ true → reading_of (some (vote_entry p t b s x l c u)) ≡ Err Outside
 vote_outside p t b s x l c u h = outside_by (vote_entry p t b s x l c u) (beyond_before (p ∷ t ∷ b ∷ s ∷ x ∷ []) (l ∷ []) h)
 
 pub vote_counts : (vs : List ℕ) → reading_of (some (vote_of vs)) ≡ reading_of (some (vote_of (counts vote_kind.fields vs)))
@@ -43,23 +49,19 @@ vote_counts vs =
     let c = eqb (at vs 6) 1 in
     let u = at vs 7 in
     let ns = at vs 0 ∷ at vs 1 ∷ at vs 2 ∷ at vs 3 ∷ at vs 4 ∷ [] in
-    let ms = capped ns in
-    capped_same (λ (ks : List ℕ). reading_of (some (vote_entry (at ks 0) (at ks 1) (at ks 2) (at ks 3) (at ks 4) l c u))) Outside ns
+    let ms = capped_all ns in
+    capped_same (λ (ks : List ℕ). reading_of (some (vote_entry (at ks 0) (at ks 1) (at ks 2) (at ks 3) (at ks 4) l c u))) (Err Outside) ns
     (vote_outside (at ns 0) (at ns 1) (at ns 2) (at ns 3) (at ns 4) l c u) (vote_outside (at ms 0) (at ms 1) (at ms 2) (at ms 3) (at ms 4) l c u)
     ∙ (λ i. reading_of (some (vote_entry (sym (k 0) i) (sym (k 1) i) (sym (k 2) i) (sym (k 3) i) (sym (k 4) i) (sym (k 5) i) (eqb (sym (k 6) i) 1) (sym (k 7) i))))
-
-said_back : (c : Bool) → eqb (say_of c) 1 ≡ c
-said_back true = refl
-said_back false = refl
 
 say_fits : (c : Bool) → say_of c < 2
 say_fits true = omega arith
 say_fits false = omega arith
 
 -- a vote whose turn, list and update have their texts has values with texts, and is made of them
-pub vote_writable : (w : Way) (e : Entry) → HasTurnIn w.shown e.turn → e.participants < lists → e.update < 16 ^ w.digits
+pub vote_writable : (w : Way) (e : Entry) → HasTurnIn w.shown e.turn → list_of e < lists → update_in e < 16 ^ w.digits
     → WritableAll (vote_with (turn_in w.shown) (in_hex w.digits)).fields (vote_values e)
-vote_writable w e t h k = (tt, (turn_writable w.shown e.turn t, (tt, (tt, (tt, (h, (say_fits e.commit, (k, tt))))))))
+vote_writable w e t h k = (tt, (turn_writable w.shown e.turn t, (tt, (tt, (tt, (h, (say_fits (says_commit e), (k, tt))))))))
 
 -- a vote's line, and behind its update these fields
 module _ (gs : List Field) where
@@ -109,20 +111,21 @@ module _ (gs : List Field) (vs s : List ℕ) where
       go shown (inl k) = (record { shown = shown; digits = update_digits }, inl refl, k)
       go shown (inr k) = (record { shown = shown; digits = earlier_digits }, inr refl, k)
 
-pub vote_back : (e : Entry) → e.take ≡ false → vote_of (vote_values e) ≡ e
-vote_back e h = λ i. record {
-  take = sym h i;
-  process = e.process;
-  turn = e.turn;
-  by = e.by;
-  store = e.store;
-  tx = e.tx;
-  participants = e.participants;
-  commit = said_back e.commit i;
-  update = e.update;
-}
+pub vote_back : (e : Entry) → is_take e ≡ false → vote_of (vote_values e) ≡ e
+vote_back e h = go e.request h
+  where
+    go : (r : Request) → in_is_take r ≡ false
+        → vote_of (vote_values (record { process = e.process; turn = e.turn; store = e.store; request = r })) ≡ record { process = e.process; turn = e.turn; store = e.store; request = r }
+    go Take h = absurd (true≢false h)
+    go (Vote b x l Abort u) h = refl
+    go (Vote b x l Commit u) h = refl
 
-said_number : (v : ℕ) → v < 2 → v ≡ say_of (eqb v 1)
+-- what a vote says, by the index of its word
+pub said_back : (y : Say) → said_of (eqb (say_of (is_commit y)) 1) ≡ y
+said_back Abort = refl
+said_back Commit = refl
+
+said_number : (v : ℕ) → v < 2 → v ≡ say_of (is_commit (said_of (eqb v 1)))
 said_number ℕ.zero h = refl
 said_number (suc ℕ.zero) h = refl
 said_number (suc (suc v)) h = absurd (omega arith)

@@ -1,31 +1,20 @@
--- Words of a line, compared byte by byte.
-use Prim.Native.Nat.{ℕ, ◌≤◌, ◌<◌, ◌+◌}
-use native.Mathlib.Numerals.{add-one}
-use mathlib.Core.Bool.{true, false}
-use mathlib.Core.List.{List, [], ◌∷◌}
-use mathlib.Core.Path.{◌≡◌, refl}
-use lib.ListN.{length, drop, get_or, drop_of_length-le}
-use lib.Seq.{drop-cons}
-use borrow.Author.Tests.{eq-eqb, ne_eqb}
+-- Words of a line.
+use Rattle.std.proofs.Common.{ℕ, Bool, true, false, ◌&&◌, cond, nat_eq, ◌+◌, List, [], ◌∷◌, ◌++◌, length, take, drop, ◌≡◌, refl, sym, ap, ◌∙◌, None, Some, Option, Bor}
+use Rattle.std.specs.Cmp.Lexicographic.{pointwise}
+use Rattle.std.specs.Option.{MatchOption}
 use Rattle.text_ascii.specs.Bytes.{begins}
+use Rattle.text_entry.specs.Read.{after, part}
+use Rattle.text_entry.specs.Seen.{left}
 
-module _ (s w : List ℕ) (at i : ℕ) (k : i < length w) where
-  pub begins_ends : length s ≤ at → begins (drop at s) (drop i w) ≡ false
-  unfolding begins
-  begins_ends h = rw (drop-cons w i 0 k, drop_of_length-le s {i = at} h)
-
-  pub begins_differs : at < length s → (get_or s at 0 ≡ get_or w i 0 → ⊥) → begins (drop at s) (drop i w) ≡ false
-  unfolding begins
-  begins_differs h e = rw (drop-cons s at 0 h, drop-cons w i 0 k, ne_eqb (get_or s at 0) (get_or w i 0) e)
-
-  pub begins_goes_on : at < length s → get_or s at 0 ≡ get_or w i 0 → begins (drop at s) (drop i w) ≡ begins (drop (at + 1) s) (drop (i + 1) w)
-  unfolding begins
-  begins_goes_on h e = rw (drop-cons s at 0 h, drop-cons w i 0 k, eq-eqb (get_or s at 0) (get_or w i 0) e, add-one, add-one)
-
-begins_nothing : (s : List ℕ) → begins s [] ≡ true
+-- the library's words for a prefix
+begins_lem : (s w : List ℕ) → begins s w ≡ pointwise nat_eq (take (length w) s) w
 unfolding begins
-begins_nothing [] = refl
-begins_nothing (c ∷ s) = refl
+begins_lem s [] = refl
+begins_lem [] (w ∷ ws) = refl
+begins_lem (c ∷ s) (w ∷ ws) = ap (λ b. nat_eq c w && b) (begins_lem s ws)
 
-pub begins_whole : (s w : List ℕ) (i : ℕ) → length w ≤ i → begins s (drop i w) ≡ true
-begins_whole s w i h = rw (drop_of_length-le w {i = i} h) (begins_nothing s)
+-- what `strip_prefix` answers is what the definition reads
+pub stripped : (s w : List ℕ) (r : Option (Bor (List ℕ))) → MatchOption r (pointwise nat_eq (take (length w) s) w ≡ false) (λ x. (pointwise nat_eq (take (length w) s) w ≡ true) × (x.now ≡ drop (length w) s) × (length x.now + length w ≡ length s)) → left r ≡ after w (part 0 s)
+unfolding after
+stripped s w None h = rw (begins_lem s w, h)
+stripped s w (Some x) h = rw (begins_lem s w, h.0, h.1)

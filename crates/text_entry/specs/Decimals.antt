@@ -1,9 +1,11 @@
--- Lines whose fields are up to three decimals.
-use Rattle.std.specs.Prelude.{ℕ, true, false, cond, List, [], ◌∷◌}
-use Rattle.std.proofs.Math.Option.{Option, none, some}
-use Rattle.text_entry.specs.declared.decimals.Decimals.{Decimals}
+-- Lines whose fields are decimals.
+use Rattle.std.specs.Prelude.{ℕ, cond, List, [], ◌∷◌, Result, Ok, Err}
+use Rattle.std.specs.Borrow.{Bor}
+use Rattle.std.proofs.Math.Option.{Option}
+use Rattle.text_entry.specs.declared.Unread.{Unread}
+use Rattle.text_entry.specs.declared.Unread.TheVariants.{Unreadable, Outside}
 use Rattle.text_entry.specs.Fields.{Field, field, field_in, in_decimal, optional}
-use Rattle.text_entry.specs.Table.{any_beyond, at}
+use Rattle.text_entry.specs.Table.{any_beyond, answer_of, no_byte}
 
 abbrev pub decimal_field : List ℕ → Field
 decimal_field key = field key in_decimal
@@ -12,24 +14,15 @@ decimal_field key = field key in_decimal
 abbrev pub decimal_or : List ℕ → ℕ → Field
 decimal_or key n = field_in (optional n) key in_decimal
 
--- the first values of a line
-abbrev pub one : List ℕ → List ℕ
-one vs = at vs 0 ∷ []
+-- fields with decimals, of these keys
+abbrev pub decimal_fields : List (Bor (List ℕ)) → List Field
+decimal_fields [] = []
+decimal_fields (key ∷ keys) = decimal_field key.now ∷ decimal_fields keys
 
-abbrev pub two : List ℕ → List ℕ
-two vs = at vs 0 ∷ at vs 1 ∷ []
+-- a number that is to be a byte
+abbrev pub byte_of : ℕ → Result ℕ Unread
+byte_of n = cond (no_byte n) (Err Outside) (Ok n)
 
-abbrev pub three : List ℕ → List ℕ
-three vs = at vs 0 ∷ at vs 1 ∷ at vs 2 ∷ []
-
--- what the reader finds: whether the line reads, whether each decimal fits a byte, and the decimals
-abbrev pub decimals_of : Option (List ℕ) → Decimals
-decimals_of none = record { readable = false; fit = false; first = 0; second = 0; third = 0 }
-decimals_of (some vs) =
-    cond (any_beyond vs)
-    (record { readable = true; fit = false; first = 0; second = 0; third = 0 })
-    (record { readable = true; fit = true; first = at vs 0; second = at vs 1; third = at vs 2 })
-
--- the answer to a line of these decimals that stands for a
-abbrev pub answer_by : {A R : Type 0} → (A → R) → R → R → Decimals → A → R
-answer_by read outside unreadable d a = cond d.readable (cond d.fit (read a) outside) unreadable
+-- what the reader answers to a line of decimals: they are to be bytes
+abbrev pub bytes_of : Option (List ℕ) → Result (List ℕ) Unread
+bytes_of = answer_of any_beyond Ok (Err Outside) (Err Unreadable)

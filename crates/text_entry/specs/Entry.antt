@@ -1,12 +1,12 @@
 -- The line of an entry, as `plain` reads it: how it is written, and how it reads.
-use Rattle.std.specs.Prelude.{ℕ, ◌<◌, ◌^◌, Bool, true, false, cond, List, [], ◌∷◌, ◌⊎◌, ◌≡◌, eqb}
+use Rattle.std.specs.Prelude.{ℕ, ◌<◌, ◌^◌, Bool, true, false, cond, List, [], ◌∷◌, ◌⊎◌, ◌≡◌, eqb, Result, Ok, Err}
 use Rattle.std.proofs.Math.Option.{Option}
 use Rattle.log_entry.specs.declared.Entry.{Entry}
-use Rattle.log_entry.specs.Entry.{take_entry, vote_entry}
+use Rattle.log_entry.specs.Entry.{by_of, is_take, list_of, says_commit, take_entry, tx_of, update_in, vote_entry}
 use Rattle.log_entry.specs.Limits.{first_turn, lists}
 use Rattle.text_ascii.specs.Hex.{earlier_digits, update_digits}
-use Rattle.text_entry.specs.declared.Reading.{Reading}
-use Rattle.text_entry.specs.declared.Reading.TheVariants.{Read, Outside, Unreadable}
+use Rattle.text_entry.specs.declared.Unread.{Unread}
+use Rattle.text_entry.specs.declared.Unread.TheVariants.{Unreadable, Outside}
 use Rattle.text_entry.specs.Fields.{Presence, absent, always, in_hex, line_text}
 use Rattle.text_entry.specs.Kinds.{take_kind, take_with, vote_kind, vote_with}
 use Rattle.text_entry.specs.Table.{Reader, any_beyond, answer_of, at, read_first, reader}
@@ -20,7 +20,7 @@ abbrev pub take_values : Entry → List ℕ
 take_values e = e.process ∷ e.turn ∷ e.store ∷ []
 
 abbrev pub vote_values : Entry → List ℕ
-vote_values e = e.process ∷ e.turn ∷ e.by ∷ e.store ∷ e.tx ∷ e.participants ∷ say_of e.commit ∷ e.update ∷ []
+vote_values e = e.process ∷ e.turn ∷ by_of e ∷ e.store ∷ tx_of e ∷ list_of e ∷ say_of (says_commit e) ∷ update_in e ∷ []
 
 -- a way of writing an entry: whether its turn is shown, and how many digits its update has
 pub record Way : Type 0 where
@@ -48,7 +48,7 @@ HasTurnIn false t = t ≡ first_turn
 -- the line of an entry, written in this way; its numbers but for the update are of any size
 unfoldable pub text_in : Way → Entry → List ℕ
 text_in w e =
-    cond e.take
+    cond (is_take e)
     (line_text (take_with (turn_in w.shown)) (take_values e))
     (line_text (vote_with (turn_in w.shown) (in_hex w.digits)) (vote_values e))
 
@@ -57,7 +57,7 @@ text_in w e =
 abbrev pub HasTextIn : Way → Entry → Type 0
 HasTextIn w e =
     HasTurnIn w.shown e.turn
-    × ((e ≡ take_entry e.process e.turn e.store) ⊎ ((e.take ≡ false) × (e.participants < lists) × (e.update < 16 ^ w.digits)))
+    × ((e ≡ take_entry e.process e.turn e.store) ⊎ ((is_take e ≡ false) × (list_of e < lists) × (update_in e < 16 ^ w.digits)))
 
 abbrev pub text : Entry → List ℕ
 text e = text_in in_full e
@@ -81,16 +81,16 @@ read_entry s = read_first entry_readers s
 
 -- the numbers of an entry, but for its update, which may be any
 abbrev pub numbers : Entry → List ℕ
-numbers e = e.process ∷ e.turn ∷ e.by ∷ e.store ∷ e.tx ∷ e.participants ∷ []
+numbers e = e.process ∷ e.turn ∷ by_of e ∷ e.store ∷ tx_of e ∷ list_of e ∷ []
 
 -- one of them is beyond a byte
 abbrev pub beyond : Entry → Bool
 beyond e = any_beyond (numbers e)
 
-abbrev pub reading_of : Option Entry → Reading
-reading_of = answer_of beyond Read Outside Unreadable
+abbrev pub reading_of : Option Entry → Result Entry Unread
+reading_of = answer_of beyond Ok (Err Outside) (Err Unreadable)
 
--- what the reader answers: `Outside` if a number is beyond a byte; what else is outside its limits,
+-- what the reader answers: `Err Outside` if a number is beyond a byte; what else is outside its limits,
 -- the log refuses
-abbrev pub reading : List ℕ → Reading
+abbrev pub reading : List ℕ → Result Entry Unread
 reading s = reading_of (read_entry s)

@@ -1,61 +1,45 @@
-// Names and fields of a line, read one after the other.
-ghost use Rattle.std.specs.Prelude.{◌&&◌, ◌≡◌, drop};
+// Names and fields of a line, read one after the other. Each function answers what is left of the
+// line behind them, or nothing where they do not read.
+ghost use Rattle.std.specs.Prelude.{◌≡◌};
 ghost use Rattle.text_entry.specs.Decimals.{decimal_field, decimal_or};
 ghost use Rattle.text_entry.specs.Fields.{keyed, named as named_fields};
-ghost use Rattle.text_entry.specs.Read.{part, after, is_end, read_field};
-ghost use Rattle.text_entry.specs.Seen.{seen, capped};
+ghost use Rattle.text_entry.specs.Read.{after, part, read_field};
+ghost use Rattle.text_entry.specs.Seen.{capped, left, seen};
 
 use crate::value;
-use crate::value::{Number, Value};
+use crate::value::Number;
 
-// Where a line begins with a step's name.
-pub fn named(line: &[u8], name: &[u8]) -> Value
-    ensures { seen line.now result ≡ after (named_fields name.now) (part 0 line.now) }
+// A step's name, as a line begins with it.
+pub fn named<'a>(line: &'a [u8], name: &[u8]) -> Option<&'a [u8]>
+    ensures { left result ≡ after (named_fields name.now) (part 0 line.now) }
 {
-    let start = Value {
-        readable: true,
-        number: 0,
-        end: 0,
-    };
-    let step = value::after(line, start, b"do=");
-    value::after(line, step, name)
+    let step = value::after(line, b"do=")?;
+    value::after(step, name)
 }
 
-// After a value: a key.
-pub fn keyed(line: &[u8], before: Value, key: &[u8]) -> Value
-    ensures { seen line.now result ≡ after (keyed key.now) (seen line.now before) }
+// A key.
+pub fn keyed<'a>(rest: &'a [u8], key: &[u8]) -> Option<&'a [u8]>
+    ensures { left result ≡ after (keyed key.now) (part 0 rest.now) }
 {
-    let space = value::after(line, before, b" ");
-    let name = value::after(line, space, key);
-    value::after(line, name, b"=")
+    let space = value::after(rest, b" ")?;
+    let name = value::after(space, key)?;
+    value::after(name, b"=")
 }
 
-// After a value: a field with a decimal.
-pub fn decimal(line: &[u8], before: Value, key: &[u8]) -> Value
-    ensures { seen line.now result ≡ capped (read_field (decimal_field key.now) (seen line.now before)) }
+// A field with a decimal.
+pub fn decimal<'a>(rest: &'a [u8], key: &[u8]) -> Option<(Number, &'a [u8])>
+    ensures { seen result ≡ capped (read_field (decimal_field key.now) (part 0 rest.now)) }
 {
-    value::decimal(line, keyed(line, before, key))
+    let found = keyed(rest, key)?;
+    value::decimal(found)
 }
 
-// After a value: a field with a decimal that a line may be without, and the number that the line
-// then means.
-pub fn decimal_or(line: &[u8], before: Value, key: &[u8], absent: u8) -> Value
-    ensures { seen line.now result ≡ capped (read_field (decimal_or key.now absent) (seen line.now before)) }
+// A field with a decimal that a line may be without, and the number that the line then means.
+pub fn decimal_or<'a>(rest: &'a [u8], key: &[u8], absent: u8) -> Option<(Number, &'a [u8])>
+    ensures { seen result ≡ capped (read_field (decimal_or key.now absent) (part 0 rest.now)) }
 {
-    let found = keyed(line, before, key);
-    if found.readable {
-        return value::decimal(line, found);
+    match keyed(rest, key) {
+        Some(found) => value::decimal(found),
+        None => Some((Number::from(absent), rest)),
     }
-    Value {
-        readable: before.readable,
-        number: absent as Number,
-        end: before.end,
-    }
-}
-
-// Whether the line ends after the value.
-pub fn ends(line: &[u8], last: Value) -> bool
-    ensures { result ≡ (last.readable && is_end (drop last.end line.now)) }
-{
-    last.readable & (line.len() <= last.end)
 }

@@ -1,25 +1,12 @@
-use mathlib.Core.List.{[], ◌∷◌}
 use mathlib.Core.Path.{sym, ◌∙◌}
-use Rattle.text_entry.specs.declared.Reading.TheVariants.{Read, Outside, Unreadable}
-use Rattle.text_entry.specs.Entry.{beyond, read_entry, take_of, vote_of}
-use Rattle.text_entry.specs.Kinds.{take_kind, vote_kind}
-use Rattle.text_entry.specs.Read.{read_kind}
-use Rattle.text_entry.specs.Table.{made, read_first, reader}
-use Rattle.text_entry.proofs.Agreement.{distinct}
-use Rattle.text_entry.proofs.Table.{first_decides, last_is, next_decides}
+use Rattle.text_entry.proofs.Entries.{read_none, read_to}
 use Rattle.text_entry.proofs.read_entry.Goals as goal
 
-pub returns-in-Read : goal.returns-in-Read
-unfolding read_entry read_first
-returns-in-Read c =
-    first_decides Read Outside Unreadable beyond distinct (made take_of (read_kind take_kind c.args.line.now)) (read_first (reader vote_kind vote_of ∷ []) c.args.line.now) _ (sym c.read_take.ensures ∙ c.in-Read.is) (distinct.read_unreadable _)
+pub returns-in_default : goal.returns-in_default
+returns-in_default c = read_none c.args.line.now c.entry_parts.result c.entry_parts.ensures c.in_default.is
 
-pub returns-in-Outside : goal.returns-in-Outside
-unfolding read_entry read_first
-returns-in-Outside c =
-    first_decides Read Outside Unreadable beyond distinct (made take_of (read_kind take_kind c.args.line.now)) (read_first (reader vote_kind vote_of ∷ []) c.args.line.now) _ (sym c.read_take.ensures ∙ c.in-Outside.is) distinct.outside_unreadable
+pub returns-then-not-is_empty : goal.returns-then-not-is_empty
+returns-then-not-is_empty c = read_to c.args.line.now c.entry_parts.result c.entry_parts.ensures (c.in-Some.parts, c.in-Some.rest) c.in-Some.is (sym c.if-not-is_empty.true ∙ c.is_empty.ensures)
 
-pub returns-in-Unreadable : goal.returns-in-Unreadable
-unfolding read_entry read_first
-returns-in-Unreadable c =
-    c.read_vote.ensures ∙ sym (last_is Read Outside Unreadable beyond (reader vote_kind vote_of) c.args.line.now) ∙ next_decides Read Outside Unreadable beyond distinct (made take_of (read_kind take_kind c.args.line.now)) (read_first (reader vote_kind vote_of ∷ []) c.args.line.now) (sym c.read_take.ensures ∙ c.in-Unreadable.is)
+pub returns : goal.returns
+returns c = c.entry.ensures ∙ read_to c.args.line.now c.entry_parts.result c.entry_parts.ensures (c.in-Some.parts, c.in-Some.rest) c.in-Some.is (sym c.if-not-is_empty.false ∙ c.is_empty.ensures)

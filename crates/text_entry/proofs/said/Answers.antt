@@ -1,16 +1,27 @@
 use mathlib.Core.List.{[], ◌∷◌}
-use mathlib.Core.Path.{◌∙◌, ap}
+use mathlib.Core.Path.{sym, ◌∙◌, ap}
 use Rattle.text_ascii.specs.Bytes.{ascii}
-use Rattle.text_entry.specs.Kinds.{say}
-use Rattle.text_entry.specs.Read.{value_after}
-use Rattle.text_entry.specs.Seen.{seen, word_after}
-use Rattle.text_entry.proofs.Parts.{words_value}
+use Rattle.text_entry.specs.Seen.{left}
+use Rattle.text_entry.proofs.Parts.{word_first, word_later, word_none, words_behind}
 use Rattle.text_entry.proofs.said.Goals as goal
+
+pub returns-in-Some : goal.returns-in-Some
+returns-in-Some c =
+    word_first 0 (ascii "abort") (ascii "commit" ∷ []) c.in_ok-word.word.now (sym (ap left c.in-Some.is) ∙ c.after.ensures)
+    ∙ words_behind (ascii "say") (ascii "abort" ∷ ascii "commit" ∷ []) c.args.rest.now c.in_ok-word.word.now (sym (ap left c.in_ok-word.was) ∙ c.keyed.ensures)
+
+pub returns-in_err-behind : goal.returns-in_err-behind
+returns-in_err-behind c =
+    rw c.from_residual-in_err-behind.ensures
+    (
+    word_none 2 c.in_ok-word.word.now
+    ∙ word_later 1 (ascii "commit") [] c.in_ok-word.word.now (sym (ap left c.in_err-behind.was) ∙ c.after-2.ensures)
+    ∙ word_later 0 (ascii "abort") (ascii "commit" ∷ []) c.in_ok-word.word.now (sym (ap left c.in_default.is) ∙ c.after.ensures)
+    ∙ words_behind (ascii "say") (ascii "abort" ∷ ascii "commit" ∷ []) c.args.rest.now c.in_ok-word.word.now (sym (ap left c.in_ok-word.was) ∙ c.keyed.ensures)
+    )
 
 pub returns : goal.returns
 returns c =
-    let p = seen c.args.line.now c.keyed-key.result in
-    c.word.ensures
-    ∙ ap (word_after (ascii "abort") 0 p) (c.word-commit.ensures ∙ ap (word_after (ascii "commit") 1 p) c.unreadable-other.ensures)
-    ∙ words_value (ascii "abort" ∷ ascii "commit" ∷ []) p
-    ∙ ap (value_after say.form) c.keyed-key.ensures
+    word_first 1 (ascii "commit") [] c.in_ok-word.word.now (sym (ap left c.in_ok-behind.was) ∙ c.after-2.ensures)
+    ∙ word_later 0 (ascii "abort") (ascii "commit" ∷ []) c.in_ok-word.word.now (sym (ap left c.in_default.is) ∙ c.after.ensures)
+    ∙ words_behind (ascii "say") (ascii "abort" ∷ ascii "commit" ∷ []) c.args.rest.now c.in_ok-word.word.now (sym (ap left c.in_ok-word.was) ∙ c.keyed.ensures)

@@ -1,11 +1,7 @@
-use Prim.Native.Nat.{◌≤◌, ◌<◌, ◌-◌, ◌^◌}
+use Prim.Native.Nat.{◌<◌, ◌-◌, ◌^◌}
 use mathlib.Core.Path.{◌≡◌}
-use lib.ListN.{drop}
 use Rattle.text_entry.specs.Read.{read_hex}
 use Rattle.text_entry.proofs.value.hex.Given as goal
 
-abbrev pub invariant-loop-count : goal.invariant-loop-count
-invariant-loop-count l = (l.count ≤ l.initial.count) × (l.number < 16 ^ (l.initial.count - l.count)) × (read_hex l.initial.count 0 (drop l.initial.i l.line) ≡ read_hex l.count l.number (drop l.i l.line))
-
-abbrev pub decreases-loop-count : goal.decreases-loop-count
-decreases-loop-count l = l.count
+abbrev pub invariant-loop : goal.invariant-loop
+invariant-loop l = (l.number < 16 ^ l.counter) × (read_hex l.fn.count 0 l.fn.rest ≡ read_hex (l.fn.count - l.counter) l.number l.rest)
