@@ -118,20 +118,18 @@ pub fn replay_line(page: &mut Page, store: u8, group: u8, tx: u8, update: Update
 fn tx(page: &mut Page, row: Row, tx: u8)
     ensures { Within longest_line page.old page.new (row_text row tx) }
 {
-    if !row.any_kept() {
-        return;
+    if row.any_kept() {
+        tx_line(page, tx, row.outcome(), row.group);
     }
-    tx_line(page, tx, row.outcome(), row.group);
 }
 
 // The line of a store with this holder, if it is held.
 fn holder(page: &mut Page, holder: u8, store: u8)
     ensures { Within longest_line page.old page.new (held_text holder store) }
 {
-    if holder == 0 {
-        return;
+    if holder != 0 {
+        holder_line(page, store, holder);
     }
-    holder_line(page, store, holder);
 }
 
 // A replay of the store.
