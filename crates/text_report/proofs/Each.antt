@@ -1,7 +1,7 @@
 -- Texts written by a loop, one of them a turn.
-use Prim.Native.Nat.{ℕ, ◌≤◌, ◌<◌, ◌+◌, ◌*◌}
+use Prim.Native.Nat.{ℕ, ◌≤◌, ◌<◌, ◌+◌, ◌-◌, ◌*◌}
 use mathlib.Core.List.{List, ◌++◌}
-use mathlib.Core.Path.{◌≡◌, ap, sym, ◌∙◌}
+use mathlib.Core.Path.{◌≡◌, ap, sym, subst, ◌∙◌}
 use native.Mathlib.Nat.{suc-mul}
 use native.Mathlib.Numerals.{add-one}
 use native.Mathlib.Omega.{arith}
@@ -35,6 +35,13 @@ module _ {n room : ℕ} {text : ℕ → List ℕ} {a : Page} where
     put_all h w =
         let e : i ≡ n = omega (arith, p.bound) in
         within_room (within_as (ap (each text) e) p.within) (rw e w)
+
+  -- where the texts are numbered from 1
+  pub put_next : {b c : Page} {t : List ℕ} (k : ℕ) → Put n room text a b (k - 1) → 1 ≤ k → k ≤ n → Within room b c t → t ≡ text (k - 1)
+      → Put n room text a c (k + 1 - 1)
+  put_next {b} {c} {t} k p g h w e =
+      let same : k - 1 + 1 ≡ k + 1 - 1 = omega arith in
+      subst (λ (i : ℕ). Put n room text a c i) same (put_more p (omega arith) w e)
 
 -- an element that counts
 pub counted : {A : Type 0} (text : A → List ℕ) (d : A) (xs : List A) (count i : ℕ) → i < count → text (get_or xs i d) ≡ text (get_or (take count xs) i d)
