@@ -5,12 +5,15 @@ use native.Mathlib.Numerals.{add-one}
 use native.Mathlib.Omega.{arith}
 use borrow.Author.Tests.{eq-eqb, ne_eqb}
 use lib.ListN.{get_or, length}
-use Rattle.log_votes.proofs.InList.{in_list}
+use Rattle.std.proofs.Math.Nat.{max-zero}
+use Rattle.std.proofs.Common.{Some}
+use Rattle.std.proofs.lemmas.List.{get_or_default, get_or_past}
 use Rattle.model_steps.specs.Limits.{ballots, instances}
 use Rattle.model_owners.specs.Owners.{owner}
 use Rattle.model_protocol.specs.declared.AcceptorSlot.{AcceptorSlot}
 use Rattle.model_protocol.specs.declared.World.{World}
-use Rattle.model_protocol.specs.World.{empty_slot}
+use Rattle.finish_list.specs.Found.{BallotIs}
+use Rattle.model_protocol.specs.World.{empty_slot, slot_of}
 use Rattle.model_finish.specs.Choice.{highest_promised, lowest_own, own_from}
 
 module _ (c b : ℕ) (h : b < ballots) where
@@ -31,16 +34,28 @@ pub none_own : (c b : ℕ) → ballots ≤ b → 0 ≡ lowest_own c b
 unfolding own_from
 none_own c b h = let e : ballots - b ≡ 0 = omega arith in rw e
 
+pub found_ballot : {x b : ℕ} → x ≡ b → 0 < x → BallotIs (Some x) b
+found_ballot e h = (e, rw e at h)
+
 -- ---- the promises of an instance
 
 pub none_promised : (w : World) (i : ℕ) → 0 ≡ highest_promised w i 0
 unfolding highest_promised
 none_promised w i = refl
 
-pub one_promised : (w : World) (i a h r : ℕ) (d : AcceptorSlot) → h ≡ highest_promised w i a → r ≡ max h (get_or w.slots (a * instances + i) d).promised
+pub one_promised : (w : World) (i a : ℕ) {h r : ℕ} {s : AcceptorSlot} (d : AcceptorSlot) → s ≡ get_or w.slots (a * instances + i) d → h ≡ highest_promised w i a → r ≡ max h s.promised
     → a * instances + i < length w.slots → r ≡ highest_promised w i (a + 1)
 unfolding highest_promised
-one_promised w i a h r d e k m =
+one_promised w i a {h} {r} {s} d f e k m =
     k
-    ∙ (λ n. max (e n) (in_list w.slots (a * instances + i) d empty_slot m n).promised)
+    ∙ (λ n. max (e n) ((f ∙ get_or_default w.slots (a * instances + i) d empty_slot m) n).promised)
+    ∙ ap (highest_promised w i) (sym (add-one a))
+
+-- an acceptor without a slot promised nothing
+pub no_slot : (w : World) (i a : ℕ) {h : ℕ} → h ≡ highest_promised w i a → length w.slots ≤ a * instances + i → h ≡ highest_promised w i (a + 1)
+unfolding highest_promised
+no_slot w i a {h} e m =
+    let none : slot_of w a i ≡ empty_slot = get_or_past w.slots (a * instances + i) empty_slot m in
+    sym (max-zero h)
+    ∙ (λ n. max (e n) (sym none n).promised)
     ∙ ap (highest_promised w i) (sym (add-one a))

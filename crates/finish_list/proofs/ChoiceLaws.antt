@@ -1,15 +1,17 @@
 -- The choice, coordinator by coordinator.
-use Prim.Native.Nat.{ℕ, suc, ◌+◌, ◌*◌, ◌-◌, ◌<◌, ◌≤◌, max, min}
-use mathlib.Core.Bool.{Bool, true, false, ◌&&◌, not, true≢false}
+use Prim.Native.Nat.{ℕ, suc, ◌+◌, ◌-◌, ◌<◌, ◌≤◌, max, min}
+use mathlib.Core.Bool.{Bool, true, false, ◌&&◌, not}
+use mathlib.Core.List.{List}
 use mathlib.Core.Path.{◌≡◌, refl, ap, sym, ◌∙◌}
 use native.Mathlib.Numerals.{add-one}
 use native.Mathlib.Omega.{arith}
-use borrow.Author.Tests.{eq-eqb, ltb-true, ne_eqb}
-use lib.Dec.{leb, ltb}
+use borrow.Author.Tests.{eq-eqb, ne_eqb}
+use lib.Dec.{leb}
 use lib.ListN.{length}
-use Rattle.log_entry.proofs.Tests.{and_left, and_right}
+use Rattle.std.proofs.Common.{Some}
+use Rattle.finish_list.specs.Found.{ChoiceIs}
 use Rattle.model_steps.specs.declared.Role.TheVariants.{Coord}
-use Rattle.model_steps.specs.Limits.{can_set_up, coordinators, instances, messages, most_acceptors}
+use Rattle.model_steps.specs.Limits.{can_set_up, coordinators, most_acceptors}
 use Rattle.model_protocol.specs.declared.Coordinator.{Coordinator}
 use Rattle.model_protocol.specs.declared.World.{World}
 use Rattle.model_protocol.specs.Send.{lacks_numbers}
@@ -18,50 +20,29 @@ use Rattle.model_finish.specs.declared.Choice.{Choice}
 use Rattle.model_finish.specs.Choice.{allows, ballot_of, choice_of, chosen, first_from, has_work, highest_promised, lowest_own}
 use Rattle.model_finish.specs.Such.{numbers_needed, quorum, up_acceptors, up_below}
 use Rattle.model_finish.proofs.SuchLaws.{few_acceptors, three_or_five}
-use Rattle.finish_list.specs.declared.acceptors.Up.{Up}
-use Rattle.finish_list.specs.Up.{Lists}
-use Rattle.finish_list.proofs.UpLaws.{counted}
 
 -- ---- what is asked for whichever the coordinator
 
-pub set_up_few : (n : ℕ) → can_set_up n ≡ true → n ≤ most_acceptors
+set_up_few : (n : ℕ) → can_set_up n ≡ true → n ≤ most_acceptors
 set_up_few n h = (few_acceptors n (three_or_five n h)).1
 
-pub not_set_up_lem : (s a b : Bool) → s ≡ false → false ≡ (s && a && b)
-not_set_up_lem true a b h = absurd (true≢false h)
-not_set_up_lem false a b h = refl
-
-pub set_up : (s : Bool) (n m up sent : ℕ) (l : Bool) → s ≡ true → m ≡ quorum n → l ≡ ltb (messages - sent) (2 * n + 2 * m)
-    → (leb m up && not l) ≡ (s && leb (quorum n) up && not (lacks_numbers sent (numbers_needed n)))
-set_up s n m up sent l h e k = rw (h, k, e)
-
 -- where there are at most five acceptors, all count
-pub allows_is : (w : World) (u : Up) → Lists u (up_below w.down (min w.acceptors most_acceptors))
-    → (can_set_up w.acceptors && leb (quorum w.acceptors) u.count && not (lacks_numbers w.sent (numbers_needed w.acceptors))) ≡ allows w
+pub allows_is : (w : World) (up : List ℕ) → up ≡ up_below w.down (min w.acceptors most_acceptors)
+    → (can_set_up w.acceptors && leb (quorum w.acceptors) (length up) && not (lacks_numbers w.sent (numbers_needed w.acceptors))) ≡ allows w
 unfolding allows
-allows_is w u is = go (can_set_up w.acceptors) refl
+allows_is w up is = go (can_set_up w.acceptors) refl
   where
     go : (s : Bool) → can_set_up w.acceptors ≡ s
-        → (s && leb (quorum w.acceptors) u.count && not (lacks_numbers w.sent (numbers_needed w.acceptors)))
+        → (s && leb (quorum w.acceptors) (length up) && not (lacks_numbers w.sent (numbers_needed w.acceptors)))
         ≡ (s && leb (quorum w.acceptors) (length (up_acceptors w)) && not (lacks_numbers w.sent (numbers_needed w.acceptors)))
     go true e =
         let h = set_up_few w.acceptors e in
         let k : min w.acceptors most_acceptors ≡ w.acceptors = omega (arith, h) in
         ap (λ (n : ℕ). leb (quorum w.acceptors) n && not (lacks_numbers w.sent (numbers_needed w.acceptors)))
-        (counted u _ is ∙ ap (λ (n : ℕ). length (up_below w.down n)) k)
+        (ap length is ∙ ap (λ (n : ℕ). length (up_below w.down n)) k)
     go false e = refl
 
-pub allowed_few : (w : World) → allows w ≡ true → w.acceptors ≤ most_acceptors
-unfolding allows
-allowed_few w h =
-    let n = w.acceptors in
-    let up = leb (quorum n) (length (up_acceptors w)) in
-    set_up_few n (and_left (can_set_up n) up (and_left (can_set_up n && up) (not (lacks_numbers w.sent (numbers_needed n))) h))
-
 -- ---- the ballot of a coordinator
-
-pub work_inside : (k : Coordinator) → has_work k ≡ true → k.applied < instances
-work_inside k h = ltb-true k.applied instances (and_right (ltb 0 k.queue.count) (ltb k.applied instances) h)
 
 pub ballot_of_down : (w : World) (c : ℕ) → is_down w.down Coord c ≡ true → 0 ≡ ballot_of w c
 unfolding ballot_of
@@ -86,18 +67,23 @@ module _ (w : World) (c : ℕ) {k : Coordinator} (is : k ≡ coordinator_of w c)
 -- ---- the first coordinator that can
 
 module _ (w : World) (c : ℕ) where
-  module _ (h : c < coordinators) {b : ℕ} (is : b ≡ ballot_of w c) where
+  module _ (h : c < coordinators) where
     one_more : coordinators - c ≡ suc (coordinators - (c + 1))
     one_more = omega arith
 
-    pub first_found : (b ≡ 0 → ⊥) → chosen c b ≡ first_from w c (coordinators - c)
+    first_found : (ballot_of w c ≡ 0 → ⊥) → chosen c (ballot_of w c) ≡ first_from w c (coordinators - c)
     unfolding first_from
-    first_found k = rw (one_more, sym is, ne_eqb b 0 k)
+    first_found k = rw (one_more, ne_eqb (ballot_of w c) 0 k)
 
-    pub first_next : b ≡ 0 → first_from w c (coordinators - c) ≡ first_from w (c + 1) (coordinators - (c + 1))
+    pub first_next : 0 ≡ ballot_of w c → first_from w c (coordinators - c) ≡ first_from w (c + 1) (coordinators - (c + 1))
     unfolding first_from
     first_next k =
-        rw (one_more, sym is, eq-eqb b 0 k) (ap (λ (x : ℕ). first_from w x (coordinators - (c + 1))) (sym (add-one c)))
+        rw (one_more, eq-eqb (ballot_of w c) 0 (sym k)) (ap (λ (x : ℕ). first_from w x (coordinators - (c + 1))) (sym (add-one c)))
+
+    pub chosen_first : {b : ℕ} {x : Choice} → b ≡ ballot_of w c → 0 < ballot_of w c → x ≡ first_from w c (coordinators - c) → ChoiceIs (Some (chosen c b)) x
+    chosen_first {b} {x} e k is =
+        let f : chosen c b ≡ x = ap (chosen c) e ∙ first_found (λ z. omega (arith, z)) ∙ sym is in
+        (f, let g : b ≡ x.ballot = ap (λ (y : Choice). y.ballot) f in omega (arith, e))
 
   pub none_first : coordinators ≤ c → chosen 0 0 ≡ first_from w c (coordinators - c)
   unfolding first_from
@@ -110,6 +96,6 @@ module _ (w : World) where
   unfolding choice_of
   none_chosen h = rw h
 
-  pub first_chosen : {x : Choice} → allows w ≡ true → x ≡ first_from w 0 coordinators → x ≡ choice_of w
+  pub first_chosen : allows w ≡ true → first_from w 0 coordinators ≡ choice_of w
   unfolding choice_of
-  first_chosen h e = rw h e
+  first_chosen h = rw h

@@ -1,3 +1,3 @@
+pub mod Found
 pub mod Longest
 pub mod Text
-pub mod Up

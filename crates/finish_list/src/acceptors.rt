@@ -1,20 +1,56 @@
 // Which acceptors are up, and how many make a majority.
-ghost use Rattle.std.specs.Prelude.{min, ◌≡◌};
+ghost use Rattle.std.specs.Prelude.{min, ◌≡◌, ◌<◌, ◌++◌, [], ◌∷◌, length};
 ghost use Rattle.model_steps.specs.Limits.{most_acceptors};
 ghost use Rattle.model_finish.specs.Such.{quorum, up_below};
-ghost use Rattle.finish_list.specs.Up.{Lists};
 
 use model_protocol::Down;
 use model_protocol::limits::ACCEPTOR_PLACES;
 use model_steps::Role;
 use model_steps::limits::MOST_ACCEPTORS;
+use std::marker::Model;
 use world_messages::parties;
 
 // The acceptors that are up, the lowest first: the first `count`.
-#[derive(Clone, Copy)]
+#[derive(Drop)]
 pub struct Up {
-    pub ids: [u8; ACCEPTOR_PLACES],
-    pub count: usize,
+    ids: [u8; ACCEPTOR_PLACES],
+    count: usize,
+}
+
+impl Model for Up {
+    ghost use Rattle.std.specs.Prelude.{List, ℕ, take, ◌≤◌};
+    ghost use Rattle.model_steps.specs.Limits.{most_acceptors};
+
+    ghost Value = { List ℕ };
+
+    ghost view = { λ u. take u.count u.ids };
+
+    ghost invariant = { λ u. u.count ≤ most_acceptors };
+}
+
+impl Up {
+    fn none() -> Up
+        ensures { result ≡ [] }
+    {
+        Up {
+            ids: [0; ACCEPTOR_PLACES],
+            count: 0,
+        }
+    }
+
+    fn push(&mut self, id: u8)
+        requires { length self.old < most_acceptors }
+        ensures { self.new ≡ self.old ++ id ∷ [] }
+    {
+        self.ids[self.count] = id;
+        self.count += 1;
+    }
+
+    pub fn as_slice(&self) -> &[u8]
+        ensures { result.now ≡ self.now }
+    {
+        &self.ids[..self.count]
+    }
 }
 
 // m of n acceptors.
@@ -26,20 +62,13 @@ pub fn quorum(n: u8) -> u8
 
 // Those of the first n acceptors that are up. There are at most five.
 pub fn up_below(d: Down, n: u8) -> Up
-    ensures { Lists result (up_below d (min n most_acceptors)) }
+    ensures { result ≡ up_below d (min n most_acceptors) }
 {
-    let mut ids = [0; ACCEPTOR_PLACES];
-    let mut count = 0;
-    let mut a: u8 = 0;
-    while (a < n) & (a < MOST_ACCEPTORS) {
+    let mut up = Up::none();
+    for a in 0..n.min(MOST_ACCEPTORS) {
         if !parties::is_down(d, Role::Acceptor, a) {
-            ids[count] = a;
-            count += 1;
+            up.push(a);
         }
-        a += 1;
     }
-    Up {
-        ids: ids,
-        count: count,
-    }
+    up
 }

@@ -1,9 +1,10 @@
 // The choice: the lowest coordinator that can close its current instance, and its lowest ballot.
-ghost use Rattle.std.specs.Prelude.{◌<◌, ◌≤◌, ◌&&◌, not, ◌≡◌, leb};
-ghost use Rattle.model_steps.specs.Limits.{can_set_up, coordinators, instances, most_acceptors};
+ghost use Rattle.std.specs.Prelude.{◌<◌, ◌&&◌, not, ◌≡◌, leb};
+ghost use Rattle.model_steps.specs.Limits.{can_set_up, coordinators, instances};
 ghost use Rattle.model_protocol.specs.Send.{lacks_numbers};
 ghost use Rattle.model_finish.specs.Choice.{ballot_of, choice_of, first_from, has_work, highest_promised};
 ghost use Rattle.model_finish.specs.Such.{numbers_needed, quorum};
+ghost use Rattle.finish_list.specs.Found.{BallotIs, ChoiceIs};
 
 use crate::{acceptors, ballots};
 use model_finish::Choice;
@@ -22,83 +23,65 @@ fn allows(n: u8, up: usize, sent: u8) -> bool
         return false;
     }
     let m = acceptors::quorum(n);
-    (m as usize <= up) & !send::lacks_numbers(sent, 2 * n + 2 * m)
+    usize::from(m) <= up && !send::lacks_numbers(sent, 2 * n + 2 * m)
 }
 
-fn has_work(c: Coordinator) -> bool
-    ensures { result ≡ has_work c }
+fn has_work(c: &Coordinator) -> bool
+    ensures { result ≡ has_work c.now }
 {
-    (0 < c.queue.count) & (c.applied < INSTANCES)
+    0 < c.queue.count && c.applied < INSTANCES
 }
 
-// The highest ballot that one of the first n acceptors promised in the instance.
-fn highest_promised(w: World, inst: u8, n: u8) -> u8
-    requires inst_lt_instances { inst < instances }
-    requires n_le_most_acceptors { n ≤ most_acceptors }
-    ensures { result ≡ highest_promised w inst n }
+// The highest ballot that an acceptor promised in the instance.
+fn highest_promised(w: &World, inst: u8) -> u8
+    ensures { result ≡ highest_promised w.now inst w.now.acceptors }
 {
     let mut highest: u8 = 0;
-    let mut a: u8 = 0;
-    while a < n {
-        let slot = w.slots[a as usize * INSTANCE_PLACES + inst as usize];
-        highest = ballots::higher(highest, slot.promised);
-        a += 1;
+    for a in 0..w.acceptors {
+        let i = usize::from(a) * INSTANCE_PLACES + usize::from(inst);
+        if let Some(slot) = w.slots.get(i) {
+            highest = highest.max(slot.promised);
+        }
     }
     highest
 }
 
-// The lowest ballot with which the coordinator can close its current instance; 0 if it cannot.
-fn ballot_of(w: World, coord: u8) -> u8
-    requires coord_lt_coordinators { coord < coordinators }
-    requires acceptors_le_most_acceptors { w.acceptors ≤ most_acceptors }
-    ensures { result ≡ ballot_of w coord }
+// The lowest ballot with which the coordinator can close its current instance, if it can.
+fn ballot_of(w: &World, coord: u8) -> Option<u8>
+    requires { coord < coordinators }
+    ensures { BallotIs result (ballot_of w.now coord) }
 {
-    let c = w.coordinators[coord as usize];
-    let d = w.down;
-    if parties::is_down(d, Role::Coord, coord) {
-        return 0;
+    let c = &w.coordinators[usize::from(coord)];
+    if parties::is_down(w.down, Role::Coord, coord) {
+        return None;
     }
     if !has_work(c) {
-        return 0;
+        return None;
     }
-    let promised = highest_promised(w, c.applied, w.acceptors);
-    ballots::lowest_own(coord, ballots::higher(c.round.ballot, promised))
+    let promised = highest_promised(w, c.applied);
+    ballots::lowest_own(coord, c.round.ballot.max(promised))
 }
 
-// The first coordinator that can.
-fn first(w: World) -> Choice
-    requires { w.acceptors ≤ most_acceptors }
-    ensures { result ≡ first_from w 0 coordinators }
+// The first coordinator that can, and its ballot.
+fn first(w: &World) -> Option<Choice>
+    ensures { ChoiceIs result (first_from w.now 0 coordinators) }
 {
-    let mut c: u8 = 0;
-    while c < COORDINATORS {
-        let b = ballot_of(w, c);
-        if b != 0 {
-            return Choice {
-                coord: c,
-                ballot: b,
-            };
+    for coord in 0..COORDINATORS {
+        if let Some(ballot) = ballot_of(w, coord) {
+            return Some(Choice { coord, ballot });
         }
-        c += 1;
     }
-    Choice {
-        coord: 0,
-        ballot: 0,
-    }
+    None
 }
 
-// The lowest coordinator that can close its current instance, and its lowest ballot for it; ballot
-// 0 if none can.
-pub fn choose(w: World) -> Choice
-    ensures { result ≡ choice_of w }
+// The lowest coordinator that can close its current instance, and its lowest ballot for it, if any
+// can.
+pub fn choose(w: &World) -> Option<Choice>
+    ensures { ChoiceIs result (choice_of w.now) }
 {
-    let d = w.down;
-    let up = acceptors::up_below(d, w.acceptors);
-    if !allows(w.acceptors, up.count, w.sent) {
-        return Choice {
-            coord: 0,
-            ballot: 0,
-        };
+    let up = acceptors::up_below(w.down, w.acceptors);
+    if !allows(w.acceptors, up.as_slice().len(), w.sent) {
+        return None;
     }
     first(w)
 }

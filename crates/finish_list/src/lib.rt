@@ -1,7 +1,7 @@
 // The list of steps with which a coordinator closes its current instance, as lines of a step file.
 #![tactic(auto)]
 
-ghost use Rattle.std.specs.Prelude.{◌+◌, ◌*◌, ◌<◌, ◌≤◌, ℕ, ◌++◌, get_or};
+ghost use Rattle.std.specs.Prelude.{◌+◌, ◌*◌, ◌<◌, ◌≤◌, ℕ, ◌++◌, get_or, length};
 ghost use Rattle.model_steps.specs.Limits.{messages, most_acceptors};
 ghost use Rattle.model_finish.specs.Closing.{closing, deliveries};
 ghost use Rattle.model_finish.specs.Such.{Such, quorum};
@@ -11,6 +11,7 @@ ghost use Rattle.finish_list.specs.Text.{finish_text, steps_text};
 
 use model_protocol::World;
 use model_protocol::limits::ACCEPTOR_PLACES;
+use text_ascii::Page;
 
 pub mod acceptors;
 pub mod ballots;
@@ -30,68 +31,61 @@ const MOST_ASKED: usize = ACCEPTOR_PLACES / 2 + 1;
 // No list prints as more: an open and a propose, and two runs of messages behind each.
 pub const LIST_BYTES: usize = OPEN_BYTES + PROPOSE_BYTES + 4 * MOST_ASKED * DELIVER_BYTES;
 
-// What is added to a first number where the messages stand in a row.
-const IN_A_ROW: [u8; ACCEPTOR_PLACES] = [0, 1, 2, 3, 4];
-
-// The deliveries of m messages. The number of each is `first` and an offset.
-fn put_run(out: &mut [u8], mut at: usize, first: u8, offsets: [u8; ACCEPTOR_PLACES], m: u8) -> usize
-    requires m_bound { m ≤ quorum most_acceptors }
-    requires by_index { (k : ℕ) → k < m → first + get_or offsets k 0 < messages }
-    ensures { Within longest_run out.old at (steps_text (deliveries (λ k. first + get_or offsets k 0) m)) out.new result }
+// The deliveries to these acceptors, where messages were sent to all from number `first` on.
+fn put_asked(page: &mut Page, first: u8, asked: &[u8])
+    requires few { length asked.now ≤ quorum most_acceptors }
+    requires by_index { (k : ℕ) → k < length asked.now → first + get_or asked.now k 0 < messages }
+    ensures { Within longest_run page.old page.new (steps_text (deliveries (λ k. first + get_or asked.now k 0) (length asked.now))) }
 {
-    let mut k: u8 = 0;
-    while k < m {
-        let offset = offsets[k as usize];
-        at = lines::deliver_line(out, at, first + offset);
-        k += 1;
+    for a in asked {
+        lines::deliver_line(page, first + *a);
     }
-    at
 }
 
-// The deliveries to m acceptors and then of their answers, where messages were sent to all n from
-// number `first` on.
-fn put_exchange(
-    out: &mut [u8],
-    at: usize,
-    first: u8,
-    n: u8,
-    ids: [u8; ACCEPTOR_PLACES],
-    m: u8,
-) -> usize
-    requires m_bound { m ≤ quorum most_acceptors }
-    requires by_index { (k : ℕ) → k < m → get_or ids k 0 < n }
-    requires m_bound_2 { first + n + m ≤ messages }
-    ensures { Within (2 * longest_run) out.old at (steps_text (deliveries (λ k. first + get_or ids k 0) m ++ deliveries (λ k. first + n + k) m)) out.new result }
+// The deliveries of m messages, from number `first` on.
+fn put_in_row(page: &mut Page, first: u8, m: u8)
+    requires few { m ≤ quorum most_acceptors }
+    requires room { first + m ≤ messages }
+    ensures { Within longest_run page.old page.new (steps_text (deliveries (λ k. first + k) m)) }
 {
-    let at = put_run(out, at, first, ids, m);
-    put_run(out, at, first + n, IN_A_ROW, m)
+    for k in 0..m {
+        lines::deliver_line(page, first + k);
+    }
+}
+
+// The deliveries to these acceptors and then of their answers, where messages were sent to all n
+// from number `first` on.
+fn put_exchange(page: &mut Page, first: u8, n: u8, asked: &[u8])
+    requires few { length asked.now ≤ quorum most_acceptors }
+    requires by_index { (k : ℕ) → k < length asked.now → get_or asked.now k 0 < n }
+    requires room { first + n + length asked.now ≤ messages }
+    ensures { Within (2 * longest_run) page.old page.new (steps_text (deliveries (λ k. first + get_or asked.now k 0) (length asked.now) ++ deliveries (λ k. first + n + k) (length asked.now))) }
+{
+    put_asked(page, first, asked);
+    put_in_row(page, first + n, asked.len() as u8);
 }
 
 // The list with which the coordinator closes its current instance under the ballot.
-fn put_closing(out: &mut [u8], at: usize, w: World, coord: u8, ballot: u8) -> usize
-    requires { Such w coord }
-    ensures { Within longest_list out.old at (steps_text (closing w coord ballot)) out.new result }
+fn put_closing(page: &mut Page, w: &World, coord: u8, ballot: u8)
+    requires { Such w.now coord }
+    ensures { Within longest_list page.old page.new (steps_text (closing w.now coord ballot)) }
 {
-    let c = w.coordinators[coord as usize];
-    let inst = c.applied;
+    let inst = w.coordinators[usize::from(coord)].applied;
     let n = w.acceptors;
-    let d = w.down;
     let m = acceptors::quorum(n);
-    let up = acceptors::up_below(d, n);
-    let ids = up.ids;
-    let at = lines::round_line(out, at, b"do=open coord=", coord, inst, ballot);
-    let at = put_exchange(out, at, w.sent, n, ids, m);
-    let at = lines::round_line(out, at, b"do=propose coord=", coord, inst, ballot);
-    put_exchange(out, at, w.sent + n + m, n, ids, m)
+    let up = acceptors::up_below(w.down, n);
+    let asked = &up.as_slice()[..usize::from(m)];
+    lines::round_line(page, b"do=open coord=", coord, inst, ballot);
+    put_exchange(page, w.sent, n, asked);
+    lines::round_line(page, b"do=propose coord=", coord, inst, ballot);
+    put_exchange(page, w.sent + n + m, n, asked);
 }
 
 // The list for the lowest coordinator that can close its current instance; nothing if none can.
-pub fn put_finishing(out: &mut [u8], at: usize, w: World) -> usize
-    ensures { Within longest_list out.old at (finish_text w) out.new result }
+pub fn put_finishing(page: &mut Page, w: &World)
+    ensures { Within longest_list page.old page.new (finish_text w.now) }
 {
-    let choice = choosing::choose(w);
-    if choice.ballot == 0 {
-        return at;
+    if let Some(choice) = choosing::choose(w) {
+        put_closing(page, w, choice.coord, choice.ballot);
     }
-    put_closing(out, at, w, choice.coord, choice.ballot)
 }

@@ -7,18 +7,20 @@ ghost use Rattle.text_report.specs.Within.{Within};
 ghost use Rattle.text_step.specs.Step.{text};
 ghost use Rattle.finish_list.specs.Longest.{longest_deliver, longest_round};
 
+use text_ascii::Page;
+
 // A line that begins with this name, which ends with the key of the coordinator.
-pub fn round_line(out: &mut [u8], at: usize, name: &[u8], coord: u8, inst: u8, ballot: u8) -> usize
-    ensures { Within (longest_round name.now) out.old at (field name.now coord ++ field (ascii " inst=") inst ++ field (ascii " ballot=") ballot ++ end) out.new result }
+pub fn round_line(page: &mut Page, name: &[u8], coord: u8, inst: u8, ballot: u8)
+    ensures { Within (longest_round name.now) page.old page.new (field name.now coord ++ field (ascii " inst=") inst ++ field (ascii " ballot=") ballot ++ end) }
 {
-    let at = text_report::byte_fields(out, at, name, coord, b" inst=", inst);
-    let at = text_report::byte_field(out, at, b" ballot=", ballot);
-    text_report::end(out, at)
+    text_report::byte_fields(page, name, coord, b" inst=", inst);
+    text_report::byte_field(page, b" ballot=", ballot);
+    text_report::end(page);
 }
 
-pub fn deliver_line(out: &mut [u8], at: usize, msg: u8) -> usize
-    ensures { Within longest_deliver out.old at (text (Deliver msg) ++ end) out.new result }
+pub fn deliver_line(page: &mut Page, msg: u8)
+    ensures { Within longest_deliver page.old page.new (text (Deliver msg) ++ end) }
 {
-    let at = text_report::byte_field(out, at, b"do=deliver msg=", msg);
-    text_report::end(out, at)
+    text_report::byte_field(page, b"do=deliver msg=", msg);
+    text_report::end(page);
 }

@@ -4,6 +4,7 @@
 ghost use Rattle.finish_run.specs.Printed.{PrintsFed};
 
 use finish_list::LIST_BYTES;
+use text_ascii::Page;
 use world_input::Input;
 
 // No output is longer: one list.
@@ -15,6 +16,7 @@ pub fn output_of(input: Input, out: &mut [u8; OUTPUT_BYTES]) -> usize
     ensures { PrintsFed input out.new result }
 {
     let session = world_run::run_fed(input);
-    let world = session.world;
-    finish_list::put_finishing(out, 0, world)
+    let mut page = Page { bytes: out, at: 0 };
+    finish_list::put_finishing(&mut page, &session.world);
+    page.at
 }

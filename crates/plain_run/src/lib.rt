@@ -10,6 +10,7 @@ ghost use Rattle.plain_run.specs.Session.{answer_line, carried_out, fresh_sessio
 use log_core::Log;
 use log_entry::refusal::{ACCEPTED, NO_PLACE, OUTSIDE_LIMITS, UNREADABLE};
 use log_entry::{Entry, Limit};
+use text_ascii::Page;
 use text_entry::Reading;
 use text_lines::{ANSWERED_LINES, Answers, Line, MAX_LINE_BYTES, MAX_LINES};
 use text_report::{ANSWER_BYTES, LINE_BYTES, LOG_LINES};
@@ -181,8 +182,8 @@ pub fn output_of(input: Input, out: &mut [u8; OUTPUT_BYTES]) -> usize
     ensures { PrintsFed input out.new result }
 {
     let session = input.finish();
-    let answers = session.answers;
-    let log = session.log;
-    let at = text_report::put_answers(out, 0, answers);
-    text_report::put_log(out, at, log)
+    let mut page = Page { bytes: out, at: 0 };
+    text_report::put_answers(&mut page, session.answers);
+    text_report::put_log(&mut page, session.log);
+    page.at
 }

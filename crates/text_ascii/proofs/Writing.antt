@@ -7,7 +7,9 @@ use mathlib.Core.List.{List, [], ◌∷◌, ◌++◌}
 use mathlib.Core.Path.{◌≡◌, refl, sym, ◌∙◌, ap, subst}
 use lib.ListN.{length, take, drop, set, length-append}
 use lib.Seq.{sets, set_out, length-sets, sets-eq, take_at}
+use Rattle.text_ascii.specs.Page.{Puts}
 use Rattle.text_ascii.specs.Wrote.{Wrote}
+use Rattle.text_ascii.specs.declared.Page.{Page}
 
 sets_append : (l : List ℕ) (i : ℕ) (a b : List ℕ) → sets (sets l i a) (i + length a) b ≡ sets l i (a ++ b)
 sets_append l i [] b = ap (λ (k : ℕ). sets l k b) (add-zero i)
@@ -54,3 +56,14 @@ wrote_whole l t m n w h =
     let p : n ≡ min (0 + length t) (max 0 (length l)) = w.place in
     let e : length t ≡ n = omega arith in
     ap (take n) (w.bytes ∙ sets-eq t l 0 (omega arith)) ∙ take_at t (drop (0 + length t) l) n e
+
+-- ---- on a page
+
+pub puts_more : {a b c : Page} {s t : List ℕ} → Puts a b s → Puts b c t → Puts a c (s ++ t)
+puts_more f g = record { same = g.same ∙ f.same; wrote = wrote_more f.wrote g.wrote }
+
+pub puts_as : {a b : Page} {s t : List ℕ} → s ≡ t → Puts a b s → Puts a b t
+puts_as e f = record { same = f.same; wrote = wrote_as e f.wrote }
+
+pub puts_nothing : (a : Page) → Puts a a []
+puts_nothing a = record { same = refl; wrote = wrote_nothing _ _ }

@@ -1,16 +1,17 @@
--- What a function that prints leaves in the buffer, and how much room it takes at most.
+-- What a function that prints leaves on the page, and how much room it takes at most.
 use Rattle.std.specs.Prelude.{ℕ, ◌≤◌, ◌+◌, ◌*◌, List, length}
 use Rattle.text_ascii.specs.Bytes.{ascii}
 use Rattle.text_ascii.specs.Decimal.{byte_digits}
 use Rattle.text_ascii.specs.Hex.{update_digits}
-use Rattle.text_ascii.specs.Wrote.{Wrote}
+use Rattle.text_ascii.specs.Page.{Puts}
+use Rattle.text_ascii.specs.declared.Page.{Page}
 use Rattle.log_entry.specs.Limits.{stores, transactions}
 use Rattle.text_lines.specs.Lines.{answered_lines}
 use Rattle.text_report.specs.Report.{end}
 
--- The text was written, and is no longer than this room.
-pub record Within (room : ℕ) (before : List ℕ) (at : ℕ) (text after : List ℕ) (next : ℕ) : Type 0 where
-  pub wrote : Wrote before at text after next
+-- The text was put on the page, and is no longer than this room.
+pub record Within (room : ℕ) (old new : Page) (text : List ℕ) : Type 0 where
+  pub puts : Puts old new text
   pub within : length text ≤ room
 
 -- a field whose number fits a byte takes at most this much

@@ -9,36 +9,32 @@ use log_core::Log;
 use model_protocol::Coordinator;
 use model_protocol::limits::COORDINATOR_PLACES;
 use model_steps::limits::COORDINATORS;
+use text_ascii::Page;
 
-pub fn coordinator_line(out: &mut [u8], at: usize, coord: u8, applied: u8) -> usize
-    ensures { Within longest_line out.old at (coordinator_line coord applied) out.new result }
+pub fn coordinator_line(page: &mut Page, coord: u8, applied: u8)
+    ensures { Within longest_line page.old page.new (coordinator_line coord applied) }
 {
-    let at = text_report::byte_fields(out, at, b"coord=", coord, b" applied=", applied);
-    text_report::end(out, at)
+    text_report::byte_fields(page, b"coord=", coord, b" applied=", applied);
+    text_report::end(page);
 }
 
 // Its line and its log.
-pub fn put_coordinator(out: &mut [u8], at: usize, coord: u8, c: Coordinator, log: Log) -> usize
-    ensures { Within longest_coordinator out.old at (coordinator_text coord c log) out.new result }
+pub fn put_coordinator(page: &mut Page, coord: u8, c: Coordinator, log: Log)
+    ensures { Within longest_coordinator page.old page.new (coordinator_text coord c log) }
 {
-    let at = coordinator_line(out, at, coord, c.applied);
-    text_report::put_log(out, at, log)
+    coordinator_line(page, coord, c.applied);
+    text_report::put_log(page, log);
 }
 
 pub fn put_coordinators(
-    out: &mut [u8],
-    mut at: usize,
+    page: &mut Page,
     cs: [Coordinator; COORDINATOR_PLACES],
     logs: [Log; COORDINATOR_PLACES],
-) -> usize
-    ensures { Within (coordinators * longest_coordinator) out.old at (coordinators_text cs logs) out.new result }
+)
+    ensures { Within (coordinators * longest_coordinator) page.old page.new (coordinators_text cs logs) }
 {
-    let mut i: u8 = 0;
-    while i < COORDINATORS {
-        let c = cs[i as usize];
-        let log = logs[i as usize];
-        at = put_coordinator(out, at, i, c, log);
-        i += 1;
+    for coord in 0..COORDINATORS {
+        let i = usize::from(coord);
+        put_coordinator(page, coord, cs[i], logs[i]);
     }
-    at
 }

@@ -1,5 +1,4 @@
-// What is printed of a world, line by line into a buffer. Each function answers the next place in
-// the buffer.
+// What is printed of a world, line by line on a page.
 #![tactic(auto)]
 
 ghost use Rattle.text_report.specs.Within.{Within};
@@ -9,6 +8,7 @@ ghost use Rattle.world_report.specs.Report.{world_text};
 use log_entry::limits::{PROCESSES, TRANSACTION_PLACES};
 use model_protocol::World;
 use model_steps::limits::COORDINATORS;
+use text_ascii::Page;
 use text_report::{LINE_BYTES, LOG_LINES};
 
 pub mod coordinators;
@@ -31,15 +31,10 @@ pub const WORLD_BYTES: usize = COORDINATORS as usize * (1 + LOG_LINES) * LINE_BY
     + PROCESSES as usize * RESTORE_BYTES;
 
 // A world as it is printed.
-pub fn put_world(out: &mut [u8], at: usize, w: World) -> usize
-    ensures { Within longest_world out.old at (world_text w) out.new result }
+pub fn put_world(page: &mut Page, w: World)
+    ensures { Within longest_world page.old page.new (world_text w) }
 {
-    let cs = w.coordinators;
-    let logs = w.logs;
-    let ps = w.processes;
-    let replays = w.restored;
-    let follows = w.follows;
-    let at = coordinators::put_coordinators(out, at, cs, logs);
-    let at = processes::put_all_heard(out, at, ps);
-    processes::put_restores(out, at, ps, replays, follows)
+    coordinators::put_coordinators(page, w.coordinators, w.logs);
+    processes::put_all_heard(page, w.processes);
+    processes::put_restores(page, w.processes, w.restored, w.follows);
 }

@@ -10,159 +10,127 @@ use log_entry::limits::{PROCESS_PLACES, PROCESSES, TRANSACTIONS};
 use log_entry::sets;
 use log_votes::Outcome;
 use model_protocol::{Followed, Follows, Process};
+use text_ascii::Page;
 
-pub fn heard_line(out: &mut [u8], at: usize, proc: u8, tx: u8, outcome: Outcome) -> usize
-    ensures { Within longest_heard_line out.old at (heard_line proc tx outcome) out.new result }
+pub fn heard_line(page: &mut Page, proc: u8, tx: u8, outcome: Outcome)
+    ensures { Within longest_heard_line page.old page.new (heard_line proc tx outcome) }
 {
-    let at = text_report::byte_fields(out, at, b"proc=", proc, b" tx=", tx);
-    let at = text_report::outcome_field(out, at, b" heard=", outcome);
-    text_report::end(out, at)
+    text_report::byte_fields(page, b"proc=", proc, b" tx=", tx);
+    text_report::outcome_field(page, b" heard=", outcome);
+    text_report::end(page);
 }
 
 // The transaction's line, if its outcome was heard.
-pub fn put_outcome(out: &mut [u8], at: usize, proc: u8, tx: u8, outcome: Outcome) -> usize
-    ensures { Within longest_heard_line out.old at (outcome_text proc tx outcome) out.new result }
+pub fn put_outcome(page: &mut Page, proc: u8, tx: u8, outcome: Outcome)
+    ensures { Within longest_heard_line page.old page.new (outcome_text proc tx outcome) }
 {
-    if let Outcome::Open = outcome {
-        return at;
+    if !matches!(outcome, Outcome::Open) {
+        heard_line(page, proc, tx, outcome);
     }
-    heard_line(out, at, proc, tx, outcome)
 }
 
 // What the process heard.
-pub fn put_heard(out: &mut [u8], mut at: usize, proc: u8, p: Process) -> usize
-    ensures { Within longest_heard out.old at (heard_text proc p) out.new result }
+pub fn put_heard(page: &mut Page, proc: u8, p: Process)
+    ensures { Within longest_heard page.old page.new (heard_text proc p) }
 {
-    let mut i: u8 = 0;
-    while i < TRANSACTIONS {
-        let heard = p.heard[i as usize];
-        let outcome = heard.outcome;
-        at = put_outcome(out, at, proc, i, outcome);
-        i += 1;
+    for tx in 0..TRANSACTIONS {
+        put_outcome(page, proc, tx, p.heard[usize::from(tx)].outcome);
     }
-    at
 }
 
 // What all processes heard.
-pub fn put_all_heard(out: &mut [u8], mut at: usize, ps: [Process; PROCESS_PLACES]) -> usize
-    ensures { Within (processes * longest_heard) out.old at (by_process heard_text ps) out.new result }
+pub fn put_all_heard(page: &mut Page, ps: [Process; PROCESS_PLACES])
+    ensures { Within (processes * longest_heard) page.old page.new (by_process heard_text ps) }
 {
-    let mut i: u8 = 0;
-    while i < PROCESSES {
-        i += 1;
-        let p = ps[i as usize];
-        at = put_heard(out, at, i, p);
+    for proc in 1..=PROCESSES {
+        put_heard(page, proc, ps[usize::from(proc)]);
     }
-    at
 }
 
-pub fn restore_line(out: &mut [u8], at: usize, proc: u8, store: u8, position: u8) -> usize
-    ensures { Within longest_line out.old at (restore_line proc store position) out.new result }
+pub fn restore_line(page: &mut Page, proc: u8, store: u8, position: u8)
+    ensures { Within longest_line page.old page.new (restore_line proc store position) }
 {
-    let at = text_report::byte_fields(out, at, b"proc=", proc, b" store=", store);
-    let at = text_report::byte_field(out, at, b" position=", position);
-    text_report::end(out, at)
+    text_report::byte_fields(page, b"proc=", proc, b" store=", store);
+    text_report::byte_field(page, b" position=", position);
+    text_report::end(page);
 }
 
-pub fn running_line(out: &mut [u8], at: usize, tx: u8) -> usize
-    ensures { Within longest_running_line out.old at (running_line tx) out.new result }
+pub fn running_line(page: &mut Page, tx: u8)
+    ensures { Within longest_running_line page.old page.new (running_line tx) }
 {
-    let at = text_report::byte_field(out, at, b"running=", tx);
-    text_report::end(out, at)
+    text_report::byte_field(page, b"running=", tx);
+    text_report::end(page);
 }
 
 // The transaction's line, if the set of those listed as running has it.
-pub fn put_listed(out: &mut [u8], at: usize, running: u32, tx: u8) -> usize
-    ensures { Within longest_running_line out.old at (listed_text running tx) out.new result }
+pub fn put_listed(page: &mut Page, running: u32, tx: u8)
+    ensures { Within longest_running_line page.old page.new (listed_text running tx) }
 {
-    if !sets::has32(running, tx) {
-        return at;
+    if sets::has32(running, tx) {
+        running_line(page, tx);
     }
-    running_line(out, at, tx)
 }
 
 // What the restore listed as running.
-pub fn put_running(out: &mut [u8], mut at: usize, running: u32) -> usize
-    ensures { Within longest_running out.old at (running_text running) out.new result }
+pub fn put_running(page: &mut Page, running: u32)
+    ensures { Within longest_running page.old page.new (running_text running) }
 {
-    let mut i: u8 = 0;
-    while i < TRANSACTIONS {
-        at = put_listed(out, at, running, i);
-        i += 1;
+    for tx in 0..TRANSACTIONS {
+        put_listed(page, running, tx);
     }
-    at
 }
 
-pub fn follow_line(out: &mut [u8], at: usize, tx: u8, f: Followed) -> usize
-    ensures { Within longest_line out.old at (follow_line tx f) out.new result }
+pub fn follow_line(page: &mut Page, tx: u8, f: Followed)
+    ensures { Within longest_line page.old page.new (follow_line tx f) }
 {
-    let outcome = f.outcome;
-    let at = text_report::byte_field(out, at, b"follow=", tx);
-    let at = text_report::outcome_field(out, at, b" outcome=", outcome);
-    let at = text_report::update_field(out, at, b" upd=", f.update);
-    text_report::end(out, at)
+    text_report::byte_field(page, b"follow=", tx);
+    text_report::outcome_field(page, b" outcome=", f.outcome);
+    text_report::update_field(page, b" upd=", f.update);
+    text_report::end(page);
 }
 
 // The transaction's line, if the set of those followed has it.
-pub fn put_follow(out: &mut [u8], at: usize, followed: u32, tx: u8, f: Followed) -> usize
-    ensures { Within longest_line out.old at (follow_text followed tx f) out.new result }
+pub fn put_follow(page: &mut Page, followed: u32, tx: u8, f: Followed)
+    ensures { Within longest_line page.old page.new (follow_text followed tx f) }
 {
-    if !sets::has32(followed, tx) {
-        return at;
+    if sets::has32(followed, tx) {
+        follow_line(page, tx, f);
     }
-    follow_line(out, at, tx, f)
 }
 
 // The follows that were taken since the restore.
-pub fn put_follows(out: &mut [u8], mut at: usize, followed: u32, follows: Follows) -> usize
-    ensures { Within longest_follows out.old at (follows_text followed follows) out.new result }
+pub fn put_follows(page: &mut Page, followed: u32, follows: Follows)
+    ensures { Within longest_follows page.old page.new (follows_text followed follows) }
 {
-    let mut i: u8 = 0;
-    while i < TRANSACTIONS {
-        let f = follows.of[i as usize];
-        at = put_follow(out, at, followed, i, f);
-        i += 1;
+    for tx in 0..TRANSACTIONS {
+        put_follow(page, followed, tx, follows.of[usize::from(tx)]);
     }
-    at
 }
 
 // The restore that the process took, if it took one, and the follows since.
-pub fn put_restore(
-    out: &mut [u8],
-    at: usize,
-    proc: u8,
-    p: Process,
-    replay: Replay,
-    follows: Follows,
-) -> usize
-    ensures { Within longest_restore out.old at (restore_text proc p replay follows) out.new result }
+pub fn put_restore(page: &mut Page, proc: u8, p: Process, replay: Replay, follows: Follows)
+    ensures { Within longest_restore page.old page.new (restore_text proc p replay follows) }
 {
     if p.position == 0 {
-        return at;
+        return;
     }
-    let at = restore_line(out, at, proc, p.store, p.position);
-    let at = text_report::put_replay(out, at, p.store, replay);
-    let at = put_running(out, at, p.running);
-    put_follows(out, at, p.followed, follows)
+    restore_line(page, proc, p.store, p.position);
+    text_report::put_replay(page, p.store, replay);
+    put_running(page, p.running);
+    put_follows(page, p.followed, follows);
 }
 
 // The restores of all processes, and the follows since.
 pub fn put_restores(
-    out: &mut [u8],
-    mut at: usize,
+    page: &mut Page,
     ps: [Process; PROCESS_PLACES],
     replays: [Replay; PROCESS_PLACES],
     follows: [Follows; PROCESS_PLACES],
-) -> usize
-    ensures { Within (processes * longest_restore) out.old at (restores_text ps replays follows) out.new result }
+)
+    ensures { Within (processes * longest_restore) page.old page.new (restores_text ps replays follows) }
 {
-    let mut i: u8 = 0;
-    while i < PROCESSES {
-        i += 1;
-        let p = ps[i as usize];
-        let replay = replays[i as usize];
-        let taken = follows[i as usize];
-        at = put_restore(out, at, i, p, replay, taken);
+    for proc in 1..=PROCESSES {
+        let i = usize::from(proc);
+        put_restore(page, proc, ps[i], replays[i], follows[i]);
     }
-    at
 }

@@ -9,6 +9,7 @@ ghost use Rattle.world_run.specs.Ran.{AgreedOnFed, PrintsFed, Ran};
 use model_protocol::World;
 use model_steps::Commands;
 use model_steps::limits::COMMAND_PLACES;
+use text_ascii::Page;
 use text_lines::{ANSWERED_LINES, Answers};
 use text_report::ANSWER_BYTES;
 use world_engine::advance::advance;
@@ -66,8 +67,8 @@ pub fn output_of(input: Input, out: &mut [u8; OUTPUT_BYTES]) -> usize
     ensures { PrintsFed input out.new result }
 {
     let session = run_fed(input);
-    let answers = session.answers;
-    let world = session.world;
-    let at = text_report::put_answers(out, 0, answers);
-    world_report::put_world(out, at, world)
+    let mut page = Page { bytes: out, at: 0 };
+    text_report::put_answers(&mut page, session.answers);
+    world_report::put_world(&mut page, session.world);
+    page.at
 }

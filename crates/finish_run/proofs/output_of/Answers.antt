@@ -1,4 +1,4 @@
-use mathlib.Core.Path.{ap}
+use mathlib.Core.Path.{ap, refl}
 use Rattle.finish_list.specs.Longest.{longest_list}
 use Rattle.finish_list.specs.Text.{finish_text}
 use Rattle.text_report.proofs.PrintedLaws.{printed_as, printed_whole}
@@ -13,7 +13,7 @@ returns c =
     record {
       prints =
           printed_as (ap finish_text (c.run_fed-session.ensures bytes is).world)
-          (printed_whole longest_list _ _ _ _ c.told-out c.put_finishing.ensures);
+          (printed_whole longest_list refl c.told-out c.put_finishing.ensures);
       nothing = prints_nothing_exactly bytes;
       closes = every_list_closes bytes;
       finishes = every_list_finishes bytes;

@@ -1,4 +1,4 @@
-use mathlib.Core.Path.{◌∙◌, ap}
+use mathlib.Core.Path.{refl, ◌∙◌, ap}
 use Rattle.text_lines.specs.Feed.{finished}
 use Rattle.text_report.proofs.Lengths.{within_more}
 use Rattle.text_report.proofs.PrintedLaws.{printed_as, printed_whole}
@@ -12,4 +12,4 @@ returns c =
     λ bytes is.
     printed_as
     (ap output (c.finish-session.ensures ∙ ap (finished is_over answer_line) is) ∙ output_is_plain bytes)
-    (printed_whole longest_output _ _ _ _ c.told-out (within_more c.put_answers-at.ensures c.put_log.ensures))
+    (printed_whole longest_output refl c.told-out (within_more c.put_answers.ensures c.put_log.ensures))

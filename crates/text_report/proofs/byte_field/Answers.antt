@@ -5,4 +5,4 @@ use Rattle.text_report.proofs.byte_field.Goals as goal
 
 pub returns : goal.returns
 returns c =
-    written c.field.ensures (simp length-append (omega (arith, byte_length c.args.n c.ranges.n.fits)))
+    written (rw c.from.ensures at c.field.ensures) (simp length-append (omega (arith, byte_length c.args.n c.ranges.n.fits)))

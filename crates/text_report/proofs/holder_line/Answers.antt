@@ -5,6 +5,6 @@ use Rattle.text_report.proofs.holder_line.Goals as goal
 pub returns : goal.returns
 returns c =
     within_room
-    (within_more c.byte_fields-at.ensures
+    (within_more c.byte_fields.ensures
     c.end.ensures)
     (omega arith)

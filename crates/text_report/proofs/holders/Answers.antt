@@ -7,4 +7,4 @@ pub loop-i-init : goal.loop-i-init
 loop-i-init c = none_put
 
 pub loop-i-preserved : goal.loop-i-preserved
-loop-i-preserved c = put_more c.loop-i.invariant (omega arith) c.holder-at.ensures refl
+loop-i-preserved c = put_more c.loop-i.invariant (omega arith) c.holder.ensures (rw c.from.ensures refl)

@@ -1,4 +1,3 @@
-use Prim.Native.Nat.{◌-◌}
 use Rattle.log_entry.specs.Limits.{stores}
 use Rattle.text_report.specs.Report.{holder_text}
 use Rattle.text_report.specs.Within.{longest_line}
@@ -6,7 +5,4 @@ use Rattle.text_report.proofs.Each.{Put}
 use Rattle.text_report.proofs.holders.Given as goal
 
 abbrev pub invariant-loop-i : goal.invariant-loop-i
-invariant-loop-i l = Put stores longest_line (holder_text l.log) l.initial.out l.initial.at l.out l.at l.i
-
-abbrev pub decreases-loop-i : goal.decreases-loop-i
-decreases-loop-i l = stores - l.i
+invariant-loop-i l = Put stores longest_line (holder_text l.log) l.initial.page l.page l.i

@@ -4,4 +4,4 @@ use Rattle.text_report.proofs.outcome_field.Goals as goal
 
 pub returns : goal.returns
 returns c =
-    within_more (written c.word-at.ensures (omega arith)) c.outcome_word.ensures
+    within_more (written c.word.ensures (omega arith)) c.outcome_word.ensures

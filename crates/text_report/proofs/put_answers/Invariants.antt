@@ -1,4 +1,4 @@
-use Prim.Native.Nat.{suc, ◌-◌}
+use Prim.Native.Nat.{suc}
 use lib.ListN.{get_or, length}
 use Rattle.text_lines.specs.Answers.{answers_of}
 use Rattle.text_report.specs.Report.{step_line}
@@ -8,7 +8,4 @@ use Rattle.text_report.proofs.put_answers.Given as goal
 
 abbrev pub invariant-loop-i : goal.invariant-loop-i
 invariant-loop-i l =
-    Put (length (answers_of l.answers)) longest_answer (λ j. step_line (suc j) (get_or (answers_of l.answers) j 0)) l.initial.out l.initial.at l.out l.at l.i
-
-abbrev pub decreases-loop-i : goal.decreases-loop-i
-decreases-loop-i l = l.answers.count - l.i
+    Put (length (answers_of l.fn.answers)) longest_answer (λ j. step_line (suc j) (get_or (answers_of l.fn.answers) j 0)) l.initial.page l.page l.i

@@ -5,4 +5,4 @@ use Rattle.text_report.proofs.put_log.Goals as goal
 
 pub returns : goal.returns
 unfolding log_text
-returns c = within_room (within_more (within_more c.outcomes-at.ensures c.holders-at.ensures) c.replays.ensures) (omega arith)
+returns c = within_room (within_more (within_more c.outcomes.ensures c.holders.ensures) c.replays.ensures) (omega arith)

@@ -1,4 +1,3 @@
-use Prim.Native.Nat.{◌-◌}
 use lib.ListN.{get_or, length}
 use Rattle.log_core.specs.Replay.{no_replayed}
 use Rattle.text_report.specs.Report.{replay_line, rows_of}
@@ -8,7 +7,4 @@ use Rattle.text_report.proofs.put_replay.Given as goal
 
 abbrev pub invariant-loop-i : goal.invariant-loop-i
 invariant-loop-i l =
-    Put (length (rows_of l.replay)) longest_line (λ j. replay_line l.store (get_or (rows_of l.replay) j no_replayed)) l.initial.out l.initial.at l.out l.at l.i
-
-abbrev pub decreases-loop-i : goal.decreases-loop-i
-decreases-loop-i l = l.replay.count - l.i
+    Put (length (rows_of l.fn.replay)) longest_line (λ j. replay_line l.fn.store (get_or (rows_of l.fn.replay) j no_replayed)) l.initial.page l.page l.i

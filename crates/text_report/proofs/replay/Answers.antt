@@ -10,5 +10,5 @@ use Rattle.text_report.proofs.replay.Goals as goal
 pub returns : goal.returns
 returns c =
     within_as
-    (ap (replay_text c.args.store) (replay_taken c.args.log c.args.store c.replay-replay.ensures (omega (arith, replay_length c.args.log c.args.store, rows_length c.args.log _ c.well_formed.1.1.0))))
+    (ap (replay_text c.args.store) (replay_taken c.args.log c.args.store c.replay-replay.ensures (omega (arith, replay_length c.args.log c.args.store, rows_length c.args.log _ c.well_formed.1.0))))
     c.put_replay.ensures

@@ -5,8 +5,8 @@ use Rattle.text_report.proofs.replay_line.Goals as goal
 pub returns : goal.returns
 returns c =
     within_room
-    (within_more (within_more (within_more c.byte_fields-at.ensures
-    c.byte_field-at.ensures)
-    c.update_field-at.ensures)
+    (within_more (within_more (within_more c.byte_fields.ensures
+    c.byte_field.ensures)
+    c.update_field.ensures)
     c.end.ensures)
     (omega arith)

@@ -7,4 +7,4 @@ pub loop-i-init : goal.loop-i-init
 loop-i-init c = none_put
 
 pub loop-i-preserved : goal.loop-i-preserved
-loop-i-preserved c = put_more c.loop-i.invariant (omega arith) c.replay-at.ensures refl
+loop-i-preserved c = put_more c.loop-i.invariant (omega arith) c.replay.ensures refl

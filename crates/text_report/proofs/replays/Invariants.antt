@@ -1,4 +1,3 @@
-use Prim.Native.Nat.{◌-◌}
 use Rattle.log_core.specs.Replay.{replay_rows}
 use Rattle.log_entry.specs.Limits.{stores}
 use Rattle.text_report.specs.Report.{replay_text}
@@ -7,7 +6,4 @@ use Rattle.text_report.proofs.Each.{Put}
 use Rattle.text_report.proofs.replays.Given as goal
 
 abbrev pub invariant-loop-i : goal.invariant-loop-i
-invariant-loop-i l = Put stores longest_replay (λ s. replay_text s (replay_rows l.log s)) l.initial.out l.initial.at l.out l.at l.i
-
-abbrev pub decreases-loop-i : goal.decreases-loop-i
-decreases-loop-i l = stores - l.i
+invariant-loop-i l = Put stores longest_replay (λ s. replay_text s (replay_rows l.log s)) l.initial.page l.page l.i

@@ -5,8 +5,8 @@ use Rattle.text_report.proofs.tx_line.Goals as goal
 pub returns : goal.returns
 returns c =
     within_room
-    (within_more (within_more (within_more c.byte_field-at.ensures
-    c.outcome_field-at.ensures)
-    c.byte_field-at-2.ensures)
+    (within_more (within_more (within_more c.byte_field.ensures
+    c.outcome_field.ensures)
+    c.byte_field-2.ensures)
     c.end.ensures)
     (omega arith)

@@ -7,5 +7,5 @@ use Rattle.text_report.proofs.update_field.Goals as goal
 pub returns : goal.returns
 returns c =
     within_more
-    (written c.word-at.ensures (omega arith))
+    (written c.word.ensures (omega arith))
     (written c.hex.ensures (omega (arith, hex_length update_digits c.args.update)))

@@ -1,4 +1,4 @@
-use native.Mathlib.Omega.{arith}
+use mathlib.Core.Path.{refl}
 use Rattle.text_report.proofs.Lengths.{within_more}
 use Rattle.text_report.proofs.PrintedLaws.{printed_as, printed_whole}
 use Rattle.world_run.specs.Ran.{longest_output}
@@ -12,6 +12,6 @@ returns c =
       prints =
           printed_as
           (agreed_prints bytes c.run_fed-session.result (c.run_fed-session.ensures bytes is))
-          (printed_whole longest_output _ _ _ _ (omega arith) (within_more c.put_answers-at.ensures c.put_world.ensures));
+          (printed_whole longest_output refl c.told-out (within_more c.put_answers.ensures c.put_world.ensures));
       demand_3 = input_agrees bytes;
     }

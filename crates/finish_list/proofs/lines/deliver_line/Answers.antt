@@ -6,5 +6,5 @@ use Rattle.finish_list.proofs.lines.deliver_line.Goals as goal
 pub returns : goal.returns
 returns c =
     within_room
-    (within_as (deliver_text _) (within_more c.byte_field-at.ensures c.end.ensures))
+    (within_as (deliver_text _) (within_more c.byte_field.ensures c.end.ensures))
     (omega arith)

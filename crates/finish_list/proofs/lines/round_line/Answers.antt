@@ -5,5 +5,5 @@ use Rattle.finish_list.proofs.lines.round_line.Goals as goal
 pub returns : goal.returns
 returns c =
     within_room
-    (within_more (within_more c.byte_fields-at.ensures c.byte_field-at.ensures) c.end.ensures)
+    (within_more (within_more c.byte_fields.ensures c.byte_field.ensures) c.end.ensures)
     (omega arith)

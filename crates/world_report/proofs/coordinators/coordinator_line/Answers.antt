@@ -5,6 +5,6 @@ use Rattle.world_report.proofs.coordinators.coordinator_line.Goals as goal
 pub returns : goal.returns
 returns c =
     within_room
-    (within_more c.byte_fields-at.ensures
+    (within_more c.byte_fields.ensures
     c.end.ensures)
     (omega arith)

@@ -6,10 +6,10 @@ use Rattle.world_report.proofs.Elements.{both_elements}
 use Rattle.text_report.proofs.Each.{none_put, put_more}
 use Rattle.world_report.proofs.coordinators.put_coordinators.Goals as goal
 
-pub loop-i-preserved : goal.loop-i-preserved
-loop-i-preserved c =
-    put_more c.loop-i.invariant (omega arith) c.put_coordinator-at.ensures
-    (both_elements (coordinator_text c.loop-i.i) c.args.cs c.args.logs c.loop-i.i _ fresh_coordinator _ empty_log (omega arith) (omega arith))
+pub loop-coord-preserved : goal.loop-coord-preserved
+loop-coord-preserved c =
+    put_more c.loop-coord.invariant (omega arith) c.put_coordinator.ensures
+    (rw c.from-i.ensures (both_elements (coordinator_text c.loop-coord.coord) c.args.cs c.args.logs c.loop-coord.coord _ fresh_coordinator _ empty_log (omega arith) (omega arith)))
 
-pub loop-i-init : goal.loop-i-init
-loop-i-init c = none_put
+pub loop-coord-init : goal.loop-coord-init
+loop-coord-init c = none_put

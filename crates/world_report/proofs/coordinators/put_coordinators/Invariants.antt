@@ -1,4 +1,3 @@
-use Prim.Native.Nat.{◌-◌}
 use lib.ListN.{get_or}
 use Rattle.log_core.specs.Log.{empty_log}
 use Rattle.model_protocol.specs.World.{fresh_coordinator}
@@ -8,9 +7,6 @@ use Rattle.world_report.specs.Longest.{longest_coordinator}
 use Rattle.text_report.proofs.Each.{Put}
 use Rattle.world_report.proofs.coordinators.put_coordinators.Given as goal
 
-abbrev pub invariant-loop-i : goal.invariant-loop-i
-invariant-loop-i l =
-    Put coordinators longest_coordinator (λ k. coordinator_text k (get_or l.cs k fresh_coordinator) (get_or l.logs k empty_log)) l.initial.out l.initial.at l.out l.at l.i
-
-abbrev pub decreases-loop-i : goal.decreases-loop-i
-decreases-loop-i l = coordinators - l.i
+abbrev pub invariant-loop-coord : goal.invariant-loop-coord
+invariant-loop-coord l =
+    Put coordinators longest_coordinator (λ k. coordinator_text k (get_or l.cs k fresh_coordinator) (get_or l.logs k empty_log)) l.initial.page l.page l.coord

@@ -5,8 +5,8 @@ use Rattle.world_report.proofs.processes.follow_line.Goals as goal
 pub returns : goal.returns
 returns c =
     within_room
-    (within_more (within_more (within_more c.byte_field-at.ensures
-    c.outcome_field-at.ensures)
-    c.update_field-at.ensures)
+    (within_more (within_more (within_more c.byte_field.ensures
+    c.outcome_field.ensures)
+    c.update_field.ensures)
     c.end.ensures)
     (omega arith)

@@ -5,7 +5,7 @@ use Rattle.world_report.proofs.processes.heard_line.Goals as goal
 pub returns : goal.returns
 returns c =
     within_room
-    (within_more (within_more c.byte_fields-at.ensures
-    c.outcome_field-at.ensures)
+    (within_more (within_more c.byte_fields.ensures
+    c.outcome_field.ensures)
     c.end.ensures)
     (omega arith)

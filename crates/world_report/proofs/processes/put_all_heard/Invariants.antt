@@ -7,9 +7,6 @@ use Rattle.world_report.specs.Processes.{heard_text}
 use Rattle.text_report.proofs.Each.{Put}
 use Rattle.world_report.proofs.processes.put_all_heard.Given as goal
 
-abbrev pub invariant-loop-i : goal.invariant-loop-i
-invariant-loop-i l =
-    Put processes longest_heard (λ j. heard_text (suc j) (get_or l.ps (suc j) fresh_process)) l.initial.out l.initial.at l.out l.at l.i
-
-abbrev pub decreases-loop-i : goal.decreases-loop-i
-decreases-loop-i l = processes - l.i
+abbrev pub invariant-loop-proc : goal.invariant-loop-proc
+invariant-loop-proc l =
+    Put processes longest_heard (λ j. heard_text (suc j) (get_or l.ps (suc j) fresh_process)) l.initial.page l.page (l.proc - 1)

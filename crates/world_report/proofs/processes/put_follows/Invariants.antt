@@ -1,4 +1,3 @@
-use Prim.Native.Nat.{◌-◌}
 use lib.ListN.{get_or}
 use Rattle.log_entry.specs.Limits.{transactions}
 use Rattle.model_protocol.specs.World.{no_followed}
@@ -7,9 +6,6 @@ use Rattle.text_report.proofs.Each.{Put}
 use Rattle.world_report.specs.Processes.{follow_text}
 use Rattle.world_report.proofs.processes.put_follows.Given as goal
 
-abbrev pub invariant-loop-i : goal.invariant-loop-i
-invariant-loop-i l =
-    Put transactions longest_line (λ tx. follow_text l.followed tx (get_or l.follows.of tx no_followed)) l.initial.out l.initial.at l.out l.at l.i
-
-abbrev pub decreases-loop-i : goal.decreases-loop-i
-decreases-loop-i l = transactions - l.i
+abbrev pub invariant-loop-tx : goal.invariant-loop-tx
+invariant-loop-tx l =
+    Put transactions longest_line (λ tx. follow_text l.followed tx (get_or l.follows.of tx no_followed)) l.initial.page l.page l.tx

@@ -6,7 +6,7 @@ pub returns : goal.returns
 returns c =
     within_as
     (one_taken c.args.proc c.args.p c.args.replay c.args.follows c.if-p-eq0.false)
-    (within_more (within_more (within_more c.restore_line-at.ensures
-    c.put_replay-at.ensures)
-    c.put_running-at.ensures)
+    (within_more (within_more (within_more c.restore_line.ensures
+    c.put_replay.ensures)
+    c.put_running.ensures)
     c.put_follows.ensures)

@@ -8,11 +8,8 @@ use Rattle.world_report.specs.Processes.{restore_text}
 use Rattle.text_report.proofs.Each.{Put}
 use Rattle.world_report.proofs.processes.put_restores.Given as goal
 
-abbrev pub invariant-loop-i : goal.invariant-loop-i
-invariant-loop-i l =
+abbrev pub invariant-loop-proc : goal.invariant-loop-proc
+invariant-loop-proc l =
     Put processes longest_restore
     (λ j. restore_text (suc j) (get_or l.ps (suc j) fresh_process) (get_or l.replays (suc j) no_replay) (get_or l.follows (suc j) no_follows))
-    l.initial.out l.initial.at l.out l.at l.i
-
-abbrev pub decreases-loop-i : goal.decreases-loop-i
-decreases-loop-i l = processes - l.i
+    l.initial.page l.page (l.proc - 1)

@@ -3,8 +3,8 @@ use native.Mathlib.Omega.{arith}
 use Rattle.text_report.proofs.Each.{none_put, put_more}
 use Rattle.world_report.proofs.processes.put_running.Goals as goal
 
-pub loop-i-init : goal.loop-i-init
-loop-i-init c = none_put
+pub loop-tx-init : goal.loop-tx-init
+loop-tx-init c = none_put
 
-pub loop-i-preserved : goal.loop-i-preserved
-loop-i-preserved c = put_more c.loop-i.invariant (omega arith) c.put_listed-at.ensures refl
+pub loop-tx-preserved : goal.loop-tx-preserved
+loop-tx-preserved c = put_more c.loop-tx.invariant (omega arith) c.put_listed.ensures refl

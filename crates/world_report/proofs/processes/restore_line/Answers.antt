@@ -5,7 +5,7 @@ use Rattle.world_report.proofs.processes.restore_line.Goals as goal
 pub returns : goal.returns
 returns c =
     within_room
-    (within_more (within_more c.byte_fields-at.ensures
-    c.byte_field-at.ensures)
+    (within_more (within_more c.byte_fields.ensures
+    c.byte_field.ensures)
     c.end.ensures)
     (omega arith)

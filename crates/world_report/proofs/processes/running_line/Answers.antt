@@ -5,6 +5,6 @@ use Rattle.world_report.proofs.processes.running_line.Goals as goal
 pub returns : goal.returns
 returns c =
     within_room
-    (within_more c.byte_field-at.ensures
+    (within_more c.byte_field.ensures
     c.end.ensures)
     (omega arith)

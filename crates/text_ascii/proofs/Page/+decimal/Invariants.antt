@@ -1,4 +1,4 @@
-use Rattle.text_ascii.proofs.+decimal.Given as goal
+use Rattle.text_ascii.proofs.Page.+decimal.Given as goal
 
 abbrev pub decreases-decimal : goal.decreases-decimal
 decreases-decimal l = l.n
