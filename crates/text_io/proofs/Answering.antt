@@ -1,0 +1,13 @@
+-- What a program answers, from what was read and what is printed of it.
+use Prim.Native.Nat.{ℕ}
+use mathlib.Core.Bool.{Bool}
+use mathlib.Core.List.{List}
+use Rattle.std.specs.Prelude.{Option}
+use Rattle.text_lines.specs.declared.Line.{Line}
+use Rattle.text_io.specs.declared.Exchange.{Exchange}
+use Rattle.text_io.specs.Exchange.{AnsweredOf, PrintsRead}
+use Rattle.text_io.specs.Reading.{WasReadOf}
+
+module _ {S T : Type 0} (state : S → T) (over : T → Bool) (step : T → Line → T) (first : T) (printing : List ℕ → List ℕ → ℕ → Type 0) where
+  pub answered_of : (x : Exchange S) (buffer : List ℕ) (left rest : Option (List ℕ)) → WasReadOf state over step first left rest x.reading → PrintsRead state over step first printing x buffer → AnsweredOf state over step first printing left rest x buffer
+  answered_of x buffer left rest r p = (record { read = r.0; prints = p r.0 }, r.1)
