@@ -1,7 +1,7 @@
 // The lines of a step file, gathered from pieces of any length.
 #![tactic(auto)]
 
-ghost use Rattle.std.specs.Prelude.{ℕ, Bool, ◌≡◌, eqb, false, MatchOption, true};
+ghost use Rattle.std.specs.Prelude.{ℕ, Bool, ◌≡◌, eqb, false, IfSome, MatchOption, true};
 ghost use Rattle.text_lines.specs.Answers.{answers_of, no_answers, noted};
 ghost use Rattle.text_lines.specs.Feed.{fed, finished, fresh, state_of};
 ghost use Rattle.text_lines.specs.Line.{bytes_of, no_line, too_long, with};
@@ -58,8 +58,8 @@ impl Line {
 
     // The bytes of a line that is not too long.
     pub fn as_slice(&self) -> Option<&[u8]>
-        ensures long { MatchOption result (too_long self.now ≡ true) (λ s. too_long self.now ≡ false) }
-        ensures bytes { MatchOption result (too_long self.now ≡ true) (λ s. s.now ≡ bytes_of self.now) }
+        ensures long { MatchOption result (too_long self.now ≡ true) (λ _. too_long self.now ≡ false) }
+        ensures bytes { IfSome result (λ s. s.now ≡ bytes_of self.now) }
     {
         if self.length <= MAX_LINE_BYTES {
             Some(&self.bytes[..usize::from(self.length)])
