@@ -1,15 +1,19 @@
 // The pieces of an input, and the programs that answer what they read.
 #![tactic(auto)]
 
-ghost use Rattle.std.specs.Prelude.{ℕ, List, ◌<◌, ◌≡◌, take};
+ghost use Rattle.std.specs.Prelude.{ℕ, List, ◌<◌, ◌≡◌, cond, take};
 ghost use Rattle.std.specs.Io.KnownBytes.{Consumes};
+ghost use Rattle.std.specs.Process.{exit_status};
 ghost use Rattle.io.specs.Counts.{IsPrefixLen};
 ghost use Rattle.text_io.specs.Exchange.{PrintsFed, PrintsRead};
 ghost use Rattle.text_io.specs.Reading.{More, MoreOf, WasRead, WasReadOf, max_pieces};
 ghost use Rattle.text_io.specs.Writing.{WasWritten};
 
 use std::io::{Read, Write};
+use std::process::ExitCode;
 use text_lines::{Input, Session};
+
+pub mod files;
 
 // The reading ends after this many pieces, which no input has.
 pub const MAX_PIECES: u64 = 9223372036854775808;
@@ -28,6 +32,15 @@ pub struct Exchange<S> {
     pub reading: Reading<S>,
     pub printed: usize,
     pub is_written: bool,
+}
+
+impl<S> Exchange<S> {
+    // The status that a program ends with: 1 if the output could not be written.
+    pub fn status(&self) -> ExitCode
+        ensures { exit_status result ≡ cond self.now.is_written 0 1 }
+    {
+        ExitCode::from(u8::from(!self.is_written))
+    }
 }
 
 // What a program prints for the bytes that its session was fed.
