@@ -1,9 +1,10 @@
 -- What the functions under `main` promise.
 use Rattle.std.specs.Prelude.{ℕ, List, [], ◌≡◌}
 use Rattle.finish_list.specs.Longest.{longest_list}
+use Rattle.text_lines.specs.declared.Input.{Input}
 use Rattle.text_lines.specs.Feed.{fed, fresh}
 use Rattle.text_report.specs.Printed.{Printed}
-use Rattle.world_input.specs.declared.Input.{Input}
+use Rattle.world_input.specs.declared.Asked.{Asked}
 use Rattle.world_input.specs.State.{over, state_of, with_line}
 use Rattle.finish_run.specs.Claims.{Continues, LinesLeft, ListCloses, ListFinishes, NothingIfNone}
 use Rattle.finish_run.specs.Program.{finish}
@@ -19,5 +20,5 @@ pub record PrintsList (input buffer : List ℕ) (used : ℕ) : Type 0 where
   pub continues : LinesLeft input → Continues input
 
 -- so for the bytes that the input was fed, whatever they are
-abbrev pub PrintsFed : Input → List ℕ → ℕ → Type 0
+abbrev pub PrintsFed : Input Asked → List ℕ → ℕ → Type 0
 PrintsFed i buffer used = (bytes : List ℕ) → state_of i ≡ fed over with_line (fresh []) bytes → PrintsList bytes buffer used

@@ -13,9 +13,5 @@ fn main(rt: HostRuntime) -> ExitCode {
         &mut rt.stderr(),
         &mut out,
     );
-    if exchange.is_written {
-        ExitCode::SUCCESS
-    } else {
-        ExitCode::FAILURE
-    }
+    exchange.status()
 }

@@ -1,7 +1,9 @@
 -- What a gathered line does, by its reading.
 use Prim.Native.Nat.{ℕ, ◌≤◌, ◌<◌}
-use mathlib.Core.Path.{◌≡◌, refl, sym, ap}
-use borrow.Author.Tests.{le-leb, le-ltb, lt-leb, lt-ltb}
+use mathlib.Core.Bool.{false, true}
+use mathlib.Core.List.{List}
+use mathlib.Core.Path.{◌≡◌, refl, ◌∙◌, ap}
+use borrow.Author.Tests.{le-leb, lt-leb}
 use Rattle.log_entry.specs.declared.Entry.{Entry}
 use Rattle.log_entry.specs.Refusal.{no_place, unreadable}
 use Rattle.log_core.specs.declared.Log.{Log}
@@ -10,19 +12,19 @@ use Rattle.text_entry.specs.declared.Reading.{Reading}
 use Rattle.text_entry.specs.declared.Reading.TheVariants.{Read, Outside, Unreadable}
 use Rattle.text_entry.specs.Entry.{reading}
 use Rattle.text_lines.specs.declared.Line.{Line}
-use Rattle.text_lines.specs.Line.{bytes_of}
-use Rattle.text_lines.specs.Lines.{max_line_bytes, max_lines}
+use Rattle.text_lines.specs.Line.{bytes_of, too_long}
+use Rattle.text_lines.specs.Lines.{max_lines}
 use Rattle.plain_run.specs.Plain.{entering}
 use Rattle.plain_run.specs.Session.{enter_held, line_entered}
 
 module _ (l : Log) (line : Line) where
-  pub held_long : max_line_bytes < line.length → answered l unreadable ≡ enter_held l line
+  pub held_long : too_long line ≡ true → answered l unreadable ≡ enter_held l line
   unfolding enter_held
-  held_long h = rw (lt-ltb max_line_bytes line.length h)
+  held_long h = rw h
 
-  pub held_short : line.length ≤ max_line_bytes → (r : Reading) → reading (bytes_of line) ≡ r → entering l r ≡ enter_held l line
+  pub held_short : too_long line ≡ false → (s : List ℕ) → s ≡ bytes_of line → (r : Reading) → r ≡ reading s → entering l r ≡ enter_held l line
   unfolding enter_held
-  held_short h r e = rw (le-ltb max_line_bytes line.length h) (ap (entering l) (sym e))
+  held_short h s e r k = rw h (ap (entering l) (k ∙ ap reading e))
 
   module _ (count : ℕ) where
     pub last_line : max_lines ≤ count → answered l no_place ≡ line_entered l count line

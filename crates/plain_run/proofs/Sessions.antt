@@ -1,19 +1,16 @@
 -- What a command does to a log, and a line to a session.
-use Prim.Native.Nat.{ℕ, ◌+◌, ◌≤◌}
+use Prim.Native.Nat.{ℕ}
 use mathlib.Core.Bool.{Bool, cond, false, true}
 use mathlib.Core.Path.{◌≡◌, refl, sym, ◌∙◌, ap}
 use lib.Dec.{eqb}
-use lib.ListN.{set}
-use borrow.Author.Tests.{eq-eqb, le-ltb, ne_eqb}
+use borrow.Author.Tests.{eq-eqb, ne_eqb}
 use Rattle.log_entry.specs.Refusal.{accepted}
 use Rattle.log_core.specs.declared.Effect.{Effect}
 use Rattle.log_core.specs.declared.Log.{Log}
 use Rattle.log_core.specs.Enter.{answered, enter, entered, stored}
 use Rattle.log_core.specs.Decide.{effect_of, parts_of}
-use Rattle.text_lines.specs.declared.Answers.{Answers}
 use Rattle.text_lines.specs.declared.Line.{Line}
 use Rattle.text_lines.specs.Answers.{noted as answers_noted}
-use Rattle.text_lines.specs.Lines.{max_lines}
 use Rattle.plain_run.specs.declared.Command.{Command}
 use Rattle.plain_run.specs.declared.Session.{Session}
 use Rattle.plain_run.specs.Session.{answer_line, carried_out, line_entered, noted}
@@ -42,21 +39,17 @@ module _ (l : Log) (c : Command) where
       of_command true h = of_entry (effect_of (parts_of l c.entry) c.entry)
       of_command false h = rw h
 
-noted_is : (a : Answers) (n : ℕ) → a.count ≤ max_lines → record { count = a.count + 1; answers = set a.answers a.count n } ≡ answers_noted a n
-unfolding answers_noted
-noted_is a n h = rw (le-ltb max_lines a.count h)
-
--- the session after a line that was not the last, by its command and the answer to it
-module _ (s : Session) (line : Line) (c : Command) (going : s.answers.count ≤ max_lines)
+-- the session after a line, by its command and the answer to it
+module _ (s : Session) (line : Line) (c : Command)
     (asked : (l : Log) → carried_out l c ≡ line_entered l s.answers.count line)
     (n : ℕ) (answer : n ≡ (carried_out s.log c).answer) where
   abbrev pub after : Log → Session
-  after l = record { log = l; answers = record { count = s.answers.count + 1; answers = set s.answers.answers s.answers.count n } }
+  after l = record { log = l; answers = answers_noted s.answers n }
 
   is_noted : (l : Log) → l ≡ (carried_out s.log c).log → after l ≡ answer_line s line
   unfolding answer_line
   is_noted l h =
-      let a : ◌≡◌ {A = Session} (after l) (noted s (carried_out s.log c)) = (λ i. record { log = h i; answers = (noted_is s.answers n going ∙ ap (answers_noted s.answers) answer) i }) in
+      let a : ◌≡◌ {A = Session} (after l) (noted s (carried_out s.log c)) = (λ i. record { log = h i; answers = ap (answers_noted s.answers) answer i }) in
       a ∙ ap (noted s) (asked s.log)
 
   pub line_accepted : n ≡ accepted → after (enter s.log c.entry).log ≡ answer_line s line

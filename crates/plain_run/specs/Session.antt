@@ -6,13 +6,13 @@ use Rattle.log_core.specs.declared.Log.{Log}
 use Rattle.log_core.specs.Enter.{answered, enter}
 use Rattle.log_core.specs.Log.{empty_log}
 use Rattle.text_entry.specs.Entry.{reading}
+use Rattle.text_lines.specs.declared.Input.{Input}
 use Rattle.text_lines.specs.declared.Line.{Line}
 use Rattle.text_lines.specs.Answers.{answers_of, no_answers, noted as answers_noted}
 use Rattle.text_lines.specs.Feed.{Fed}
 use Rattle.text_lines.specs.Line.{bytes_of, too_long}
 use Rattle.text_lines.specs.Lines.{max_lines}
 use Rattle.plain_run.specs.declared.Command.{Command}
-use Rattle.plain_run.specs.declared.Input.{Input}
 use Rattle.plain_run.specs.declared.Session.{Session}
 use Rattle.plain_run.specs.Plain.{Run, entering, printed}
 
@@ -42,7 +42,7 @@ unfoldable pub answer_line : Session → Line → Session
 answer_line s line = noted s (line_entered s.log s.answers.count line)
 
 -- an input as a machine that is fed
-abbrev pub state_of : Input → Fed Session
+abbrev pub state_of : Input Session → Fed Session
 state_of i = record { state = i.session; line = i.line }
 
 -- the run that a session stands for

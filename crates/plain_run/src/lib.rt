@@ -2,17 +2,16 @@
 #![tactic(auto)]
 
 ghost use Rattle.std.specs.Prelude.{◌≡◌};
-ghost use Rattle.text_lines.specs.Feed.{fed, finished, fresh};
 ghost use Rattle.plain_run.specs.Printed.{PrintsFed};
 ghost use Rattle.log_core.specs.declared.Log.{Log};
-ghost use Rattle.plain_run.specs.Session.{answer_line, carried_out, fresh_session, is_over, line_entered, state_of};
+ghost use Rattle.plain_run.specs.Session.{answer_line, carried_out, fresh_session, is_over, line_entered};
 
 use log_core::Log;
 use log_entry::refusal::{ACCEPTED, NO_PLACE, OUTSIDE_LIMITS, UNREADABLE};
 use log_entry::{Entry, Limit};
 use text_ascii::Page;
 use text_entry::Reading;
-use text_lines::{ANSWERED_LINES, Answers, Line, MAX_LINE_BYTES, MAX_LINES};
+use text_lines::{ANSWERED_LINES, Answers, Line, MAX_LINES};
 use text_report::{ANSWER_BYTES, LINE_BYTES, LOG_LINES};
 
 // The log, and the answers to the lines so far.
@@ -23,11 +22,7 @@ pub struct Session {
 }
 
 // A session, and the line that is gathered for it.
-#[derive(Clone, Copy)]
-pub struct Input {
-    pub session: Session,
-    pub line: Line,
-}
+pub type Input = text_lines::Input<Session>;
 
 // What a line asks for: an entry, or an answer that is not the log's.
 #[derive(Clone, Copy)]
@@ -46,18 +41,16 @@ fn refuse(answer: u8) -> Command
 }
 
 // What the line asks for, after `count` others.
-fn command_at(count: u16, line: Line) -> Command
-    ensures { (l : Log) → carried_out l result ≡ line_entered l count line }
+fn command_at(count: u16, line: &Line) -> Command
+    ensures { (l : Log) → carried_out l result ≡ line_entered l count line.now }
 {
     if MAX_LINES <= count {
         return refuse(NO_PLACE);
     }
-    if MAX_LINE_BYTES < line.length {
+    let Some(bytes) = line.as_slice() else {
         return refuse(UNREADABLE);
-    }
-    let n = line.length as usize;
-    let bytes = line.bytes;
-    let reading = text_entry::read_entry(&bytes[..n]);
+    };
+    let reading = text_entry::read_entry(bytes);
     if let Reading::Outside = reading {
         return refuse(OUTSIDE_LIMITS);
     }
@@ -71,8 +64,8 @@ fn command_at(count: u16, line: Line) -> Command
 }
 
 // The answer to a command.
-fn answer_to(log: Log, c: Command) -> u8
-    ensures { result ≡ (carried_out log c).answer }
+fn answer_to(log: &Log, c: Command) -> u8
+    ensures { result ≡ (carried_out log.now c).answer }
 {
     if c.refused != ACCEPTED {
         return c.refused;
@@ -80,95 +73,39 @@ fn answer_to(log: Log, c: Command) -> u8
     log.answer_to(c.entry)
 }
 
-impl Session {
-    pub fn fresh() -> Session
-        ensures { result ≡ fresh_session }
-    {
-        let log = Log::empty(Limit::Full);
-        let answers = Answers::none();
+impl text_lines::Session for Session {
+    ghost use Rattle.plain_run.specs.declared.Session.{Session};
+
+    ghost State = { Session };
+
+    ghost state = { λ s. s };
+
+    ghost first = { fresh_session };
+
+    ghost over = { is_over };
+
+    ghost step = { answer_line };
+
+    fn fresh() -> Session {
         Session {
-            log: log,
-            answers: answers,
+            log: Log::empty(Limit::Full),
+            answers: Answers::none(),
         }
     }
 
     // Whether line 1,001 has been answered, which ends the reading.
-    pub fn is_over(self) -> bool
-        ensures { result ≡ is_over self }
-    {
-        let answers = self.answers;
-        MAX_LINES < answers.count
-    }
-}
-
-impl Input {
-    pub fn fresh() -> Input
-        ensures { state_of result ≡ fresh fresh_session }
-    {
-        let session = Session::fresh();
-        let line = Line::none();
-        Input {
-            session: session,
-            line: line,
-        }
+    fn is_over(&self) -> bool {
+        MAX_LINES < self.answers.count
     }
 
-    // Whether line 1,001 has been answered, which ends the reading.
-    pub fn is_over(self) -> bool
-        ensures { result ≡ is_over self.session }
-    {
-        let session = self.session;
-        session.is_over()
-    }
-
-    // The input after a piece of any length. It owns the log and the answers: an answer is stored in
-    // place, and a log comes back only where an entry was accepted.
-    pub fn feed(self, piece: &[u8]) -> Input
-        ensures { state_of result ≡ fed is_over answer_line (state_of self) piece.now }
-    {
-        let session = self.session;
-        let mut log = session.log;
-        let mut answers = session.answers;
-        let mut line = self.line;
-        let mut at: usize = 0;
-        while (at < piece.len()) & (answers.count <= MAX_LINES) {
-            let gathered = line.gather(piece, at);
-            at = gathered.next;
-            line = gathered.line;
-            if gathered.ended {
-                let n = answers.count;
-                let command = command_at(n, line);
-                let answer = answer_to(log, command);
-                answers.answers[n as usize] = answer;
-                answers.count = n + 1;
-                line = Line::none();
-                if answer == ACCEPTED {
-                    let entered = log.enter(command.entry);
-                    log = entered.log;
-                }
-            }
+    // An answer is stored in place, and a log comes back only where an entry was accepted.
+    fn take(&mut self, line: &Line) {
+        let command = command_at(self.answers.count, line);
+        let answer = answer_to(&self.log, command);
+        self.answers.push(answer);
+        if answer == ACCEPTED {
+            self.log = self.log.enter(command.entry).log;
         }
-        let session = Session {
-            log: log,
-            answers: answers,
-        };
-        Input {
-            session: session,
-            line: line,
-        }
-    }
-
-    // At the input's end, a line that has begun is a line.
-    pub fn finish(self) -> Session
-        ensures { result ≡ finished is_over answer_line (state_of self) }
-    {
-        let session = self.session;
-        let line = self.line;
-        if session.is_over() | (line.length == 0) {
-            return session;
-        }
-        let ended = self.feed(b"\n");
-        ended.session
     }
 }
 

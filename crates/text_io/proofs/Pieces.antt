@@ -1,20 +1,17 @@
 -- An input that is read piece by piece.
 use Prim.Native.Nat.{ℕ}
 use native.Mathlib.Omega.{arith}
-use mathlib.Core.Bool.{Bool, true, false, ◌||◌}
+use mathlib.Core.Bool.{Bool}
 use mathlib.Core.List.{List, [], ◌∷◌, ◌++◌}
-use mathlib.Core.Logic.{◌⊎◌, inl, inr}
 use mathlib.Core.Path.{◌≡◌, refl, sym, ◌∙◌, ap, subst}
-use lib.Dec.{eqb}
 use lib.ListN.{length, length-append}
-use borrow.Author.Tests.{eqb-true}
 use Rattle.std.specs.Prelude.{Option, None, Some}
 use Rattle.std.proofs.lemmas.List.{append-nil, append_assoc}
 use Rattle.std.specs.Io.KnownBytes.{Consumes}
 use Rattle.text_lines.specs.declared.Line.{Line}
 use Rattle.text_lines.specs.Feed.{Fed, fed, fed_all, fresh, joined}
 use Rattle.text_lines.proofs.Feeding.{all_is_joined}
-use Rattle.text_io.specs.Reading.{Given, OneMore, OneMoreOf, ReadAll, bytes_read, last_piece, max_pieces}
+use Rattle.text_io.specs.Reading.{Given, OneMore, OneMoreOf, ReadAll, bytes_read, last_piece}
 
 last_is : (ps : List (List ℕ)) (p : List ℕ) → last_piece (ps ++ p ∷ []) ≡ p
 unfolding last_piece
@@ -57,14 +54,6 @@ module _ {S : Type 0} (over : S → Bool) (step : S → Line → S) where
           count = omega (arith, m.count, r.count, length-append r.given (p ∷ []));
           bytes = m.bytes ∙ sym (ap length (last_is r.given p));
         }
-
-    -- why the reading ended, by the test that ends it
-    pub ended_by : (f : Fed S) (pieces last : ℕ) (o : Bool) → o ≡ over f.state → (eqb last 0 || o) ≡ true → (last ≡ 0) ⊎ (over f.state ≡ true) ⊎ (pieces ≡ max_pieces)
-    ended_by f pieces last o e h = go (eqb last 0) refl h
-      where
-        go : (z : Bool) → eqb last 0 ≡ z → (z || o) ≡ true → (last ≡ 0) ⊎ (over f.state ≡ true) ⊎ (pieces ≡ max_pieces)
-        go true k h = inl (eqb-true last 0 k)
-        go false k h = inr (inl (sym e ∙ h))
 
     -- what was read piece by piece was fed as a whole
     pub read_is_fed : (f : Fed S) (pieces last : ℕ) (r : ReadAll over step first f pieces last) → f ≡ fed over step (fresh first) (bytes_read r)

@@ -1,2 +1,3 @@
+pub mod Exchange
 pub mod Reading
 pub mod Writing

@@ -13,7 +13,7 @@ use lib.Seq.{take-suc-set}
 use borrow.Author.Tests.{ne_eqb, eq-eqb}
 use Rattle.text_lines.specs.declared.Line.{Line}
 use Rattle.text_lines.specs.Feed.{Fed, fresh, fed_byte, fed, finished, fed_lines}
-use Rattle.text_lines.specs.Line.{no_line, with, Part, gathered}
+use Rattle.text_lines.specs.Line.{no_line, with}
 use Rattle.text_lines.specs.Lines.{max_line_bytes, lf, lines_from, lines}
 use Rattle.text_lines.proofs.Gathering.{with_room, without_room}
 
@@ -78,25 +78,6 @@ module _ {S : Type 0} (over : S → Bool) (step : S → Line → S) where
           → cond o f (fed over step (fed_byte over step f c) (a ++ b)) ≡ fed over step (cond o f (fed over step (fed_byte over step f c) a)) b
       go true h ih = sym (fed_over f b h)
       go false h ih = ih
-
-  -- bytes up to an LF at a time
-  pub fed_gathered : (f : Fed S) (s : List ℕ) → over f.state ≡ false
-      → fed over step f s
-      ≡ cond (gathered f.line s).ended
-      (fed over step (fresh (step f.state (gathered f.line s).line)) (gathered f.line s).rest)
-      (record { state = f.state; line = (gathered f.line s).line })
-  unfolding fed gathered
-  fed_gathered f [] h = refl
-  fed_gathered f (c ∷ s) h = rw h (go (eqb c lf) (fed_gathered (record { state = f.state; line = with f.line c }) s h))
-    where
-      after : Part → Fed S
-      after g = cond g.ended (fed over step (fresh (step f.state g.line)) g.rest) (record { state = f.state; line = g.line })
-
-      go : (e : Bool) → fed over step (record { state = f.state; line = with f.line c }) s ≡ after (gathered (with f.line c) s)
-          → fed over step (cond e (fresh (step f.state f.line)) (record { state = f.state; line = with f.line c })) s
-          ≡ after (cond e (record { line = f.line; ended = true; rest = s }) (gathered (with f.line c) s))
-      go true ih = refl
-      go false ih = ih
 
   -- what a line does, by its bytes
   module _ (act : S → List ℕ → S) (meets : (s : S) (l : Line) (b : List ℕ) → Holds l b → step s l ≡ act s b) where

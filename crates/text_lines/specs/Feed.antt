@@ -1,5 +1,6 @@
 -- A machine that is fed lines, and the same machine fed bytes in pieces of any length.
 use Rattle.std.specs.Prelude.{ℕ, Bool, ◌||◌, cond, List, [], ◌∷◌, ◌++◌, eqb}
+use Rattle.text_lines.specs.declared.Input.{Input}
 use Rattle.text_lines.specs.declared.Line.{Line}
 use Rattle.text_lines.specs.Line.{no_line, with}
 use Rattle.text_lines.specs.Lines.{lf}
@@ -11,6 +12,10 @@ pub record Fed (S : Type 0) : Type 0 where
 
 abbrev pub fresh : {S : Type 0} → S → Fed S
 fresh s = record { state = s; line = no_line }
+
+-- an input as a machine that is fed, where `state` is the state that its session stands for
+abbrev pub state_of : {I S : Type 0} → (I → S) → Input I → Fed S
+state_of state i = record { state = state i.session; line = i.line }
 
 -- S are the machine's states, `over` those in which the reading has ended, `step` what a line does
 module _ {S : Type 0} (over : S → Bool) (step : S → Line → S) where

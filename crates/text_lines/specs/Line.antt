@@ -1,8 +1,7 @@
 -- A line as it is gathered byte by byte.
-use Rattle.std.specs.Prelude.{ℕ, ◌+◌, Bool, true, false, cond, List, [], ◌∷◌, eqb, ltb, take, drop, replicate, set}
+use Rattle.std.specs.Prelude.{ℕ, ◌+◌, Bool, cond, List, ltb, take, replicate, set}
 use Rattle.text_lines.specs.declared.Line.{Line}
-use Rattle.text_lines.specs.declared.Gathered.{Gathered}
-use Rattle.text_lines.specs.Lines.{max_line_bytes, lf}
+use Rattle.text_lines.specs.Lines.{max_line_bytes}
 
 abbrev pub no_line : Line
 no_line = record { length = 0; bytes = replicate max_line_bytes 0 }
@@ -19,17 +18,3 @@ too_long l = ltb max_line_bytes l.length
 
 abbrev pub bytes_of : Line → List ℕ
 bytes_of l = take l.length l.bytes
-
--- what is gathered from bytes: the line, whether an LF ended it, and what comes after it
-pub record Part : Type 0 where
-  pub line : Line
-  pub ended : Bool
-  pub rest : List ℕ
-
-unfoldable pub gathered : Line → List ℕ → Part
-gathered l [] = record { line = l; ended = false; rest = [] }
-gathered l (c ∷ s) = cond (eqb c lf) (record { line = l; ended = true; rest = s }) (gathered (with l c) s)
-
--- what was gathered up to a place of the piece
-abbrev pub seen : List ℕ → Gathered → Part
-seen piece g = record { line = g.line; ended = g.ended; rest = drop g.next piece }

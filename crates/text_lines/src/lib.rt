@@ -1,9 +1,11 @@
 // The lines of a step file, gathered from pieces of any length.
 #![tactic(auto)]
 
-ghost use Rattle.std.specs.Prelude.{◌≡◌, drop};
-ghost use Rattle.text_lines.specs.Line.{no_line, gathered, seen};
-ghost use Rattle.text_lines.specs.Answers.{no_answers};
+ghost use Rattle.std.specs.Prelude.{ℕ, Bool, ◌≡◌, eqb, false, IfSome, MatchOption, true};
+ghost use Rattle.text_lines.specs.Answers.{answers_of, no_answers, noted};
+ghost use Rattle.text_lines.specs.Feed.{fed, finished, fresh, state_of};
+ghost use Rattle.text_lines.specs.Line.{bytes_of, no_line, too_long, with};
+ghost use Rattle.text_lines.specs.declared.Line.{Line};
 
 // A line holds at most this many bytes without its LF.
 pub const MAX_LINE_BYTES: u8 = 100;
@@ -17,19 +19,11 @@ pub const ANSWERED_LINES: u16 = MAX_LINES + 1;
 const LF: u8 = 10;
 
 // The bytes of a line, as far as it is gathered: their number, up to one more than a line may hold,
-// and the first of them.
+// and the first of them. No memory is allocated for a line, so they stand in an array.
 #[derive(Clone, Copy)]
 pub struct Line {
     pub length: u8,
     pub bytes: [u8; MAX_LINE_BYTES as usize],
-}
-
-// What was gathered from a piece: the line, whether an LF ended it, and where the piece goes on.
-#[derive(Clone, Copy)]
-pub struct Gathered {
-    pub line: Line,
-    pub ended: bool,
-    pub next: usize,
 }
 
 impl Line {
@@ -42,37 +36,40 @@ impl Line {
         }
     }
 
-    // Adds the bytes of a piece from a place on, up to an LF or the piece's end.
-    pub fn gather(mut self, piece: &[u8], mut at: usize) -> Gathered
-        ensures { seen piece.now result ≡ gathered self (drop at piece.now) }
+    // Adds a byte. A line that is too long is only counted as such.
+    #[tactic(auto, unfolding(crate::specs::Line::with))]
+    pub fn push(&mut self, byte: u8)
+        ensures { self.new ≡ with self.old byte }
     {
-        while at < piece.len() {
-            let c = piece[at];
-            at += 1;
-            if c == LF {
-                return Gathered {
-                    line: self,
-                    ended: true,
-                    next: at,
-                };
-            }
-            let n = self.length;
-            if n < MAX_LINE_BYTES {
-                self.bytes[n as usize] = c;
-                self.length = n + 1;
-            } else {
-                self.length = MAX_LINE_BYTES + 1;
-            }
+        if self.length < MAX_LINE_BYTES {
+            self.bytes[usize::from(self.length)] = byte;
+            self.length += 1;
+        } else {
+            self.length = MAX_LINE_BYTES + 1;
         }
-        Gathered {
-            line: self,
-            ended: false,
-            next: at,
+    }
+
+    // Whether it has not begun.
+    pub fn is_empty(&self) -> bool
+        ensures { result ≡ eqb self.now.length 0 }
+    {
+        self.length == 0
+    }
+
+    // The bytes of a line that is not too long.
+    pub fn as_slice(&self) -> Option<&[u8]>
+        ensures long { MatchOption result (too_long self.now ≡ true) (λ _. too_long self.now ≡ false) }
+        ensures bytes { IfSome result (λ s. s.now ≡ bytes_of self.now) }
+    {
+        if self.length <= MAX_LINE_BYTES {
+            Some(&self.bytes[..usize::from(self.length)])
+        } else {
+            None
         }
     }
 }
 
-// The answers to the lines so far.
+// The answers to the lines so far. No memory is allocated for them, so they stand in an array.
 #[derive(Clone, Copy)]
 pub struct Answers {
     pub count: u16,
@@ -87,5 +84,102 @@ impl Answers {
             count: 0,
             answers: [0; ANSWERED_LINES as usize],
         }
+    }
+
+    // Adds an answer. Behind that to line 1,001 there is room for none.
+    #[tactic(auto, unfolding(crate::specs::Answers::noted))]
+    pub fn push(&mut self, answer: u8)
+        ensures { self.new ≡ noted self.old answer }
+    {
+        if self.count <= MAX_LINES {
+            self.answers[usize::from(self.count)] = answer;
+            self.count += 1;
+        }
+    }
+
+    pub fn as_slice(&self) -> &[u8]
+        ensures { result.now ≡ answers_of self.now }
+    {
+        let count = self.count.min(ANSWERED_LINES);
+        &self.answers[..usize::from(count)]
+    }
+}
+
+// What a program does with the lines of its input, one after the other, until the reading is over.
+// A proof sees a session as a state.
+pub trait Session {
+    ghost State: { Type 0 };
+
+    ghost state: { Self → State };
+
+    ghost first: { State };
+
+    ghost over: { State → Bool };
+
+    ghost step: { State → Line → State };
+
+    fn fresh() -> Self
+        ensures { state result ≡ first };
+
+    // Whether line 1,001 has been taken, which ends the reading.
+    fn is_over(&self) -> bool
+        ensures { result ≡ over (state self.now) };
+
+    fn take(&mut self, line: &Line)
+        requires { over (state self.old) ≡ false }
+        ensures { state self.new ≡ step (state self.old) line.now };
+}
+
+// A session, and the line that is gathered for it.
+#[derive(Clone, Copy)]
+pub struct Input<S> {
+    pub session: S,
+    pub line: Line,
+}
+
+impl<S: Session> Input<S> {
+    pub fn fresh() -> Input<S>
+        ensures { state_of S.state result ≡ fresh S.first }
+    {
+        Input {
+            session: S::fresh(),
+            line: Line::none(),
+        }
+    }
+
+    pub fn is_over(&self) -> bool
+        ensures { result ≡ S.over (S.state self.now.session) }
+    {
+        self.session.is_over()
+    }
+
+    // The input after a piece of any length. It is changed in place: neither the session nor the
+    // line is copied.
+    #[tactic(auto, unfolding(crate::specs::Feed::fed))]
+    pub fn feed(&mut self, piece: &[u8])
+        ensures { state_of S.state self.new ≡ fed S.over S.step (state_of S.state self.old) piece.now }
+    {
+        for byte in piece {
+            if self.session.is_over() {
+                return;
+            }
+            if *byte == LF {
+                self.session.take(&self.line);
+                self.line = Line::none();
+            } else {
+                self.line.push(*byte);
+            }
+        }
+    }
+
+    // At the input's end, a line that has begun is a line.
+    #[tactic(auto, unfolding(crate::specs::Feed::finished))]
+    pub fn finish(mut self) -> S
+        ensures { S.state result ≡ finished S.over S.step (state_of S.state self) }
+    {
+        if !self.session.is_over() && !self.line.is_empty() {
+            self.session.take(&self.line);
+        }
+        self.session
     }
 }

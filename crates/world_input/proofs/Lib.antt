@@ -1,4 +1,2 @@
-pub mod Good
 pub mod Held
 pub mod Meaning
-pub mod Ordering

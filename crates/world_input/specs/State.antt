@@ -1,6 +1,7 @@
 -- The reader of an input as a machine that is fed, whose states are the commands so far.
 use Rattle.std.specs.Prelude.{ℕ, Bool, cond, List, [], ◌∷◌, ◌++◌, leb, ltb, length}
 use Rattle.log_entry.specs.Refusal.{no_place, unreadable}
+use Rattle.text_lines.specs.declared.Input.{Input}
 use Rattle.text_lines.specs.declared.Line.{Line}
 use Rattle.text_lines.specs.Feed.{Fed}
 use Rattle.text_lines.specs.Line.{bytes_of, too_long}
@@ -8,7 +9,7 @@ use Rattle.text_lines.specs.Lines.{max_lines}
 use Rattle.text_step.specs.Step.{reading}
 use Rattle.model_steps.specs.declared.Command.{Command}
 use Rattle.model_steps.specs.Commands.{commands_in}
-use Rattle.world_input.specs.declared.Input.{Input}
+use Rattle.world_input.specs.declared.Asked.{Asked}
 use Rattle.world_input.specs.Commands.{command_to, refusing}
 
 -- what a gathered line asks for
@@ -26,5 +27,5 @@ over os = ltb max_lines (length os)
 abbrev pub with_line : List Command → Line → List Command
 with_line os line = os ++ command_at (length os) line ∷ []
 
-abbrev pub state_of : Input → Fed (List Command)
-state_of i = record { state = commands_in i.commands; line = i.line }
+abbrev pub state_of : Input Asked → Fed (List Command)
+state_of i = record { state = commands_in i.session.commands; line = i.line }

@@ -1,24 +1,25 @@
 // The lines that the program `world` reads, as what they ask of the world.
 #![tactic(auto)]
 
-ghost use Rattle.std.specs.Prelude.{[], ◌≡◌};
-ghost use Rattle.text_lines.specs.Feed.{fed, finished, fresh};
+ghost use Rattle.std.specs.Prelude.{List, [], ◌≡◌};
 ghost use Rattle.world_input.specs.Commands.{refusing};
-ghost use Rattle.world_input.specs.State.{command_at, held_command, over, state_of, with_line};
+ghost use Rattle.world_input.specs.State.{command_at, held_command, over, with_line};
 ghost use Rattle.model_steps.specs.Commands.{commands_in};
 
 use log_entry::refusal::{ACCEPTED, NO_PLACE, OUTSIDE_LIMITS, UNREADABLE};
 use model_steps::limits::COMMAND_PLACES;
 use model_steps::{Command, Commands, Step};
-use text_lines::{ANSWERED_LINES, Line, MAX_LINE_BYTES, MAX_LINES};
+use text_lines::{Line, MAX_LINES, Session};
 use text_step::Reading;
 
-// The commands, and the line that is gathered.
+// What the lines so far ask for.
 #[derive(Clone, Copy)]
-pub struct Input {
+pub struct Asked {
     pub commands: Commands,
-    pub line: Line,
 }
+
+// What the lines so far ask for, and the line that is gathered.
+pub type Input = text_lines::Input<Asked>;
 
 fn refuse(answer: u8) -> Command
     ensures { result ≡ refusing answer }
@@ -29,15 +30,13 @@ fn refuse(answer: u8) -> Command
     }
 }
 
-fn command_of(line: Line) -> Command
-    ensures { result ≡ held_command line }
+fn command_of(line: &Line) -> Command
+    ensures { result ≡ held_command line.now }
 {
-    if MAX_LINE_BYTES < line.length {
+    let Some(bytes) = line.as_slice() else {
         return refuse(UNREADABLE);
-    }
-    let n = line.length as usize;
-    let bytes = line.bytes;
-    let reading = text_step::read_step(&bytes[..n]);
+    };
+    let reading = text_step::read_step(bytes);
     if let Reading::Outside = reading {
         return refuse(OUTSIDE_LIMITS);
     }
@@ -51,8 +50,8 @@ fn command_of(line: Line) -> Command
 }
 
 // What the line asks for, after `count` others.
-fn command_at(count: u16, line: Line) -> Command
-    ensures { result ≡ command_at count line }
+fn command_at(count: u16, line: &Line) -> Command
+    ensures { result ≡ command_at count line.now }
 {
     if MAX_LINES <= count {
         return refuse(NO_PLACE);
@@ -60,64 +59,46 @@ fn command_at(count: u16, line: Line) -> Command
     command_of(line)
 }
 
-impl Input {
-    pub fn fresh() -> Input
-        ensures { state_of result ≡ fresh [] }
+impl Asked {
+    pub fn as_slice(&self) -> &[Command]
+        ensures { result.now ≡ commands_in self.now.commands }
     {
+        let places: &[Command] = &self.commands.commands;
+        &places[..usize::from(self.commands.count).min(places.len())]
+    }
+}
+
+impl Session for Asked {
+    ghost use Rattle.model_steps.specs.declared.Command.{Command};
+
+    ghost State = { List Command };
+
+    ghost state = { λ a. commands_in a.commands };
+
+    ghost first = { [] };
+
+    ghost over = { over };
+
+    ghost step = { with_line };
+
+    fn fresh() -> Asked {
         let none = refuse(ACCEPTED);
-        let commands = Commands {
-            count: 0,
-            commands: [none; COMMAND_PLACES],
-        };
-        let line = Line::none();
-        Input {
-            commands: commands,
-            line: line,
+        Asked {
+            commands: Commands {
+                count: 0,
+                commands: [none; COMMAND_PLACES],
+            },
         }
     }
 
     // Whether line 1,001 has been read, which ends the reading.
-    pub fn is_over(self) -> bool
-        ensures { result ≡ over (commands_in self.commands) }
-    {
-        let commands = self.commands;
-        MAX_LINES < commands.count
+    fn is_over(&self) -> bool {
+        usize::from(MAX_LINES) < self.as_slice().len()
     }
 
-    // The input after a piece of any length.
-    pub fn feed(self, piece: &[u8]) -> Input
-        ensures { state_of result ≡ fed over with_line (state_of self) piece.now }
-    {
-        let mut commands = self.commands;
-        let mut line = self.line;
-        let mut at: usize = 0;
-        while (at < piece.len()) & (commands.count <= MAX_LINES) {
-            let gathered = line.gather(piece, at);
-            at = gathered.next;
-            line = gathered.line;
-            if gathered.ended {
-                let n = commands.count;
-                commands.commands[n as usize] = command_at(n, line);
-                commands.count = n + 1;
-                line = Line::none();
-            }
-        }
-        Input {
-            commands: commands,
-            line: line,
-        }
-    }
-
-    // At the input's end, a line that has begun is a line.
-    pub fn finish(self) -> Commands
-        ensures { commands_in result ≡ finished over with_line (state_of self) }
-    {
-        let commands = self.commands;
-        let line = self.line;
-        if (MAX_LINES < commands.count) | (line.length == 0) {
-            return commands;
-        }
-        let ended = self.feed(b"\n");
-        ended.commands
+    fn take(&mut self, line: &Line) {
+        let count = self.commands.count;
+        self.commands.commands[usize::from(count)] = command_at(count, line);
+        self.commands.count = count + 1;
     }
 }

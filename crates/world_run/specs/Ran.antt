@@ -5,12 +5,13 @@ use Rattle.model_agreement.specs.History.{history}
 use Rattle.model_steps.specs.declared.Command.{Command}
 use Rattle.world_engine.specs.Commands.{answers_to, world_after}
 use Rattle.text_lines.specs.Answers.{answers_of}
+use Rattle.text_lines.specs.declared.Input.{Input}
 use Rattle.text_lines.specs.Feed.{fed, fresh}
 use Rattle.model_protocol.specs.World.{fresh_world}
 use Rattle.text_report.specs.Printed.{Printed}
 use Rattle.text_report.specs.Within.{longest_answers}
 use Rattle.world_report.specs.Longest.{longest_world}
-use Rattle.world_input.specs.declared.Input.{Input}
+use Rattle.world_input.specs.declared.Asked.{Asked}
 use Rattle.world_input.specs.State.{over, state_of, with_line}
 use Rattle.world_run.specs.declared.Session.{Session}
 use Rattle.world_run.specs.Program.{answers_for, printed, world, world_for}
@@ -28,7 +29,7 @@ pub record Agreed (input : List ℕ) (s : Session) : Type 0 where
   pub demand_3 : Claim (steps_of input) (history (steps_of input)) s.world
 
 -- the session of whatever bytes the input was fed
-abbrev pub AgreedOnFed : Input → Session → Type 0
+abbrev pub AgreedOnFed : Input Asked → Session → Type 0
 AgreedOnFed i s = (bytes : List ℕ) → state_of i ≡ fed over with_line (fresh []) bytes → Agreed bytes s
 
 -- what a session prints
@@ -46,5 +47,5 @@ pub record PrintsAgreed (input buffer : List ℕ) (used : ℕ) : Type 0 where
   pub demand_3 : Claim (steps_of input) (history (steps_of input)) (world_for input)
 
 -- so for the bytes that the input was fed, whatever they are
-abbrev pub PrintsFed : Input → List ℕ → ℕ → Type 0
+abbrev pub PrintsFed : Input Asked → List ℕ → ℕ → Type 0
 PrintsFed i buffer used = (bytes : List ℕ) → state_of i ≡ fed over with_line (fresh []) bytes → PrintsAgreed bytes buffer used

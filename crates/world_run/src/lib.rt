@@ -1,8 +1,6 @@
 // The program `world` from the bytes that it reads to the bytes that it prints.
 #![tactic(auto)]
 
-ghost use Rattle.std.specs.Prelude.{min, ◌≡◌};
-ghost use Rattle.text_lines.specs.Lines.{answered_lines};
 ghost use Rattle.model_steps.specs.Commands.{commands_in};
 ghost use Rattle.world_run.specs.Ran.{AgreedOnFed, PrintsFed, Ran};
 
@@ -24,20 +22,11 @@ pub struct Session {
     pub answers: Answers,
 }
 
-fn at_most(count: u16) -> u16
-    ensures { result ≡ min count answered_lines }
-{
-    if count < ANSWERED_LINES {
-        return count;
-    }
-    ANSWERED_LINES
-}
-
 // The fresh world after these commands, and the answers to them.
 pub fn run(commands: Commands) -> Session
     ensures { Ran (commands_in commands) result }
 {
-    let count = at_most(commands.count);
+    let count = commands.count.min(ANSWERED_LINES);
     let mut numbers = [0; COMMAND_PLACES];
     let world = advance(fresh_world(), commands, &mut numbers);
     let answers = Answers {
@@ -54,8 +43,8 @@ pub fn run(commands: Commands) -> Session
 pub fn run_fed(input: Input) -> Session
     ensures { AgreedOnFed input result }
 {
-    let commands = input.finish();
-    run(commands)
+    let asked = input.finish();
+    run(asked.commands)
 }
 
 // No output is longer: 1,001 answers, and the lines of a world.

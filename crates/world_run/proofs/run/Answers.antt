@@ -11,7 +11,7 @@ returns c =
     c.advance-world.result
     c.advance-world.new.answers
     (commands_length c.args.commands _ c.well_formed.0)
-    c.at_most-count.ensures
+    c.min-count.ensures
     c.fresh_world.ensures
     c.advance-world.ensures.value
     c.advance-world.ensures.answers_after

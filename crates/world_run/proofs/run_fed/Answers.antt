@@ -11,7 +11,7 @@ returns c =
     λ bytes is.
     ran_agrees
     bytes
-    (commands_in c.finish-commands.result)
+    (commands_in c.finish-asked.result.commands)
     c.run.result
-    (c.finish-commands.ensures ∙ ap (finished over with_line) is ∙ fed_is_commands bytes)
+    (c.finish-asked.ensures ∙ ap (finished over with_line) is ∙ fed_is_commands bytes)
     c.run.ensures
