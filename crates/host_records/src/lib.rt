@@ -120,77 +120,37 @@ impl Numbers {
     }
 }
 
-fn wide(b: u8) -> u32
-    ensures { result ≡ b }
-{
-    b as u32
-}
-
-fn update_byte(b: u8) -> Update
-    ensures { result ≡ b }
-{
-    b as Update
-}
-
-// The number of an update's bytes, low byte first.
-fn from_low_first(bytes: &[u8]) -> Update
-    requires { length bytes.now ≡ update_bytes }
-    ensures { result ≡ from_low_first bytes.now }
-{
-    let mut u: Update = 0;
-    let mut read: usize = 0;
-    while read < UPDATE_BYTES {
-        read += 1;
-        u = update_byte(bytes[UPDATE_BYTES - read]) + UPDATE_BASE * u;
-    }
-    u
-}
-
 // What the bytes of a record read as, for a log of so many stores.
 pub fn read(stores: u8, bytes: &[u8]) -> Reading
     ensures { result ≡ read_record stores bytes.now }
 {
-    if bytes.len() != RECORD_SIZE {
+    let [kind, process, by, store, tx, list, say, turn, update @ ..] = bytes else {
         return Reading::Refused(UNREADABLE);
-    }
+    };
+    let Ok(update) = <[u8; UPDATE_BYTES]>::try_from(update) else {
+        return Reading::Refused(UNREADABLE);
+    };
     let n = Numbers {
-        kind: wide(bytes[0]),
-        process: wide(bytes[1]),
-        by: wide(bytes[2]),
-        store: wide(bytes[3]),
-        tx: wide(bytes[4]),
-        list: wide(bytes[5]),
-        say: wide(bytes[6]),
-        turn: wide(bytes[7]),
-        update: from_low_first(&bytes[UPDATE_AT..]),
+        kind: u32::from(*kind),
+        process: u32::from(*process),
+        by: u32::from(*by),
+        store: u32::from(*store),
+        tx: u32::from(*tx),
+        list: u32::from(*list),
+        say: u32::from(*say),
+        turn: u32::from(*turn),
+        update: Update::from_le_bytes(update),
     };
     n.read(stores)
-}
-
-fn either(test: bool, yes: u8, no: u8) -> u8
-    ensures { result ≡ cond test yes no }
-{
-    if test {
-        return yes;
-    }
-    no
 }
 
 // An update's bytes, low byte first, stored from a place on; what has no room is left out.
 pub fn put_low_first(out: &mut [u8], at: usize, u: Update)
     ensures { out.new ≡ sets out.old at (low_first update_bytes u) }
 {
-    let mut rest = u;
-    let mut to = at;
-    let mut left: usize = UPDATE_BYTES;
-    while 0 < left {
-        if out.len() <= to {
-            return;
-        }
-        out[to] = (rest % UPDATE_BASE) as u8;
-        rest = rest / UPDATE_BASE;
-        to += 1;
-        left -= 1;
+    if at < out.len() {
+        let count = UPDATE_BYTES.min(out.len() - at);
+        out[at..at + count].copy_from_slice(&u.to_le_bytes()[..count]);
     }
 }
 
@@ -199,13 +159,13 @@ pub fn record_of(e: Entry) -> [u8; RECORD_SIZE]
     ensures { result ≡ record_of e }
 {
     let mut bytes = [0u8; RECORD_SIZE];
-    bytes[0] = either(e.take, TAKE, VOTE);
+    bytes[0] = if e.take { TAKE } else { VOTE };
     bytes[1] = e.process;
     bytes[2] = e.by;
     bytes[3] = e.store;
     bytes[4] = e.tx;
     bytes[5] = e.participants;
-    bytes[6] = either(e.commit, COMMIT, ABORT);
+    bytes[6] = if e.commit { COMMIT } else { ABORT };
     bytes[7] = e.turn;
     put_low_first(&mut bytes, UPDATE_AT, e.update);
     bytes

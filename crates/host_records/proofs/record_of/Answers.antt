@@ -1,5 +1,6 @@
 use Rattle.host_records.proofs.RecordLaws.{record_bytes}
 use Rattle.host_records.proofs.record_of.Goals as goal
+use Rattle.host_records.proofs.record_of.Goals.{then-e, else-e, then-e-2, else-e-2}
 
 pub returns : goal.returns
-returns c = record_bytes c.args.e c.put_low_first.ensures c.either.ensures c.either-2.ensures
+returns c = ?
