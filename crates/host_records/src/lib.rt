@@ -2,15 +2,16 @@
 // C".
 #![tactic(auto)]
 
-ghost use Rattle.std.specs.Prelude.{cond, ◌≡◌, length};
+ghost use Rattle.std.specs.Prelude.{◌≡◌, ◌≤◌, MatchResult};
 ghost use Rattle.std.proofs.lemmas.List.Edits.{sets};
 ghost use Rattle.log_entry.specs.Limits.{update_bytes};
-ghost use Rattle.host_records.specs.Numbers.{beyond_byte, read_numbers, turn_meant, unreadable};
-ghost use Rattle.host_records.specs.Record.{from_low_first, low_first, read_record, record_of};
+ghost use Rattle.log_entry.specs.declared.refusal.Refusal.TheVariants.{OutsideLimits};
+ghost use Rattle.host_records.specs.Numbers.{byte_values, read_numbers, turn_meant, unreadable};
+ghost use Rattle.host_records.specs.Record.{low_first, read_record, record_of};
 
-use log_entry::Entry;
 use log_entry::limits::{FIRST_TURN, UPDATE_BYTES, Update};
-use log_entry::refusal::{OUTSIDE_LIMITS, UNREADABLE};
+use log_entry::refusal::Refusal;
+use log_entry::{Entry, Request, Say};
 
 // Where the update begins in a record. `specs/Record.antt` has the same number for the contracts.
 const UPDATE_AT: usize = 8;
@@ -25,11 +26,6 @@ const VOTE: u8 = 1;
 const ABORT: u8 = 0;
 
 const COMMIT: u8 = 1;
-// A byte's values; an update counts by them too.
-const BYTE_VALUES: u32 = 256;
-
-const UPDATE_BASE: Update = BYTE_VALUES as Update;
-
 // The numbers that a call or a record says, within any limits or not.
 #[derive(Clone, Copy)]
 pub struct Numbers {
@@ -47,11 +43,11 @@ pub struct Numbers {
     pub update: Update,
 }
 
-// What numbers or a record read as: an entry, or the refusal.
-#[derive(Clone, Copy)]
-pub enum Reading {
-    Of(Entry),
-    Refused(u8),
+// A number of an entry, whose limits are all within a byte.
+fn byte(n: u32) -> Result<u8, Refusal>
+    ensures { MatchResult result (λ b. b ≡ n) (λ r. (r ≡ OutsideLimits) × (byte_values ≤ n)) }
+{
+    u8::try_from(n).map_err(|_| Refusal::OutsideLimits)
 }
 
 // The turn that the number stands for.
@@ -66,69 +62,58 @@ fn turn_meant(n: u8) -> u8
 
 impl Numbers {
     // Refusal 1.
+    #[tactic(auto, unfolding(crate::specs::Numbers::unreadable))]
     fn unreadable(self) -> bool
         ensures { result ≡ unreadable self }
     {
-        if self.kind == VOTE as u32 {
-            return (COMMIT as u32) < self.say;
+        if self.kind == u32::from(VOTE) {
+            return u32::from(COMMIT) < self.say;
         }
-        let used = (self.by != 0)
-            | (self.tx != 0)
-            | (self.list != 0)
-            | (self.say != 0)
-            | (self.update != 0);
-        (self.kind != TAKE as u32) | used
-    }
-
-    // Whether a number other than the update is more than a byte holds.
-    fn beyond_byte(self) -> bool
-        ensures { result ≡ beyond_byte self }
-    {
-        (BYTE_VALUES <= self.process)
-            | (BYTE_VALUES <= self.by)
-            | (BYTE_VALUES <= self.store)
-            | (BYTE_VALUES <= self.tx)
-            | (BYTE_VALUES <= self.list)
-            | (BYTE_VALUES <= self.turn)
+        let used = self.by != 0
+            || self.tx != 0
+            || self.list != 0
+            || self.say != 0
+            || self.update != 0;
+        self.kind != u32::from(TAKE) || used
     }
 
     // What they read as, for a log of so many stores.
-    pub fn read(self, stores: u8) -> Reading
+    pub fn read(self, stores: u8) -> Result<Entry, Refusal>
         ensures { result ≡ read_numbers stores self }
     {
         if self.unreadable() {
-            return Reading::Refused(UNREADABLE);
+            return Err(Refusal::Unreadable);
         }
-        if self.beyond_byte() {
-            return Reading::Refused(OUTSIDE_LIMITS);
-        }
-        let e = Entry {
-            take: self.kind == TAKE as u32,
-            process: self.process as u8,
-            turn: turn_meant(self.turn as u8),
-            by: self.by as u8,
-            store: self.store as u8,
-            tx: self.tx as u8,
-            participants: self.list as u8,
-            commit: self.say == COMMIT as u32,
+        let say = if self.say == u32::from(COMMIT) { Say::Commit } else { Say::Abort };
+        let vote = Request::Vote {
+            by: byte(self.by)?,
+            tx: byte(self.tx)?,
+            list: byte(self.list)?,
+            say,
             update: self.update,
         };
+        let e = Entry {
+            process: byte(self.process)?,
+            turn: turn_meant(byte(self.turn)?),
+            store: byte(self.store)?,
+            request: if self.kind == u32::from(TAKE) { Request::Take } else { vote },
+        };
         if e.outside(stores) {
-            return Reading::Refused(OUTSIDE_LIMITS);
+            return Err(Refusal::OutsideLimits);
         }
-        Reading::Of(e)
+        Ok(e)
     }
 }
 
 // What the bytes of a record read as, for a log of so many stores.
-pub fn read(stores: u8, bytes: &[u8]) -> Reading
+pub fn read(stores: u8, bytes: &[u8]) -> Result<Entry, Refusal>
     ensures { result ≡ read_record stores bytes.now }
 {
     let [kind, process, by, store, tx, list, say, turn, update @ ..] = bytes else {
-        return Reading::Refused(UNREADABLE);
+        return Err(Refusal::Unreadable);
     };
     let Ok(update) = <[u8; UPDATE_BYTES]>::try_from(update) else {
-        return Reading::Refused(UNREADABLE);
+        return Err(Refusal::Unreadable);
     };
     let n = Numbers {
         kind: u32::from(*kind),
@@ -154,19 +139,33 @@ pub fn put_low_first(out: &mut [u8], at: usize, u: Update)
     }
 }
 
-// The bytes of an entry's record.
+// The bytes of an entry's record. What a take does not use is 0.
 pub fn record_of(e: Entry) -> [u8; RECORD_SIZE]
     ensures { result ≡ record_of e }
 {
     let mut bytes = [0u8; RECORD_SIZE];
-    bytes[0] = if e.take { TAKE } else { VOTE };
     bytes[1] = e.process;
-    bytes[2] = e.by;
     bytes[3] = e.store;
-    bytes[4] = e.tx;
-    bytes[5] = e.participants;
-    bytes[6] = if e.commit { COMMIT } else { ABORT };
     bytes[7] = e.turn;
-    put_low_first(&mut bytes, UPDATE_AT, e.update);
+    match e.request {
+        Request::Take => bytes[0] = TAKE,
+        Request::Vote {
+            by,
+            tx,
+            list,
+            say,
+            update,
+        } => {
+            bytes[0] = VOTE;
+            bytes[2] = by;
+            bytes[4] = tx;
+            bytes[5] = list;
+            bytes[6] = match say {
+                Say::Abort => ABORT,
+                Say::Commit => COMMIT,
+            };
+            put_low_first(&mut bytes, UPDATE_AT, update);
+        }
+    }
     bytes
 }
