@@ -1,5 +1,5 @@
 -- The bytes of a number, low byte first: those of std's words, and what is stored of them.
-use Prim.Native.Nat.{ℕ, zero, suc, ◌<◌, ◌≤◌, ◌+◌, ◌-◌, ◌*◌, ◌/◌, ◌%◌, ◌^◌, min}
+use Prim.Native.Nat.{ℕ, zero, suc, ◌<◌, ◌≤◌, ◌+◌, ◌-◌, ◌*◌, ◌/◌, ◌^◌, min}
 use mathlib.Core.List.{List, [], ◌∷◌, ◌++◌}
 use mathlib.Core.Path.{◌≡◌, refl, sym, ap, ◌∙◌}
 use native.Mathlib.Nat.{add-sub_cancel_left, add-suc, add-zero, div-div-eq-div-mul, pow-suc, suc-add}
@@ -9,7 +9,7 @@ use lib.ListN.{drop, get_or, length, length-drop, length-take, set, take}
 use lib.Seq.{drop-drop, length-sets, set_out, sets, sets-eq}
 use Rattle.std.proofs.lemmas.List.{append_assoc, take-append-drop}
 use Rattle.std.proofs.lemmas.Nat.{le_bytes_8}
-use Rattle.std.specs.Int.{bytes_low_first, from_le_bytes, to_le_bytes, w64}
+use Rattle.std.specs.Int.{from_le_bytes, to_le_bytes, w64}
 use Rattle.log_entry.specs.Limits.{update_bytes}
 use Rattle.host_records.specs.Numbers.{byte_values}
 use Rattle.host_records.specs.Record.{from_low_first, low_first}

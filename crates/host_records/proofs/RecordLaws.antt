@@ -1,6 +1,5 @@
 -- What the tests of a record's bytes come to, and what its bytes are.
 use Prim.Native.Nat.{ℕ, ◌<◌, ◌+◌, ◌-◌, ◌^◌}
-use mathlib.Core.Bool.{cond}
 use mathlib.Core.List.{List}
 use mathlib.Core.Path.{◌≡◌, ap, ◌∙◌}
 use native.Mathlib.Omega.{arith}
@@ -11,9 +10,8 @@ use Rattle.std.specs.Int.{from_le_bytes, w64}
 use Rattle.log_entry.specs.Limits.{update_bytes}
 use Rattle.host_records.proofs.LowFirst.{word_read}
 use Rattle.log_entry.specs.declared.refusal.Refusal.TheVariants.{Unreadable}
-use Rattle.log_entry.specs.declared.Entry.{Entry}
-use Rattle.host_records.specs.Numbers.{Reading, abort_say, byte_values, commit_say, numbers, read_numbers, take_kind, vote_kind}
-use Rattle.host_records.specs.Record.{bytes_of, from_low_first, numbers_in, read_record, record_of, record_size, update_at}
+use Rattle.host_records.specs.Numbers.{Reading, byte_values, numbers, read_numbers}
+use Rattle.host_records.specs.Record.{from_low_first, numbers_in, read_record, record_size, update_at}
 use Rattle.host_records.specs.declared.Numbers.{Numbers}
 use Rattle.std.proofs.Common.{Err}
 

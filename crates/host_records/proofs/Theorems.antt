@@ -5,7 +5,6 @@ use mathlib.Core.Bool.{Bool, cond, false, not, true, false≢true, ◌&&◌}
 use mathlib.Core.Path.{◌≡◌, ap, refl, sym, ◌∙◌}
 use native.Mathlib.Omega.{arith}
 use borrow.Author.Tests.{ne_eqb, not-true}
-use lib.Dec.{eqb}
 use lib.ListN.{length}
 use Rattle.log_entry.proofs.InsideLaws.{inside_turn, inside_vote}
 use Rattle.log_entry.specs.declared.Entry.{Entry}

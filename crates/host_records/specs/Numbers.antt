@@ -1,6 +1,6 @@
 -- Document 01, "Hosts in C": an entry as numbers. A call has them, and a record has them as its
 -- bytes.
-use Rattle.std.specs.Prelude.{ℕ, Bool, ◌||◌, not, cond, eqb, ltb, Result, Ok, Err}
+use Rattle.std.specs.Prelude.{ℕ, Bool, ◌||◌, not, cond, eqb, leb, ltb, Result, Ok, Err}
 use Rattle.log_entry.specs.declared.Entry.{Entry}
 use Rattle.log_entry.specs.declared.Request.{Request}
 use Rattle.log_entry.specs.declared.Request.TheVariants.{Take, Vote}
@@ -70,3 +70,13 @@ Reading = Result Entry Refusal
 unfoldable pub read_numbers : ℕ → Numbers → Reading
 read_numbers limit n =
     cond (unreadable n) (Err Unreadable) (cond (outside limit (entry_of n)) (Err OutsideLimits) (Ok (entry_of n)))
+
+-- a number other than the update is more than a byte holds; every limit is below that
+unfoldable pub beyond_byte : Numbers → Bool
+beyond_byte n =
+    leb byte_values n.process
+    || leb byte_values n.by
+    || leb byte_values n.store
+    || leb byte_values n.tx
+    || leb byte_values n.list
+    || leb byte_values n.turn

@@ -2,11 +2,12 @@
 // C".
 #![tactic(auto)]
 
-ghost use Rattle.std.specs.Prelude.{◌≡◌, ◌≤◌, MatchResult};
+ghost use Rattle.std.specs.Prelude.{true, ◌≡◌, ◌≤◌, eqb, MatchResult};
 ghost use Rattle.std.proofs.lemmas.List.Edits.{sets};
+ghost use Rattle.log_entry.specs.Entry.{say_of};
 ghost use Rattle.log_entry.specs.Limits.{update_bytes};
 ghost use Rattle.log_entry.specs.declared.refusal.Refusal.TheVariants.{OutsideLimits};
-ghost use Rattle.host_records.specs.Numbers.{byte_values, read_numbers, turn_meant, unreadable};
+ghost use Rattle.host_records.specs.Numbers.{beyond_byte, byte_values, commit_say, entry_of, read_numbers, request_of, turn_meant, unreadable};
 ghost use Rattle.host_records.specs.Record.{low_first, read_record, record_of};
 
 use log_entry::limits::{FIRST_TURN, UPDATE_BYTES, Update};
@@ -60,6 +61,16 @@ fn turn_meant(n: u8) -> u8
     n
 }
 
+// What a vote with the number says.
+fn say_meant(n: u32) -> Say
+    ensures { result ≡ say_of (eqb n commit_say) }
+{
+    if n == u32::from(COMMIT) {
+        return Say::Commit;
+    }
+    Say::Abort
+}
+
 impl Numbers {
     // Refusal 1.
     #[tactic(auto, unfolding(crate::specs::Numbers::unreadable))]
@@ -77,27 +88,45 @@ impl Numbers {
         self.kind != u32::from(TAKE) || used
     }
 
+    // What they ask for. What a take does not use is not looked at.
+    #[tactic(auto, unfolding(crate::specs::Numbers::beyond_byte))]
+    fn request(self) -> Result<Request, Refusal>
+        ensures { MatchResult result (λ q. q ≡ request_of self) (λ r. (r ≡ OutsideLimits) × (beyond_byte self ≡ true)) }
+    {
+        if self.kind == u32::from(TAKE) {
+            return Ok(Request::Take);
+        }
+        Ok(Request::Vote {
+            by: byte(self.by)?,
+            tx: byte(self.tx)?,
+            list: byte(self.list)?,
+            say: say_meant(self.say),
+            update: self.update,
+        })
+    }
+
+    // The entry that they stand for, by any limits.
+    #[tactic(auto, unfolding(crate::specs::Numbers::beyond_byte))]
+    fn entry(self) -> Result<Entry, Refusal>
+        ensures { MatchResult result (λ e. e ≡ entry_of self) (λ r. (r ≡ OutsideLimits) × (beyond_byte self ≡ true)) }
+    {
+        Ok(Entry {
+            process: byte(self.process)?,
+            turn: turn_meant(byte(self.turn)?),
+            store: byte(self.store)?,
+            request: self.request()?,
+        })
+    }
+
     // What they read as, for a log of so many stores.
+    #[tactic(auto, using(crate::proofs::ReadLaws::beyond_is_outside), unfolding(crate::specs::Numbers::read_numbers))]
     pub fn read(self, stores: u8) -> Result<Entry, Refusal>
         ensures { result ≡ read_numbers stores self }
     {
         if self.unreadable() {
             return Err(Refusal::Unreadable);
         }
-        let say = if self.say == u32::from(COMMIT) { Say::Commit } else { Say::Abort };
-        let vote = Request::Vote {
-            by: byte(self.by)?,
-            tx: byte(self.tx)?,
-            list: byte(self.list)?,
-            say,
-            update: self.update,
-        };
-        let e = Entry {
-            process: byte(self.process)?,
-            turn: turn_meant(byte(self.turn)?),
-            store: byte(self.store)?,
-            request: if self.kind == u32::from(TAKE) { Request::Take } else { vote },
-        };
+        let e = self.entry()?;
         if e.outside(stores) {
             return Err(Refusal::OutsideLimits);
         }
@@ -140,6 +169,7 @@ pub fn put_low_first(out: &mut [u8], at: usize, u: Update)
 }
 
 // The bytes of an entry's record. What a take does not use is 0.
+#[tactic(auto, unfolding(crate::specs::Record::record_of))]
 pub fn record_of(e: Entry) -> [u8; RECORD_SIZE]
     ensures { result ≡ record_of e }
 {
