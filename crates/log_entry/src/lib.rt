@@ -2,7 +2,7 @@
 #![tactic(auto)]
 
 ghost use Rattle.std.specs.Prelude.{◌≡◌};
-ghost use Rattle.log_entry.specs.Entry.{ill_formed, no_process, no_turn, outside, same_entry, take_entry, vote_entry, is_take, list_of, says_commit};
+ghost use Rattle.log_entry.specs.Entry.{ill_formed, no_process, no_turn, outside, same_entry, take_entry, vote_entry, is_take, list_of, says_commit, tx_of};
 ghost use Rattle.log_entry.specs.Limits.{stores_with};
 
 use limits::{PROCESSES, SMALL_STORES, STORES, Update, no_list, stores_of, transactions_of};
@@ -125,6 +125,16 @@ impl Entry {
         ensures { result ≡ is_take self }
     {
         matches!(self.request, Request::Take)
+    }
+
+    // The transaction that a vote is on. A take is on none: 0.
+    pub fn tx(self) -> u8
+        ensures { result ≡ tx_of self }
+    {
+        match self.request {
+            Request::Take => 0,
+            Request::Vote { tx, .. } => tx,
+        }
     }
 
     // The list of a vote. A take has none: 0.
