@@ -1,6 +1,5 @@
 pub mod Cases
 pub mod LowFirst
-pub mod NumbersLaws
 pub mod ReadLaws
 pub mod ReadableLaws
 pub mod ReadingLaws

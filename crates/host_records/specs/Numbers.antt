@@ -1,13 +1,14 @@
 -- Document 01, "Hosts in C": an entry as numbers. A call has them, and a record has them as its
 -- bytes.
-use Rattle.std.specs.Prelude.{ℕ, Bool, ◌||◌, not, cond, eqb, leb, ltb}
+use Rattle.std.specs.Prelude.{ℕ, Bool, ◌||◌, not, cond, eqb, leb, ltb, Result, Ok, Err}
 use Rattle.log_entry.specs.declared.Entry.{Entry}
-use Rattle.log_entry.specs.Entry.{outside}
+use Rattle.log_entry.specs.declared.Request.{Request}
+use Rattle.log_entry.specs.declared.Request.TheVariants.{Take, Vote}
+use Rattle.log_entry.specs.declared.refusal.Refusal.{Refusal}
+use Rattle.log_entry.specs.declared.refusal.Refusal.TheVariants.{OutsideLimits, Unreadable}
+use Rattle.log_entry.specs.Entry.{by_of, is_take, list_of, outside, say_of, says_commit, tx_of, update_in}
 use Rattle.log_entry.specs.Limits.{first_turn}
-use Rattle.log_entry.specs.Refusal.{outside_limits, unreadable as unreadable_number}
 use Rattle.host_records.specs.declared.Numbers.{Numbers}
-use Rattle.host_records.specs.declared.Reading.{Reading}
-use Rattle.host_records.specs.declared.Reading.TheVariants.{Of, Refused}
 
 -- kind: 0 take, 1 vote
 abbrev pub take_kind : ℕ
@@ -35,26 +36,20 @@ numbers kind process by store tx list say turn update =
 -- the numbers of an entry
 abbrev pub numbers_of : Entry → Numbers
 numbers_of e =
-    numbers (cond e.take take_kind vote_kind) e.process e.by e.store e.tx e.participants (cond e.commit commit_say abort_say) e.turn e.update
+    numbers (cond (is_take e) take_kind vote_kind) e.process (by_of e) e.store (tx_of e) (list_of e) (cond (says_commit e) commit_say abort_say) e.turn (update_in e)
 
 -- "a host's record carries the turn in its zero byte, 0 meaning 1, in a call too; turn 1 is stored
 -- as 1": the turn that such a number stands for
 abbrev pub turn_meant : ℕ → ℕ
 turn_meant n = cond (eqb n 0) first_turn n
 
+-- what numbers ask for
+abbrev pub request_of : Numbers → Request
+request_of n = cond (eqb n.kind take_kind) Take (Vote n.by n.tx n.list (say_of (eqb n.say commit_say)) n.update)
+
 -- the entry that numbers stand for
 abbrev pub entry_of : Numbers → Entry
-entry_of n = record {
-  take = eqb n.kind take_kind;
-  process = n.process;
-  turn = turn_meant n.turn;
-  by = n.by;
-  store = n.store;
-  tx = n.tx;
-  participants = n.list;
-  commit = eqb n.say commit_say;
-  update = n.update;
-}
+entry_of n = record { process = n.process; turn = turn_meant n.turn; store = n.store; request = request_of n }
 
 -- "bytes a take does not use are 0": all but kind, process, store and turn
 abbrev pub unused_is_set : Numbers → Bool
@@ -67,10 +62,14 @@ unreadable n =
     (ltb commit_say n.say)
     (not (eqb n.kind take_kind) || unused_is_set n)
 
+-- what numbers or a record read as: an entry, or the refusal
+abbrev pub Reading : Type 0
+Reading = Result Entry Refusal
+
 -- 1, then 2 by the limit of the log that the entry is for, or the entry
 unfoldable pub read_numbers : ℕ → Numbers → Reading
 read_numbers limit n =
-    cond (unreadable n) (Refused unreadable_number) (cond (outside limit (entry_of n)) (Refused outside_limits) (Of (entry_of n)))
+    cond (unreadable n) (Err Unreadable) (cond (outside limit (entry_of n)) (Err OutsideLimits) (Ok (entry_of n)))
 
 -- a number other than the update is more than a byte holds; every limit is below that
 unfoldable pub beyond_byte : Numbers → Bool

@@ -1,15 +1,13 @@
 -- Document 01, "Hosts in C": "kind (0 take, 1 vote), process, by, store, tx, list, say (0 abort, 1
 -- commit), a zero, and the update, low byte first". Document 02: "a host's record grows to 16
 -- bytes", and it "carries the turn in its zero byte".
-use Rattle.std.specs.Prelude.{ℕ, zero, suc, ◌+◌, ◌*◌, ◌/◌, ◌%◌, Bool, ◌&&◌, cond, not, List, [], ◌∷◌, eqb, drop, get_or, length}
+use Rattle.std.specs.Prelude.{ℕ, zero, suc, ◌+◌, ◌*◌, ◌/◌, ◌%◌, Bool, ◌&&◌, cond, not, List, [], ◌∷◌, eqb, drop, get_or, length, Err}
 use Rattle.log_entry.specs.Limits.{update_bytes}
-use Rattle.log_entry.specs.Refusal.{unreadable as unreadable_number}
+use Rattle.log_entry.specs.declared.refusal.Refusal.TheVariants.{Unreadable}
 use Rattle.log_entry.specs.declared.Entry.{Entry}
 use Rattle.log_entry.specs.Entry.{outside}
 use Rattle.host_records.specs.declared.Numbers.{Numbers}
-use Rattle.host_records.specs.declared.Reading.{Reading}
-use Rattle.host_records.specs.declared.Reading.TheVariants.{Refused}
-use Rattle.host_records.specs.Numbers.{byte_values, entry_of, numbers, numbers_of, read_numbers, unreadable}
+use Rattle.host_records.specs.Numbers.{Reading, byte_values, entry_of, numbers, numbers_of, read_numbers, unreadable}
 
 -- where the bytes of the update begin in a record
 abbrev pub update_at : ℕ
@@ -44,7 +42,7 @@ numbers_in bytes =
 -- what a record reads as, for a log of this limit; what is no record, for its length, is 1
 unfoldable pub read_record : ℕ → List ℕ → Reading
 read_record limit bytes =
-    cond (eqb (length bytes) record_size) (read_numbers limit (numbers_in bytes)) (Refused unreadable_number)
+    cond (eqb (length bytes) record_size) (read_numbers limit (numbers_in bytes)) (Err Unreadable)
 
 -- the entry that a record's numbers stand for
 abbrev pub entry_in : List ℕ → Entry

@@ -2,15 +2,17 @@
 // C".
 #![tactic(auto)]
 
-ghost use Rattle.std.specs.Prelude.{cond, ◌≡◌, length};
+ghost use Rattle.std.specs.Prelude.{true, ◌≡◌, ◌≤◌, eqb, MatchResult};
 ghost use Rattle.std.proofs.lemmas.List.Edits.{sets};
+ghost use Rattle.log_entry.specs.Entry.{say_of};
 ghost use Rattle.log_entry.specs.Limits.{update_bytes};
-ghost use Rattle.host_records.specs.Numbers.{beyond_byte, read_numbers, turn_meant, unreadable};
-ghost use Rattle.host_records.specs.Record.{from_low_first, low_first, read_record, record_of};
+ghost use Rattle.log_entry.specs.declared.refusal.Refusal.TheVariants.{OutsideLimits};
+ghost use Rattle.host_records.specs.Numbers.{beyond_byte, byte_values, commit_say, entry_of, read_numbers, request_of, turn_meant, unreadable};
+ghost use Rattle.host_records.specs.Record.{low_first, read_record, record_of};
 
-use log_entry::Entry;
 use log_entry::limits::{FIRST_TURN, UPDATE_BYTES, Update};
-use log_entry::refusal::{OUTSIDE_LIMITS, UNREADABLE};
+use log_entry::refusal::Refusal;
+use log_entry::{Entry, Request, Say};
 
 // Where the update begins in a record. `specs/Record.antt` has the same number for the contracts.
 const UPDATE_AT: usize = 8;
@@ -25,11 +27,6 @@ const VOTE: u8 = 1;
 const ABORT: u8 = 0;
 
 const COMMIT: u8 = 1;
-// A byte's values; an update counts by them too.
-const BYTE_VALUES: u32 = 256;
-
-const UPDATE_BASE: Update = BYTE_VALUES as Update;
-
 // The numbers that a call or a record says, within any limits or not.
 #[derive(Clone, Copy)]
 pub struct Numbers {
@@ -47,11 +44,11 @@ pub struct Numbers {
     pub update: Update,
 }
 
-// What numbers or a record read as: an entry, or the refusal.
-#[derive(Clone, Copy)]
-pub enum Reading {
-    Of(Entry),
-    Refused(u8),
+// A number of an entry, whose limits are all within a byte.
+fn byte(n: u32) -> Result<u8, Refusal>
+    ensures { MatchResult result (λ b. b ≡ n) (λ r. (r ≡ OutsideLimits) × (byte_values ≤ n)) }
+{
+    u8::try_from(n).map_err(|_| Refusal::OutsideLimits)
 }
 
 // The turn that the number stands for.
@@ -64,149 +61,141 @@ fn turn_meant(n: u8) -> u8
     n
 }
 
+// What a vote with the number says.
+fn say_meant(n: u32) -> Say
+    ensures { result ≡ say_of (eqb n commit_say) }
+{
+    if n == u32::from(COMMIT) {
+        return Say::Commit;
+    }
+    Say::Abort
+}
+
 impl Numbers {
     // Refusal 1.
+    #[tactic(auto, unfolding(crate::specs::Numbers::unreadable))]
     fn unreadable(self) -> bool
         ensures { result ≡ unreadable self }
     {
-        if self.kind == VOTE as u32 {
-            return (COMMIT as u32) < self.say;
+        if self.kind == u32::from(VOTE) {
+            return u32::from(COMMIT) < self.say;
         }
-        let used = (self.by != 0)
-            | (self.tx != 0)
-            | (self.list != 0)
-            | (self.say != 0)
-            | (self.update != 0);
-        (self.kind != TAKE as u32) | used
+        let used = self.by != 0
+            || self.tx != 0
+            || self.list != 0
+            || self.say != 0
+            || self.update != 0;
+        self.kind != u32::from(TAKE) || used
     }
 
-    // Whether a number other than the update is more than a byte holds.
-    fn beyond_byte(self) -> bool
-        ensures { result ≡ beyond_byte self }
+    // What they ask for. What a take does not use is not looked at.
+    #[tactic(auto, unfolding(crate::specs::Numbers::beyond_byte))]
+    fn request(self) -> Result<Request, Refusal>
+        ensures { MatchResult result (λ q. q ≡ request_of self) (λ r. (r ≡ OutsideLimits) × (beyond_byte self ≡ true)) }
     {
-        (BYTE_VALUES <= self.process)
-            | (BYTE_VALUES <= self.by)
-            | (BYTE_VALUES <= self.store)
-            | (BYTE_VALUES <= self.tx)
-            | (BYTE_VALUES <= self.list)
-            | (BYTE_VALUES <= self.turn)
+        if self.kind == u32::from(TAKE) {
+            return Ok(Request::Take);
+        }
+        Ok(Request::Vote {
+            by: byte(self.by)?,
+            tx: byte(self.tx)?,
+            list: byte(self.list)?,
+            say: say_meant(self.say),
+            update: self.update,
+        })
+    }
+
+    // The entry that they stand for, by any limits.
+    #[tactic(auto, unfolding(crate::specs::Numbers::beyond_byte))]
+    fn entry(self) -> Result<Entry, Refusal>
+        ensures { MatchResult result (λ e. e ≡ entry_of self) (λ r. (r ≡ OutsideLimits) × (beyond_byte self ≡ true)) }
+    {
+        Ok(Entry {
+            process: byte(self.process)?,
+            turn: turn_meant(byte(self.turn)?),
+            store: byte(self.store)?,
+            request: self.request()?,
+        })
     }
 
     // What they read as, for a log of so many stores.
-    pub fn read(self, stores: u8) -> Reading
+    #[tactic(auto, using(crate::proofs::ReadLaws::beyond_is_outside), unfolding(crate::specs::Numbers::read_numbers))]
+    pub fn read(self, stores: u8) -> Result<Entry, Refusal>
         ensures { result ≡ read_numbers stores self }
     {
         if self.unreadable() {
-            return Reading::Refused(UNREADABLE);
+            return Err(Refusal::Unreadable);
         }
-        if self.beyond_byte() {
-            return Reading::Refused(OUTSIDE_LIMITS);
-        }
-        let e = Entry {
-            take: self.kind == TAKE as u32,
-            process: self.process as u8,
-            turn: turn_meant(self.turn as u8),
-            by: self.by as u8,
-            store: self.store as u8,
-            tx: self.tx as u8,
-            participants: self.list as u8,
-            commit: self.say == COMMIT as u32,
-            update: self.update,
-        };
+        let e = self.entry()?;
         if e.outside(stores) {
-            return Reading::Refused(OUTSIDE_LIMITS);
+            return Err(Refusal::OutsideLimits);
         }
-        Reading::Of(e)
+        Ok(e)
     }
-}
-
-fn wide(b: u8) -> u32
-    ensures { result ≡ b }
-{
-    b as u32
-}
-
-fn update_byte(b: u8) -> Update
-    ensures { result ≡ b }
-{
-    b as Update
-}
-
-// The number of an update's bytes, low byte first.
-fn from_low_first(bytes: &[u8]) -> Update
-    requires { length bytes.now ≡ update_bytes }
-    ensures { result ≡ from_low_first bytes.now }
-{
-    let mut u: Update = 0;
-    let mut read: usize = 0;
-    while read < UPDATE_BYTES {
-        read += 1;
-        u = update_byte(bytes[UPDATE_BYTES - read]) + UPDATE_BASE * u;
-    }
-    u
 }
 
 // What the bytes of a record read as, for a log of so many stores.
-pub fn read(stores: u8, bytes: &[u8]) -> Reading
+pub fn read(stores: u8, bytes: &[u8]) -> Result<Entry, Refusal>
     ensures { result ≡ read_record stores bytes.now }
 {
-    if bytes.len() != RECORD_SIZE {
-        return Reading::Refused(UNREADABLE);
-    }
+    let [kind, process, by, store, tx, list, say, turn, update @ ..] = bytes else {
+        return Err(Refusal::Unreadable);
+    };
+    let Ok(update) = <[u8; UPDATE_BYTES]>::try_from(update) else {
+        return Err(Refusal::Unreadable);
+    };
     let n = Numbers {
-        kind: wide(bytes[0]),
-        process: wide(bytes[1]),
-        by: wide(bytes[2]),
-        store: wide(bytes[3]),
-        tx: wide(bytes[4]),
-        list: wide(bytes[5]),
-        say: wide(bytes[6]),
-        turn: wide(bytes[7]),
-        update: from_low_first(&bytes[UPDATE_AT..]),
+        kind: u32::from(*kind),
+        process: u32::from(*process),
+        by: u32::from(*by),
+        store: u32::from(*store),
+        tx: u32::from(*tx),
+        list: u32::from(*list),
+        say: u32::from(*say),
+        turn: u32::from(*turn),
+        update: Update::from_le_bytes(update),
     };
     n.read(stores)
-}
-
-fn either(test: bool, yes: u8, no: u8) -> u8
-    ensures { result ≡ cond test yes no }
-{
-    if test {
-        return yes;
-    }
-    no
 }
 
 // An update's bytes, low byte first, stored from a place on; what has no room is left out.
 pub fn put_low_first(out: &mut [u8], at: usize, u: Update)
     ensures { out.new ≡ sets out.old at (low_first update_bytes u) }
 {
-    let mut rest = u;
-    let mut to = at;
-    let mut left: usize = UPDATE_BYTES;
-    while 0 < left {
-        if out.len() <= to {
-            return;
-        }
-        out[to] = (rest % UPDATE_BASE) as u8;
-        rest = rest / UPDATE_BASE;
-        to += 1;
-        left -= 1;
+    if at < out.len() {
+        let count = UPDATE_BYTES.min(out.len() - at);
+        out[at..at + count].copy_from_slice(&u.to_le_bytes()[..count]);
     }
 }
 
-// The bytes of an entry's record.
+// The bytes of an entry's record. What a take does not use is 0.
+#[tactic(auto, unfolding(crate::specs::Record::record_of))]
 pub fn record_of(e: Entry) -> [u8; RECORD_SIZE]
     ensures { result ≡ record_of e }
 {
     let mut bytes = [0u8; RECORD_SIZE];
-    bytes[0] = either(e.take, TAKE, VOTE);
     bytes[1] = e.process;
-    bytes[2] = e.by;
     bytes[3] = e.store;
-    bytes[4] = e.tx;
-    bytes[5] = e.participants;
-    bytes[6] = either(e.commit, COMMIT, ABORT);
     bytes[7] = e.turn;
-    put_low_first(&mut bytes, UPDATE_AT, e.update);
+    match e.request {
+        Request::Take => bytes[0] = TAKE,
+        Request::Vote {
+            by,
+            tx,
+            list,
+            say,
+            update,
+        } => {
+            bytes[0] = VOTE;
+            bytes[2] = by;
+            bytes[4] = tx;
+            bytes[5] = list;
+            bytes[6] = match say {
+                Say::Abort => ABORT,
+                Say::Commit => COMMIT,
+            };
+            put_low_first(&mut bytes, UPDATE_AT, update);
+        }
+    }
     bytes
 }
