@@ -1,12 +1,14 @@
 -- The meaning of the program `plain`: from the bytes read to the bytes written.
-use Rattle.std.specs.Prelude.{ℕ, Bool, cond, List, [], ◌∷◌, ◌++◌, leb, ltb, length}
+use Rattle.std.specs.Prelude.{ℕ, Bool, cond, List, [], ◌∷◌, ◌++◌, leb, ltb, length, Result, Ok, Err}
+use Rattle.log_entry.specs.declared.Entry.{Entry}
+use Rattle.log_entry.specs.Number.{answer_number}
 use Rattle.log_entry.specs.Refusal.{no_place, outside_limits, unreadable}
 use Rattle.log_core.specs.declared.Entered.{Entered}
 use Rattle.log_core.specs.declared.Log.{Log}
 use Rattle.log_core.specs.Enter.{answered, enter}
 use Rattle.log_core.specs.Log.{empty_log}
-use Rattle.text_entry.specs.declared.Reading.{Reading}
-use Rattle.text_entry.specs.declared.Reading.TheVariants.{Read, Outside, Unreadable}
+use Rattle.text_entry.specs.declared.Unread.{Unread}
+use Rattle.text_entry.specs.declared.Unread.TheVariants.{Outside, Unreadable}
 use Rattle.text_entry.specs.Entry.{reading}
 use Rattle.text_lines.specs.Feed.{fed_lines}
 use Rattle.text_lines.specs.Lines.{lines, max_line_bytes, max_lines}
@@ -14,10 +16,10 @@ use Rattle.text_report.specs.Report.{answers_text, log_text}
 
 -- the log and the answer after what the reader says of a line: an entry is entered, a number that
 -- no byte holds is answered 2, and a line that does not read 1
-abbrev pub entering : Log → Reading → Entered
-entering l (Read e) = enter l e
-entering l Outside = answered l outside_limits
-entering l Unreadable = answered l unreadable
+abbrev pub entering : Log → Result Entry Unread → Entered
+entering l (Ok e) = enter l e
+entering l (Err Outside) = answered l outside_limits
+entering l (Err Unreadable) = answered l unreadable
 
 -- "a line that does not read as a step of this program, or is over 100 bytes without its LF" is
 -- answered 1
@@ -30,7 +32,7 @@ pub record Run : Type 0 where
   pub answers : List ℕ
 
 abbrev pub noted : Run → Entered → Run
-noted r e = record { log = e.log; answers = r.answers ++ e.answer ∷ [] }
+noted r e = record { log = e.log; answers = r.answers ++ answer_number e.answer ∷ [] }
 
 -- line 1,001 has been answered
 abbrev pub over : Run → Bool

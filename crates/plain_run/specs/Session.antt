@@ -1,6 +1,9 @@
 -- What the functions under `main` do: the session that they keep, and how it stands for a run.
-use Rattle.std.specs.Prelude.{ℕ, Bool, cond, List, eqb, leb, ltb}
-use Rattle.log_entry.specs.Refusal.{accepted, no_place, unreadable}
+use Rattle.std.specs.Prelude.{ℕ, Bool, cond, List, leb, ltb, Result, Ok, Err}
+use Rattle.log_entry.specs.declared.Entry.{Entry}
+use Rattle.log_entry.specs.declared.refusal.Refusal.{Refusal}
+use Rattle.log_entry.specs.Number.{answer_number}
+use Rattle.log_entry.specs.Refusal.{no_place, unreadable}
 use Rattle.log_core.specs.declared.Entered.{Entered}
 use Rattle.log_core.specs.declared.Log.{Log}
 use Rattle.log_core.specs.Enter.{answered, enter}
@@ -12,7 +15,6 @@ use Rattle.text_lines.specs.Answers.{answers_of, no_answers, noted as answers_no
 use Rattle.text_lines.specs.Feed.{Fed}
 use Rattle.text_lines.specs.Line.{bytes_of, too_long}
 use Rattle.text_lines.specs.Lines.{max_lines}
-use Rattle.plain_run.specs.declared.Command.{Command}
 use Rattle.plain_run.specs.declared.Session.{Session}
 use Rattle.plain_run.specs.Plain.{Run, entering, printed}
 
@@ -24,9 +26,10 @@ enter_held l line = cond (too_long line) (answered l unreadable) (entering l (re
 abbrev pub line_entered : Log → ℕ → Line → Entered
 line_entered l count line = cond (leb max_lines count) (answered l no_place) (enter_held l line)
 
--- the log and the answer after a command: its entry is entered, or what is none is answered
-abbrev pub carried_out : Log → Command → Entered
-carried_out l c = cond (eqb c.refused accepted) (enter l c.entry) (answered l c.refused)
+-- the log and the answer after a command: its entry is entered, or its refusal answered
+abbrev pub carried_out : Log → Result Entry Refusal → Entered
+carried_out l (Ok e) = enter l e
+carried_out l (Err r) = answered l (Err r)
 
 abbrev pub fresh_session : Session
 fresh_session = record { log = empty_log; answers = no_answers }
@@ -35,7 +38,7 @@ abbrev pub is_over : Session → Bool
 is_over s = ltb max_lines s.answers.count
 
 abbrev pub noted : Session → Entered → Session
-noted s e = record { log = e.log; answers = answers_noted s.answers e.answer }
+noted s e = record { log = e.log; answers = answers_noted s.answers (answer_number e.answer) }
 
 -- the session after a line
 unfoldable pub answer_line : Session → Line → Session

@@ -7,10 +7,9 @@ ghost use Rattle.log_core.specs.declared.Log.{Log};
 ghost use Rattle.plain_run.specs.Session.{answer_line, carried_out, fresh_session, is_over, line_entered};
 
 use log_core::Log;
-use log_entry::refusal::{ACCEPTED, NO_PLACE, OUTSIDE_LIMITS, UNREADABLE};
+use log_entry::refusal::{self, Refusal};
 use log_entry::{Entry, Limit};
 use text_ascii::Page;
-use text_entry::Reading;
 use text_lines::{ANSWERED_LINES, Answers, Line, MAX_LINES};
 use text_report::{ANSWER_BYTES, LINE_BYTES, LOG_LINES};
 
@@ -24,53 +23,17 @@ pub struct Session {
 // A session, and the line that is gathered for it.
 pub type Input = text_lines::Input<Session>;
 
-// What a line asks for: an entry, or an answer that is not the log's.
-#[derive(Clone, Copy)]
-pub struct Command {
-    pub refused: u8,
-    pub entry: Entry,
-}
-
-fn refuse(answer: u8) -> Command
-    ensures { result.refused ≡ answer }
-{
-    Command {
-        refused: answer,
-        entry: Entry::take_of(0, 0, 0),
-    }
-}
-
-// What the line asks for, after `count` others.
-fn command_at(count: u16, line: &Line) -> Command
+// What the line asks for, after `count` others: an entry, or a refusal that is not the log's.
+fn command_at(count: u16, line: &Line) -> Result<Entry, Refusal>
     ensures { (l : Log) → carried_out l result ≡ line_entered l count line.now }
 {
     if MAX_LINES <= count {
-        return refuse(NO_PLACE);
+        return Err(Refusal::NoPlace);
     }
     let Some(bytes) = line.as_slice() else {
-        return refuse(UNREADABLE);
+        return Err(Refusal::Unreadable);
     };
-    let reading = text_entry::read_entry(bytes);
-    if let Reading::Outside = reading {
-        return refuse(OUTSIDE_LIMITS);
-    }
-    let Reading::Read(entry) = reading else {
-        return refuse(UNREADABLE);
-    };
-    Command {
-        refused: ACCEPTED,
-        entry,
-    }
-}
-
-// The answer to a command.
-fn answer_to(log: &Log, c: Command) -> u8
-    ensures { result ≡ (carried_out log.now c).answer }
-{
-    if c.refused != ACCEPTED {
-        return c.refused;
-    }
-    log.answer_to(c.entry)
+    Ok(text_entry::read_entry(bytes)?)
 }
 
 impl text_lines::Session for Session {
@@ -100,11 +63,15 @@ impl text_lines::Session for Session {
 
     // An answer is stored in place, and a log comes back only where an entry was accepted.
     fn take(&mut self, line: &Line) {
-        let command = command_at(self.answers.count, line);
-        let answer = answer_to(&self.log, command);
-        self.answers.push(answer);
-        if answer == ACCEPTED {
-            self.log = self.log.enter(command.entry).log;
+        match command_at(self.answers.count, line) {
+            Err(refusal) => self.answers.push(refusal.number()),
+            Ok(entry) => {
+                let answer = self.log.answer_to(entry);
+                self.answers.push(refusal::number(answer));
+                if answer.is_ok() {
+                    self.log = self.log.enter(entry).log;
+                }
+            }
         }
     }
 }
