@@ -8,8 +8,8 @@ use Rattle.log_entry.specs.declared.Entry.{Entry}
 use Rattle.log_entry.specs.Refusal.{no_place, unreadable}
 use Rattle.log_core.specs.declared.Log.{Log}
 use Rattle.log_core.specs.Enter.{answered}
-use Rattle.text_entry.specs.declared.Reading.{Reading}
-use Rattle.text_entry.specs.declared.Reading.TheVariants.{Read, Outside, Unreadable}
+use Rattle.text_entry.specs.declared.Unread.{Unread}
+use Rattle.std.specs.Prelude.{Result}
 use Rattle.text_entry.specs.Entry.{reading}
 use Rattle.text_lines.specs.declared.Line.{Line}
 use Rattle.text_lines.specs.Line.{bytes_of, too_long}
@@ -22,7 +22,7 @@ module _ (l : Log) (line : Line) where
   unfolding enter_held
   held_long h = rw h
 
-  pub held_short : too_long line ≡ false → (s : List ℕ) → s ≡ bytes_of line → (r : Reading) → r ≡ reading s → entering l r ≡ enter_held l line
+  pub held_short : too_long line ≡ false → (s : List ℕ) → s ≡ bytes_of line → (r : Result Entry Unread) → r ≡ reading s → entering l r ≡ enter_held l line
   unfolding enter_held
   held_short h s e r k = rw h (ap (entering l) (k ∙ ap reading e))
 
@@ -32,9 +32,3 @@ module _ (l : Log) (line : Line) where
 
     pub usual_line : count < max_lines → enter_held l line ≡ line_entered l count line
     usual_line h = rw (lt-leb max_lines count h)
-
--- a reading that is neither `Outside` nor `Read`
-pub neither : (r : Reading) → (r ≡ Outside → ⊥) → ((e : Entry) → r ≡ Read e → ⊥) → r ≡ Unreadable
-neither (Read e) a b = absurd (b e refl)
-neither Outside a b = absurd (a refl)
-neither Unreadable a b = refl

@@ -6,6 +6,7 @@ use mathlib.Core.List.{List, [], ◌∷◌, ◌++◌}
 use mathlib.Core.Path.{◌≡◌, refl, sym, ◌∙◌, ap}
 use lib.Dec.{leb, ltb}
 use borrow.Author.Tests.{ltb-false}
+use Rattle.log_entry.specs.Number.{answer_number}
 use Rattle.log_entry.specs.Refusal.{no_place, unreadable}
 use Rattle.log_core.specs.declared.Entered.{Entered}
 use Rattle.log_core.specs.declared.Log.{Log}
@@ -46,7 +47,7 @@ line_is : (s : Session) (b : List ℕ) → Sound s.answers → s.answers.count �
 unfolding answer_bytes after_line
 line_is s b h k =
     let e : Entered = cond (leb max_lines s.answers.count) (answered s.log no_place) (enter_line s.log b) in
-    let p : run_of (noted s e) ≡ record { log = e.log; answers = answers_of s.answers ++ e.answer ∷ [] } = (λ i. record { log = e.log; answers = noted_answers s.answers e.answer h k i }) in
+    let p : run_of (noted s e) ≡ record { log = e.log; answers = answers_of s.answers ++ answer_number e.answer ∷ [] } = (λ i. record { log = e.log; answers = noted_answers s.answers (answer_number e.answer) h k i }) in
     p ∙ ap (λ (n : ℕ). plain_noted (run_of s) (cond (leb max_lines n) (answered s.log no_place) (enter_line s.log b))) (sym (counts s.answers h))
 
 lines_are : (s : Session) (ls : List (List ℕ)) → Sound s.answers → run_of (fed_lines is_over answer_bytes s ls) ≡ fed_lines over after_line (run_of s) ls

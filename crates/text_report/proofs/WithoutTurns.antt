@@ -4,12 +4,14 @@ use mathlib.Core.Bool.{Bool, ◌&&◌, ◌||◌, cond}
 use mathlib.Core.List.{List, [], ◌∷◌, ◌++◌, map}
 use mathlib.Core.Path.{◌≡◌, ap, ap₂, refl, ◌∙◌}
 use lib.Dec.{eqb}
-use lib.ListN.{get_or-map}
+use lib.ListN.{get_or, get_or-map}
 use Rattle.log_entry.specs.Limits.{stores, transactions}
 use Rattle.log_votes.specs.declared.Outcome.{Outcome}
-use Rattle.log_votes.specs.declared.Outcome.TheVariants.{Open, Commit, Abort}
+use Rattle.log_votes.specs.declared.Outcome.TheVariants as outcome
 use Rattle.log_votes.specs.declared.Row.{Row}
 use Rattle.log_votes.specs.declared.Vote.{Vote}
+use Rattle.log_votes.specs.declared.Vote.TheVariants.{Absent, Abort, Commit}
+use Rattle.log_votes.specs.Vote.{vote_kept, vote_list, vote_update}
 use Rattle.log_votes.specs.Outcome.{is_abort, is_commit, is_covered, is_kept, meets, outcome_of_votes}
 use Rattle.log_votes.specs.Row.{no_row, no_vote}
 use Rattle.log_votes.specs.Scan.{all_from, any_from}
@@ -41,32 +43,70 @@ unfolding all_from
 all_same f g h i [] = refl
 all_same f g h i (v ∷ vs) = ap₂ ◌&&◌ (h i v) (all_same f g h (suc i) vs)
 
+-- no test of a vote, and nothing that is printed of one, looks at its turn
+kept_alike : Alike is_kept is_kept
+kept_alike s Absent = refl
+kept_alike s (Abort l p t b u) = refl
+kept_alike s (Commit l p t b u) = refl
+
+abort_alike : Alike is_abort is_abort
+abort_alike s Absent = refl
+abort_alike s (Abort l p t b u) = refl
+abort_alike s (Commit l p t b u) = refl
+
+commit_alike : Alike is_commit is_commit
+commit_alike s Absent = refl
+commit_alike s (Abort l p t b u) = refl
+commit_alike s (Commit l p t b u) = refl
+
+meets_alike : (list : ℕ) → Alike (meets list) (meets list)
+meets_alike list s Absent = refl
+meets_alike list s (Abort l p t b u) = refl
+meets_alike list s (Commit l p t b u) = refl
+
+list_alike : (v : Vote) → vote_list (vote_without_turn v) ≡ vote_list v
+list_alike Absent = refl
+list_alike (Abort l p t b u) = refl
+list_alike (Commit l p t b u) = refl
+
+update_alike : (v : Vote) → vote_update (vote_without_turn v) ≡ vote_update v
+update_alike Absent = refl
+update_alike (Abort l p t b u) = refl
+update_alike (Commit l p t b u) = refl
+
+covered_alike : (vs : List Vote) → Alike (is_covered (map vote_without_turn vs)) (is_covered vs)
+covered_alike vs s v =
+    ap₂ ◌&&◌
+    (kept_alike s v)
+    (ap (λ (list : ℕ). all_from (meets list) 0 (map vote_without_turn vs)) (list_alike v)
+    ∙ all_same (meets (vote_list v)) (meets (vote_list v)) (meets_alike (vote_list v)) 0 vs)
+
 outcome_same : (vs : List Vote) → outcome_of_votes (map vote_without_turn vs) ≡ outcome_of_votes vs
 unfolding outcome_of_votes
 outcome_same vs =
-    ap₂ (λ (a c : Bool). cond a Abort (cond c Commit Open))
-    (any_same is_abort is_abort (λ s v. refl) 0 vs)
-    (any_same (is_covered (map vote_without_turn vs)) (is_covered vs)
-    (λ s v. ap (λ (b : Bool). v.kept && b) (all_same (meets v.participants) (meets v.participants) (λ s u. refl) 0 vs))
-    0 vs)
+    ap₂ (λ (a c : Bool). cond a outcome.Abort (cond c outcome.Commit outcome.Open))
+    (any_same is_abort is_abort abort_alike 0 vs)
+    (any_same (is_covered (map vote_without_turn vs)) (is_covered vs) (covered_alike vs) 0 vs)
 
 -- ---- rows
 
 row_same : (r : Row) (tx : ℕ) → row_text (row_without_turns r) tx ≡ row_text r tx
 row_same r tx =
     ap₂ (λ (k : Bool) (o : Outcome). cond k (tx_line tx o r.group) [])
-    (any_same is_kept is_kept (λ s v. refl) 0 r.votes)
+    (any_same is_kept is_kept kept_alike 0 r.votes)
     (outcome_same r.votes)
 
 group_same : (store g tx : ℕ) (rs : List Row) → group_replay store g tx (map row_without_turns rs) ≡ group_replay store g tx rs
 unfolding group_replay
 group_same store g tx [] = refl
 group_same store g tx (r ∷ rs) =
-    ap₂
-    (λ (v : Vote) (rest : List Replayed).
-    cond (eqb r.group g && is_commit store v) (record { group = g; tx = tx; update = v.update } ∷ rest) rest)
-    (get_or-map vote_without_turn r.votes store no_vote)
-    (group_same store g (suc tx) rs)
+    let v = get_or r.votes store no_vote in
+    let line : Vote → List Replayed → List Replayed =
+        λ v rest. cond (eqb r.group g && is_commit store v) (record { group = g; tx = tx; update = vote_update v } ∷ rest) rest in
+    ap₂ line (get_or-map vote_without_turn r.votes store no_vote) (group_same store g (suc tx) rs)
+    ∙ ap₂
+    (λ (commit : Bool) (update : ℕ). cond (eqb r.group g && commit) (record { group = g; tx = tx; update = update } ∷ group_replay store g (suc tx) rs) (group_replay store g (suc tx) rs))
+    (commit_alike store v) (update_alike v)
 
 replay_same : (store : ℕ) (rs : List Row) (g n : ℕ) → replay_from store (map row_without_turns rs) g n ≡ replay_from store rs g n
 unfolding replay_from

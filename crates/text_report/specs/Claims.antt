@@ -3,6 +3,7 @@ use Rattle.std.specs.Prelude.{ℕ, ◌<◌, List, [], map, ◌≡◌, drop, leng
 use Rattle.log_entry.specs.Limits.{updates}
 use Rattle.log_votes.specs.declared.Row.{Row}
 use Rattle.log_votes.specs.declared.Vote.{Vote}
+use Rattle.log_votes.specs.declared.Vote.TheVariants.{Absent, Abort, Commit}
 use Rattle.log_core.specs.declared.Log.{Log}
 use Rattle.text_ascii.specs.Hex.{hex_number}
 use Rattle.text_report.specs.Report.{log_text, update_field}
@@ -16,8 +17,9 @@ UpdateIsPrinted =
 
 -- a vote, a row and a log with their turns taken out
 abbrev pub vote_without_turn : Vote → Vote
-vote_without_turn v =
-    record { kept = v.kept; commit = v.commit; participants = v.participants; process = v.process; turn = 0; by = v.by; update = v.update }
+vote_without_turn Absent = Absent
+vote_without_turn (Abort list process turn by update) = Abort list process 0 by update
+vote_without_turn (Commit list process turn by update) = Commit list process 0 by update
 
 abbrev pub row_without_turns : Row → Row
 row_without_turns r = record { votes = map vote_without_turn r.votes; group = r.group }
