@@ -105,7 +105,7 @@ unfolding enter_line
 answered_2_is_outside l s h = go (ltb max_line_bytes (length s)) (reading s) refl h
   where
     go : (b : Bool) (r : Result Entry Unread) → reading s ≡ r → (cond b (answered l unreadable) (entering l r)).answer ≡ outside_limits → (e : Entry) × IsText s e × (outside l.stores e ≡ true)
-    go true r k h = absurd (err_refused h)
+    go true r k h = absurd (grind (arith, h))
     go false (Ok e) k h = (e, read_line_is_text s e k, refused_2 l e (sym (answer_is l e) ∙ h))
     go false (Err Outside) k h = let t = outside_line_is_text s k in (t.0, t.1, t.2 l.stores)
-    go false (Err Unreadable) k h = absurd (err_refused h)
+    go false (Err Unreadable) k h = absurd (grind (arith, h))

@@ -26,24 +26,24 @@ module _ (l : Log) (e : Entry) where
   unfolding enter
   log_stays h = refused_by (effect_of (parts_of l e) e) h
 
--- the session after a line, by its command and the answer to it
-module _ (s : Session) (line : Line) {c : Result Entry Refusal}
-    (asked : (l : Log) → carried_out l c ≡ line_entered l s.answers.count line) where
+-- the session after a line, by its command
+module _ (s : Session) (line : Line) where
   abbrev pub after : Log → ℕ → Session
   after l n = record { log = l; answers = answers_noted s.answers n }
 
-  is_noted : (l : Log) (n : ℕ) → l ≡ (carried_out s.log c).log → n ≡ answer_number (carried_out s.log c).answer → after l n ≡ answer_line s line
-  unfolding answer_line
-  is_noted l n h k =
-      let a : ◌≡◌ {A = Session} (after l n) (noted s (carried_out s.log c)) = (λ i. record { log = h i; answers = ap (answers_noted s.answers) k i }) in
-      a ∙ ap (noted s) (asked s.log)
+  module _ (c : Result Entry Refusal) (asked : (l : Log) → carried_out l c ≡ line_entered l s.answers.count line) where
+    is_noted : {l : Log} {n : ℕ} → l ≡ (carried_out s.log c).log → n ≡ answer_number (carried_out s.log c).answer → after l n ≡ answer_line s line
+    unfolding answer_line
+    is_noted {l} {n} h k =
+        let a : ◌≡◌ {A = Session} (after l n) (noted s (carried_out s.log c)) = (λ i. record { log = h i; answers = ap (answers_noted s.answers) k i }) in
+        a ∙ ap (noted s) (asked s.log)
 
-  pub line_refused : {r : Refusal} → c ≡ Err r → after s.log (number_of r) ≡ answer_line s line
-  line_refused h = is_noted s.log _ (rw h) (rw h)
+    pub line_refused : {r : Refusal} {n : ℕ} → n ≡ number_of r → c ≡ Err r → after s.log n ≡ answer_line s line
+    line_refused k h = is_noted (rw h) (rw h k)
 
-  module _ {e : Entry} (h : c ≡ Ok e) {a : Answer} (answer : a ≡ (enter s.log e).answer) where
-    pub entry_accepted : after (enter s.log e).log (answer_number a) ≡ answer_line s line
-    entry_accepted = is_noted (enter s.log e).log _ (rw h) (rw h (ap answer_number answer))
+    module _ {e : Entry} (h : c ≡ Ok e) {a : Answer} (answer : a ≡ (enter s.log e).answer) {n : ℕ} (number : n ≡ answer_number a) where
+      pub entry_accepted : after (enter s.log e).log n ≡ answer_line s line
+      entry_accepted = is_noted (rw h) (rw h (number ∙ ap answer_number answer))
 
-    pub entry_refused : is_ok a ≡ false → after s.log (answer_number a) ≡ answer_line s line
-    entry_refused no = is_noted s.log _ (rw h (log_stays s.log e (ap is_ok (sym answer) ∙ no))) (rw h (ap answer_number answer))
+      pub entry_refused : is_ok a ≡ false → after s.log n ≡ answer_line s line
+      entry_refused bad = is_noted (rw h (log_stays s.log e (ap is_ok (sym answer) ∙ bad))) (rw h (number ∙ ap answer_number answer))

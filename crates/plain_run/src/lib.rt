@@ -33,7 +33,10 @@ fn command_at(count: u16, line: &Line) -> Result<Entry, Refusal>
     let Some(bytes) = line.as_slice() else {
         return Err(Refusal::Unreadable);
     };
-    Ok(text_entry::read_entry(bytes)?)
+    match text_entry::read_entry(bytes) {
+        Ok(entry) => Ok(entry),
+        Err(unread) => Err(Refusal::from(unread)),
+    }
 }
 
 impl text_lines::Session for Session {
