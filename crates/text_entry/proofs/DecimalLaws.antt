@@ -23,7 +23,7 @@ use Rattle.text_entry.specs.Read.{after, is_end, part, read_field, read_kind, un
 use Rattle.text_ascii.specs.Decimal.{byte_numbers}
 use Rattle.text_entry.specs.Table.{Reader, any_beyond, answer_of, at, made, no_byte, read_as}
 use Rattle.text_entry.proofs.Counts.{beyond_at, beyond_here, beyond_last, beyond_later, no_byte_lem}
-use Rattle.text_entry.proofs.Fronts.{answered, begun, counts, line_answer, step, stop, unbegun}
+use Rattle.text_entry.proofs.Fronts.{answer_to, begun, counts, line_whole, step, stop, unbegun}
 use Rattle.text_entry.proofs.ReadsText.{line_text_lem}
 use Rattle.text_entry.proofs.Table.{by_fields, elements}
 
@@ -136,43 +136,31 @@ bytes_counted keys vs = go (any_beyond vs) refl
     go true h = rw (h, sym (fields_counted keys vs) ∙ h)
     go false h = ap (λ (us : List ℕ). bytes_of (some us)) (sym (fields_fit keys vs (all_fit vs h)))
 
--- the answer to the numbers of a line of decimals
-abbrev pub bytes_in : Option (List ℕ) → Result (List ℕ) Unread
-bytes_in None = Err Unreadable
-bytes_in (Some ns) = bytes_of (some ns)
-
+-- the answer to a line of decimals
 module _ (name : List ℕ) (keys : List (Bor (List ℕ))) (s : List ℕ) where
   abbrev decimal_kind : Kind
   decimal_kind = kind name (decimal_fields keys)
 
-  line_decimals : bytes_in (whole (kind_front decimal_kind s)) ≡ bytes_of (read_kind decimal_kind s)
-  line_decimals = go (kind_front decimal_kind s) ∙ line_answer decimal_kind bytes_of (bytes_counted keys) s
-    where
-      go : (o : Option (List ℕ × List ℕ)) → bytes_in (whole o) ≡ answered decimal_kind bytes_of (bytes_counted keys) o
-      go None = refl
-      go (Some x) = ends (is_end x.1)
-        where
-          ends : (b : Bool) → bytes_in (cond b (Some x.0) None) ≡ cond b (bytes_of (some x.0)) (Err Unreadable)
-          ends true = refl
-          ends false = refl
+  line_decimals : answer_to bytes_of (whole (kind_front decimal_kind s)) ≡ bytes_of (read_kind decimal_kind s)
+  line_decimals = line_whole decimal_kind bytes_of (bytes_counted keys) s
 
   pub unnamed : unreadable ≡ after (named name) (part 0 s) → Err Unreadable ≡ bytes_of (read_kind decimal_kind s)
-  unnamed h = ap (λ (o : Option (List ℕ × List ℕ)). bytes_in (whole o)) (sym (unbegun decimal_kind s h)) ∙ line_decimals
+  unnamed h = ap (λ (o : Option (List ℕ × List ℕ)). answer_to bytes_of (whole o)) (sym (unbegun decimal_kind s h)) ∙ line_decimals
 
-  pub after_name : (t : List ℕ) (r : Option (List ℕ)) → part 0 t ≡ after (named name) (part 0 s) → r ≡ whole (front (decimal_fields keys) (part 0 t)) → bytes_in r ≡ bytes_of (read_kind decimal_kind s)
-  after_name t r h e = ap bytes_in (e ∙ ap whole (sym (begun decimal_kind s t h refl))) ∙ line_decimals
+  pub after_name : (t : List ℕ) (r : Option (List ℕ)) → part 0 t ≡ after (named name) (part 0 s) → r ≡ whole (front (decimal_fields keys) (part 0 t)) → answer_to bytes_of r ≡ bytes_of (read_kind decimal_kind s)
+  after_name t r h e = ap (answer_to bytes_of) (e ∙ ap whole (sym (begun decimal_kind s t h refl))) ∙ line_decimals
 
 -- ---- bytes, one after the other
 
 module _ (n : ℕ) where
-  no_byte_is : {e : Unread} → byte_of n ≡ Err e → (no_byte n ≡ true) × (e ≡ Outside)
+  pub no_byte_is : {e : Unread} → byte_of n ≡ Err e → (no_byte n ≡ true) × (e ≡ Outside)
   no_byte_is {e} h = go (no_byte n) h
     where
       go : (b : Bool) → cond b (Err Outside) (Ok n) ≡ Err e → (b ≡ true) × (e ≡ Outside)
       go true h = (refl, cc)
       go false h = let z : ◌≡◌ {A = ℕ} 0 1 = cc in absurd (omega arith)
 
-  byte_is : {m : ℕ} → byte_of n ≡ Ok m → (no_byte n ≡ false) × (m ≡ n)
+  pub byte_is : {m : ℕ} → byte_of n ≡ Ok m → (no_byte n ≡ false) × (m ≡ n)
   byte_is {m} h = go (no_byte n) h
     where
       go : (b : Bool) → cond b (Err Outside) (Ok n) ≡ Ok m → (b ≡ false) × (m ≡ n)

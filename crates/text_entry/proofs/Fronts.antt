@@ -1,18 +1,20 @@
 -- The values at the front of a line, read one after the other, tell what the line reads as.
-use Prim.Native.Nat.{ℕ}
-use native.Mathlib.Omega.{arith}
+use Prim.Native.Nat.{ℕ, suc}
+use native.Mathlib.Nat.{zero-add}
 use mathlib.Core.Bool.{Bool, true, false, ◌&&◌, cond, false≢true, true≢false}
 use mathlib.Core.List.{List, [], ◌∷◌, ◌++◌}
 use mathlib.Core.Option as maybe
 use mathlib.Core.Option.{none, some}
 use mathlib.Core.Path.{◌≡◌, refl, sym, ◌∙◌, ap, subst}
+use lib.ListN.{length}
 use Rattle.std.proofs.Common.{Option, None, Some}
 use Rattle.text_ascii.proofs.Words.{begins_splits, clash, clash_begins}
 use Rattle.text_ascii.specs.Bytes.{begins}
 use Rattle.text_entry.specs.Fields.{Field, Form, Kind, Presence, absent, always, name_text, optional}
-use Rattle.text_entry.specs.Parts.{counted, counted_part, front, kind_front, then_front}
+use Rattle.text_entry.specs.Parts.{counted, counted_part, front, kind_front, then_front, whole}
 use Rattle.text_entry.specs.Read.{Part, after, is_end, part, read_field, read_fields, read_in, read_kind, unreadable, with}
 use Rattle.text_entry.proofs.Digits.{nothing}
+use Rattle.text_entry.proofs.Table.{by_elements, elements}
 use Rattle.text_entry.proofs.TextReads.{stopped, stopped_in}
 
 -- what is read after a part depends on what stands after it, and not on its value
@@ -111,6 +113,11 @@ tells (f ∷ fs) p =
     counting v vs None h = tt
     counting v vs (Some x) h = ap (λ (us : List ℕ). counted f.form v ∷ us) h
 
+-- the answer to the values of a whole line
+abbrev pub answer_to : {R : Type 0} → (maybe.Option (List ℕ) → R) → Option (List ℕ) → R
+answer_to answer None = answer none
+answer_to answer (Some vs) = answer (some vs)
+
 -- a kind of line, the answer to its values, and that only the counts matter
 module _ {R : Type 0} (k : Kind) (answer : maybe.Option (List ℕ) → R) (same : (vs : List ℕ) → answer (some vs) ≡ answer (some (counts k.fields vs))) where
   -- the answer by what stands in front
@@ -132,6 +139,65 @@ module _ {R : Type 0} (k : Kind) (answer : maybe.Option (List ℕ) → R) (same 
           ends : (b : Bool) → cond b (answer (some x.0)) (answer none) ≡ answer (cond b (some vs) none)
           ends true = ap (λ (us : List ℕ). answer (some us)) (sym h) ∙ sym (same vs)
           ends false = refl
+
+  pub line_whole : (s : List ℕ) → answer_to answer (whole (kind_front k s)) ≡ answer (read_kind k s)
+  line_whole s = go (kind_front k s) ∙ line_answer s
+    where
+      go : (o : Option (List ℕ × List ℕ)) → answer_to answer (whole o) ≡ answered o
+      go None = refl
+      go (Some x) = ends (is_end x.1)
+        where
+          ends : (b : Bool) → answer_to answer (cond b (Some x.0) None) ≡ cond b (answer (some x.0)) (answer none)
+          ends true = refl
+          ends false = refl
+
+-- ---- one field more
+
+abbrev pub and_field : Field → Option (List ℕ × List ℕ) → Option (List ℕ × List ℕ)
+and_field f None = None
+and_field f (Some x) =
+    cond (read_field f (part 0 x.1)).readable (Some (x.0 ++ counted f.form (read_field f (part 0 x.1)).value ∷ [], (read_field f (part 0 x.1)).rest)) None
+
+pub front_and : (fs : List Field) (f : Field) (p : Part) → front (fs ++ f ∷ []) p ≡ and_field f (front fs p)
+unfolding front
+front_and [] f p = go p.readable refl
+  where
+    go : (b : Bool) → p.readable ≡ b → front (f ∷ []) p ≡ and_field f (cond p.readable (Some ([], p.rest)) None)
+    go true h =
+        let e : p ≡ part p.value p.rest = λ i. record { readable = h i; value = p.value; rest = p.rest } in
+        ap (λ (q : Part). front (f ∷ []) q) e
+        ∙ ap (λ (q : Part). then_front (counted f.form q.value) (front [] q)) (sym (field_behind f.presence f.key f.form (part p.value p.rest) 0))
+        ∙ one (read_field f (part 0 p.rest))
+        ∙ ap (λ (b : Bool). and_field f (cond b (Some ([], p.rest)) None)) (sym h)
+      where
+        one : (q : Part) → then_front (counted f.form q.value) (cond q.readable (Some ([], q.rest)) None) ≡ cond q.readable (Some (counted f.form q.value ∷ [], q.rest)) None
+        one q = elim q.readable as (λ b. then_front (counted f.form q.value) (cond b (Some ([], q.rest)) None) ≡ cond b (Some (counted f.form q.value ∷ [], q.rest)) None) [ true ↦ refl | false ↦ refl ]
+    go false h = front_stopped (f ∷ []) p h ∙ ap (λ (b : Bool). and_field f (cond b (Some ([], p.rest)) None)) (sym h)
+front_and (g ∷ fs) f p = ap (then_front (counted g.form (read_field g p).value)) (front_and fs f (read_field g p)) ∙ later (front fs (read_field g p))
+  where
+    later : (o : Option (List ℕ × List ℕ)) → then_front (counted g.form (read_field g p).value) (and_field f o) ≡ and_field f (then_front (counted g.form (read_field g p).value) o)
+    later None = refl
+    later (Some x) =
+        elim (read_field f (part 0 x.1)).readable as (λ b. then_front (counted g.form (read_field g p).value) (cond b (Some (x.0 ++ counted f.form (read_field f (part 0 x.1)).value ∷ [], (read_field f (part 0 x.1)).rest)) None)
+            ≡ cond b (Some (counted g.form (read_field g p).value ∷ x.0 ++ counted f.form (read_field f (part 0 x.1)).value ∷ [], (read_field f (part 0 x.1)).rest)) None) [ true ↦ refl | false ↦ refl ]
+
+-- as many values as fields
+abbrev SoMany : ℕ → Option (List ℕ × List ℕ) → Type 0
+SoMany n None = Unit {0}
+SoMany n (Some x) = length x.0 ≡ n
+
+pub front_length : (fs : List Field) (p : Part) → SoMany (length fs) (front fs p)
+unfolding front
+front_length [] p = elim p.readable as (λ b. SoMany 0 (cond b (Some ([], p.rest)) None)) [ true ↦ refl | false ↦ tt ]
+front_length (f ∷ fs) p = go (front fs (read_field f p)) (front_length fs (read_field f p))
+  where
+    go : (o : Option (List ℕ × List ℕ)) → SoMany (length fs) o → SoMany (suc (length fs)) (then_front (counted f.form (read_field f p).value) o)
+    go None h = tt
+    go (Some x) h = ap suc h
+
+-- the values, one by one
+pub front_elements : (fs : List Field) (p : Part) (x : List ℕ × List ℕ) → front fs p ≡ Some x → x.0 ≡ elements (length fs) 0 x.0
+front_elements fs p x h = by_elements (length fs) 0 x.0 (subst (SoMany (length fs)) h (front_length fs p) ∙ sym (zero-add (length fs)))
 
 -- ---- a line of one kind is none of another
 

@@ -71,7 +71,7 @@ abbrev pub elements : ℕ → ℕ → List ℕ → List ℕ
 elements ℕ.zero i vs = []
 elements (suc n) i vs = at vs i ∷ elements n (suc i) vs
 
-by_elements : (n i : ℕ) (vs : List ℕ) → length vs ≡ i + n → drop i vs ≡ elements n i vs
+pub by_elements : (n i : ℕ) (vs : List ℕ) → length vs ≡ i + n → drop i vs ≡ elements n i vs
 by_elements ℕ.zero i vs h = drop_of_length-le vs {i = i} (omega arith)
 by_elements (suc n) i vs h = drop-cons vs i 0 (omega arith) ∙ ap (λ (us : List ℕ). at vs i ∷ us) (by_elements n (suc i) vs (omega arith))
 

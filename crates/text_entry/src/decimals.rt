@@ -6,9 +6,8 @@ ghost use Rattle.text_entry.specs.Fields.{kind};
 ghost use Rattle.text_entry.specs.Parts.{front, whole};
 ghost use Rattle.text_entry.specs.Read.{part, read_kind};
 
-use crate::Unread;
-use crate::fields;
 use crate::value::Number;
+use crate::{Unread, fields};
 
 // The number as a byte, if it fits one.
 pub fn byte(n: Number) -> Result<u8, Unread>

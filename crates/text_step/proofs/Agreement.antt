@@ -27,7 +27,9 @@ use Rattle.text_entry.proofs.Takes.{known_take, take_one, take_sound, take_writa
 use Rattle.text_entry.proofs.TextReads.{SoundAll, apart, clash_all}
 use Rattle.text_entry.proofs.Turns.{turn_written}
 use Rattle.text_entry.proofs.Votes.{known_vote, vote_back, vote_one, vote_sound, vote_values_lem, vote_writable, which_vote}
-use Rattle.text_step.specs.declared.Reading.TheVariants.{Read, Outside, Unreadable}
+use Rattle.std.proofs.Common.{Err, Ok, Result}
+use Rattle.text_entry.specs.declared.Unread.{Unread}
+use Rattle.text_entry.specs.declared.Unread.TheVariants.{Unreadable, Outside}
 use Rattle.text_step.specs.Claims.{IsText, OutsideLineIsText, ReadLineIsText, ReadsExactly, TextReadsBack, TextWithinLimitsRead, UnreadableIsNoText}
 use Rattle.text_step.specs.Kinds.{sent_take, sent_take_with, sent_vote, sent_vote_with, setup_kind, open_kind, propose_kind, deliver_kind, tell_kind, restore_kind, follow_kind, crash_kind, back_kind, to}
 use Rattle.text_step.specs.Step.{HasText, HasTextIn, back_of, beyond, crash_of, deliver_of, follow_of, open_of, propose_of, read_step, reading_of, restore_of, role_number, role_of, setup_of, step_readers, take_of, tell_of, text, text_in, vote_of}
@@ -195,7 +197,7 @@ reads_exactly l s = (read_is_text l s, every_text_reads l s)
 
 -- ---- the reader's answers
 
-pub distinct : Distinct Read Outside Unreadable
+pub distinct : Distinct {A = Step} {R = Result Step Unread} Ok (Err Outside) (Err Unreadable)
 distinct = record {
   read_same = λ a b h. cc;
   read_outside = λ a h. let z : ◌≡◌ {A = ℕ} 0 1 = cc in omega arith;
@@ -218,14 +220,14 @@ pub text_within_limits_read : TextWithinLimitsRead
 text_within_limits_read n k l s t h = ap reading_of (every_text_reads l s t) ∙ rw (within_bytes n k l s t h)
 
 pub read_line_is_text : ReadLineIsText
-read_line_is_text l s h = read_is_text l s (read_some Read Outside Unreadable beyond distinct (read_step l) s h)
+read_line_is_text l s h = read_is_text l s (read_some Ok (Err Outside) (Err Unreadable) beyond distinct (read_step l) s h)
 
 pub outside_line_is_text : OutsideLineIsText
 outside_line_is_text l h =
-    let t = outside_some Read Outside Unreadable beyond distinct (read_step l) h in
+    let t = outside_some Ok (Err Outside) (Err Unreadable) beyond distinct (read_step l) h in
     let r = read_is_text l t.0 t.1 in
     (t.0, r, λ n k. text_beyond n k l t.0 r t.2)
 
 pub unreadable_is_no_text : UnreadableIsNoText
 unreadable_is_no_text l h s t =
-    some_not s (sym (unreadable_none Read Outside Unreadable beyond distinct (read_step l) h) ∙ every_text_reads l s t)
+    some_not s (sym (unreadable_none Ok (Err Outside) (Err Unreadable) beyond distinct (read_step l) h) ∙ every_text_reads l s t)

@@ -20,7 +20,7 @@ use Rattle.text_ascii.specs.Decimal.{byte_numbers}
 use Rattle.text_entry.specs.Table.{any_beyond, no_byte}
 use Rattle.text_entry.proofs.Beyond as texts
 use Rattle.text_entry.proofs.Beyond.{beyond_cases, first_of, no_such_process, no_such_turn, second_of, third_of}
-use Rattle.text_step.proofs.Readings.{beyond_last}
+use Rattle.text_entry.proofs.Counts.{beyond_last}
 use Rattle.text_step.specs.Step.{HasTextIn, beyond}
 
 coordinator_beyond : (c : ℕ) → byte_numbers ≤ c → no_coordinator c ≡ true

@@ -2,3 +2,4 @@ pub mod Agreement
 pub mod Beyond
 pub mod Cases
 pub mod Readings
+pub mod Requests

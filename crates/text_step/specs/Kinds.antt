@@ -32,7 +32,7 @@ abbrev pub id : Field
 id = decimal_field (ascii "id")
 
 -- "In the world both end with `to` (a coordinator)"
-abbrev sent : Kind → Kind
+abbrev pub sent : Kind → Kind
 sent k = kind k.name (k.fields ++ to ∷ [])
 
 -- a take whose turn is shown or not

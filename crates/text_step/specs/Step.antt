@@ -1,16 +1,17 @@
 -- The line of a step, as `world` reads it: how it is written, and how it reads.
-use Rattle.std.specs.Prelude.{ℕ, Bool, cond, List, [], ◌∷◌, ◌++◌, eqb, get_or}
+use Rattle.log_entry.specs.Entry.{is_take}
+use Rattle.std.specs.Prelude.{ℕ, Bool, cond, List, [], ◌∷◌, ◌++◌, eqb, Result, Ok, Err}
 use Rattle.std.proofs.Math.Option.{Option}
 use Rattle.model_steps.specs.declared.Role.{Role}
 use Rattle.model_steps.specs.declared.Role.TheVariants.{Acceptor, Coord, Proc}
 use Rattle.model_steps.specs.declared.Step.{Step}
 use Rattle.model_steps.specs.declared.Step.TheVariants.{Setup, Request, Open, Propose, Deliver, Tell, Restore, Follow, Crash, Back}
+use Rattle.text_entry.specs.declared.Unread.{Unread}
+use Rattle.text_entry.specs.declared.Unread.TheVariants.{Unreadable, Outside}
 use Rattle.text_entry.specs.Entry as entry
 use Rattle.text_entry.specs.Entry.{Way, in_full, turn_in}
 use Rattle.text_entry.specs.Fields.{in_hex, line_text}
 use Rattle.text_entry.specs.Table.{Reader, any_beyond, answer_of, at, read_first, reader}
-use Rattle.text_step.specs.declared.Reading.{Reading}
-use Rattle.text_step.specs.declared.Reading.TheVariants.{Read, Outside, Unreadable}
 use Rattle.text_step.specs.Kinds.{sent_take, sent_take_with, sent_vote, sent_vote_with, setup_kind, open_kind, propose_kind, deliver_kind, tell_kind, restore_kind, follow_kind, crash_kind, back_kind}
 
 -- the index of a role's word
@@ -26,7 +27,7 @@ role_of n = cond (eqb n 0) Acceptor (cond (eqb n 1) Coord Proc)
 unfoldable pub text_in : Way → Step → List ℕ
 text_in w (Setup n) = line_text setup_kind (n ∷ [])
 text_in w (Request e to) =
-    cond e.take
+    cond (is_take e)
     (line_text (sent_take_with (turn_in w.shown)) (entry.take_values e ++ to ∷ []))
     (line_text (sent_vote_with (turn_in w.shown) (in_hex w.digits)) (entry.vote_values e ++ to ∷ []))
 text_in w (Open c i b) = line_text open_kind (c ∷ i ∷ b ∷ [])
@@ -108,10 +109,6 @@ step_readers =
     ∷ reader crash_kind crash_of
     ∷ []
 
--- the reader with this number; the last one for any other number
-abbrev pub reader_at : ℕ → Reader Step
-reader_at k = get_or step_readers k (reader crash_kind crash_of)
-
 -- the step that a line reads as, whose numbers are of any size
 unfoldable pub read_step : List ℕ → Option Step
 read_step s = read_first step_readers s
@@ -133,10 +130,10 @@ numbers (Back p t) = p ∷ t ∷ []
 abbrev pub beyond : Step → Bool
 beyond s = any_beyond (numbers s)
 
-abbrev pub reading_of : Option Step → Reading
-reading_of = answer_of beyond Read Outside Unreadable
+abbrev pub reading_of : Option Step → Result Step Unread
+reading_of = answer_of beyond Ok (Err Outside) (Err Unreadable)
 
--- what the reader answers: `Outside` if a number is beyond a byte; what else is outside its limits,
+-- what the reader answers: `Err Outside` if a number is beyond a byte; what else is outside its limits,
 -- the world refuses
-abbrev pub reading : List ℕ → Reading
+abbrev pub reading : List ℕ → Result Step Unread
 reading s = reading_of (read_step s)

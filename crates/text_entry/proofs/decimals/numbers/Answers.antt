@@ -18,12 +18,11 @@ returns-in_err-number g c =
     (sym (ap whole (c.loop-i.invariant.1 ∙ decimal_stops c.args.keys.now c.loop-i.i c.loop-i.rest.now _ (omega arith) (take c.loop-i.i c.loop-i.numbers) (sym (ap seen c.in_err-number.was) ∙ c.decimal.ensures))))
 
 pub loop-i-preserved : goal.loop-i-preserved
-loop-i-preserved g c =
-    (
-      length-set _ _ _ ∙ c.loop-i.invariant.0,
-      c.loop-i.invariant.1
-          ∙ decimal_more c.args.keys.now c.loop-i.i c.loop-i.rest.now _ (omega arith) c.loop-i.numbers c.in_ok-number.number c.in_ok-number.behind.now (omega arith) (sym (ap seen c.in_ok-number.was) ∙ c.decimal.ensures),
-    )
+loop-i-preserved g c = (
+  length-set _ _ _ ∙ c.loop-i.invariant.0,
+  c.loop-i.invariant.1
+      ∙ decimal_more c.args.keys.now c.loop-i.i c.loop-i.rest.now _ (omega arith) c.loop-i.numbers c.in_ok-number.number c.in_ok-number.behind.now (omega arith) (sym (ap seen c.in_ok-number.was) ∙ c.decimal.ensures),
+)
 
 pub returns-then-is_empty : goal.returns-then-is_empty
 returns-then-is_empty g c =
