@@ -3,13 +3,12 @@ use Prim.Native.Nat.{ℕ, ◌+◌, ◌<◌, ◌≤◌, min}
 use mathlib.Core.List.{List, [], ◌++◌}
 use mathlib.Core.Path.{◌≡◌, ap, ◌∙◌}
 use native.Mathlib.Omega.{arith}
-use borrow.Author.Tests.{ne_eqb}
 use lib.ListN.{get_or, length, length-take, take}
 use lib.Seq.{get_or-take}
 use Rattle.std.proofs.Common.{Some}
 use Rattle.finish_list.specs.Found.{ChoiceIs}
 use Rattle.model_steps.specs.declared.Step.TheVariants.{Open, Propose}
-use Rattle.model_steps.specs.Limits.{messages, most_acceptors}
+use Rattle.model_steps.specs.Limits.{most_acceptors}
 use Rattle.model_protocol.specs.declared.World.{World}
 use Rattle.model_finish.specs.declared.Choice.{Choice}
 use Rattle.model_finish.specs.Choice.{choice_of, chosen}
@@ -47,20 +46,11 @@ module _ (w : World) {c : ℕ} (such : Such w c) (up : List ℕ) (is : up ≡ up
       acceptor_asked : (k : ℕ) → k < m → get_or asked k 0 ≡ up_acceptor w k
       acceptor_asked k h = ap (λ (l : List ℕ). get_or l k 0) asked-is ∙ get_or-take m up k 0 h ∙ ap (λ (l : List ℕ). get_or l k 0) all_up
 
-      pub few_asked : length asked ≤ quorum most_acceptors
-      few_asked = omega (arith, few such, asked_count)
-
       pub asked_below : (k : ℕ) → k < length asked → get_or asked k 0 < n
       asked_below k h =
           let j : k < m = omega (arith, asked_count) in
           let q : k < quorum n = omega arith in
           rw (acceptor_asked k j) ((asked_are_lowest w c such).is_acceptor k q)
-
-      pub first_room : w.sent + n + length asked ≤ messages
-      first_room = omega (arith, such.numbers, asked_count)
-
-      pub second_room : w.sent + n + m + n + length asked ≤ messages
-      second_room = omega (arith, such.numbers, asked_count)
 
       pub closing_text : (b : ℕ) {i : ℕ} → i ≡ current_of w c
           → round_line open_name c i b
@@ -95,8 +85,3 @@ module _ (w : World) where
   module _ {x : Choice} (is : ChoiceIs (Some x) (choice_of w)) where
     pub chosen_such : Such w x.coord
     chosen_such = rw is.0 ((choice_exactly w).lowest is.1).such
-
-    pub chosen_text : steps_text (closing w x.coord x.ballot) ≡ finish_text w
-    chosen_text =
-        let h : (choice_of w).ballot ≡ 0 → ⊥ = λ e. omega (arith, is.1, e) in
-        rw (is.0, ne_eqb (choice_of w).ballot 0 h)

@@ -90,7 +90,7 @@ pub fn output_of(input: Input, out: &mut [u8; OUTPUT_BYTES]) -> usize
 {
     let session = input.finish();
     let mut page = Page { bytes: out, at: 0 };
-    text_report::put_answers(&mut page, session.answers);
-    text_report::put_log(&mut page, session.log);
+    text_report::put_answers(&mut page, &session.answers);
+    text_report::put_log(&mut page, &session.log);
     page.at
 }

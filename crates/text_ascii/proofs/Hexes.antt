@@ -39,12 +39,6 @@ cases c e = go (is_digit c) refl e
     go true k e = inl (is_digit_low c k, is_digit_high c k)
     go false k e = inr (leb-true 97 c (both_l (leb 97 c) _ e), leb-true c 102 (both_r (leb 97 c) _ e))
 
-pub hex_low : (c : ℕ) → is_hex_digit c ≡ true → 48 ≤ c
-hex_low c e = ⊎_elim (λ (k : (48 ≤ c) × (c ≤ 57)). k.0) (λ (k : (97 ≤ c) × (c ≤ 102)). omega arith) (cases c e)
-
-pub hex_high : (c : ℕ) → is_hex_digit c ≡ true → 57 < c → 87 ≤ c
-hex_high c e h = ⊎_elim (λ (k : (48 ≤ c) × (c ≤ 57)). omega arith) (λ (k : (97 ≤ c) × (c ≤ 102)). omega arith) (cases c e)
-
 is_low : (c : ℕ) → 48 ≤ c → c ≤ 57 → is_hex_digit c ≡ true
 is_low c h k = rw (le-leb 48 c h, le-leb c 57 k)
 

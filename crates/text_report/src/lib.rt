@@ -115,8 +115,8 @@ pub fn replay_line(page: &mut Page, store: u8, group: u8, tx: u8, update: Update
 }
 
 // The line of a transaction with this row, if a vote is kept.
-fn tx(page: &mut Page, row: Row, tx: u8)
-    ensures { Within longest_line page.old page.new (row_text row tx) }
+fn tx(page: &mut Page, row: &Row, tx: u8)
+    ensures { Within longest_line page.old page.new (row_text row.now tx) }
 {
     if row.any_kept() {
         tx_line(page, tx, row.outcome(), row.group);
@@ -133,8 +133,8 @@ fn holder(page: &mut Page, holder: u8, store: u8)
 }
 
 // A replay of the store.
-pub fn put_replay(page: &mut Page, store: u8, replay: Replay)
-    ensures { Within longest_replay page.old page.new (replay_text store (rows_of replay)) }
+pub fn put_replay(page: &mut Page, store: u8, replay: &Replay)
+    ensures { Within longest_replay page.old page.new (replay_text store (rows_of replay.now)) }
 {
     for i in 0..usize::from(replay.count.min(TRANSACTIONS)) {
         replay_line(
@@ -152,36 +152,36 @@ pub fn replay(page: &mut Page, log: Log, store: u8)
     ensures { Within longest_replay page.old page.new (replay_text store (replay_rows log store)) }
 {
     let replay = log.replay(store);
-    put_replay(page, store, replay);
+    put_replay(page, store, &replay);
 }
 
-fn outcomes(page: &mut Page, log: Log)
-    ensures { Within (transactions * longest_line) page.old page.new (each (tx_text log) transactions) }
+fn outcomes(page: &mut Page, log: &Log)
+    ensures { Within (transactions * longest_line) page.old page.new (each (tx_text log.now) transactions) }
 {
     for i in 0..TRANSACTIONS {
-        tx(page, log.rows[usize::from(i)], i);
+        tx(page, &log.rows[usize::from(i)], i);
     }
 }
 
-fn holders(page: &mut Page, log: Log)
-    ensures { Within (stores * longest_line) page.old page.new (each (holder_text log) stores) }
+fn holders(page: &mut Page, log: &Log)
+    ensures { Within (stores * longest_line) page.old page.new (each (holder_text log.now) stores) }
 {
     for i in 0..STORES {
         holder(page, log.holders[usize::from(i)], i);
     }
 }
 
-fn replays(page: &mut Page, log: Log)
-    ensures { Within (stores * longest_replay) page.old page.new (each (λ s. replay_text s (replay_rows log s)) stores) }
+fn replays(page: &mut Page, log: &Log)
+    ensures { Within (stores * longest_replay) page.old page.new (each (λ s. replay_text s (replay_rows log.now s)) stores) }
 {
     for i in 0..STORES {
-        replay(page, log, i);
+        replay(page, *log, i);
     }
 }
 
 // A log as it is printed.
-pub fn put_log(page: &mut Page, log: Log)
-    ensures { Within longest_log page.old page.new (log_text log) }
+pub fn put_log(page: &mut Page, log: &Log)
+    ensures { Within longest_log page.old page.new (log_text log.now) }
 {
     outcomes(page, log);
     holders(page, log);
@@ -189,8 +189,8 @@ pub fn put_log(page: &mut Page, log: Log)
 }
 
 // The answers, each with its line's number.
-pub fn put_answers(page: &mut Page, answers: Answers)
-    ensures { Within longest_answers page.old page.new (answers_text (answers_of answers)) }
+pub fn put_answers(page: &mut Page, answers: &Answers)
+    ensures { Within longest_answers page.old page.new (answers_text (answers_of answers.now)) }
 {
     for i in 0..answers.count.min(ANSWERED_LINES) {
         step_line(page, i + 1, answers.answers[usize::from(i)]);

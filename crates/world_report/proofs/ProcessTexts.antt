@@ -1,28 +1,18 @@
 -- When a process has its lines.
 use Prim.Native.Nat.{ℕ, suc, ◌-◌, ◌<◌, ◌≤◌}
-use native.Mathlib.Omega.{arith}
-use mathlib.Core.Bool.{true, false}
-use mathlib.Core.List.{List, [], ◌∷◌, ◌++◌}
-use mathlib.Core.Logic.{inl, inr}
-use mathlib.Core.Path.{◌≡◌, refl, sym, ◌∙◌, ap}
-use borrow.Author.Tests.{eq-eqb, ne_eqb}
-use denote.Enum.Declared.{tag_of}
+use mathlib.Core.List.{List, ◌++◌}
+use mathlib.Core.Path.{◌≡◌, ◌∙◌}
+use borrow.Author.Tests.{ne_eqb}
 use lib.ListN.{get_or, length}
-use types.Run.{OneOf}
-use Rattle.log_entry.specs.Bits.{has}
-use Rattle.log_votes.specs.declared.Outcome.{Outcome}
-use Rattle.log_votes.specs.declared.Outcome.TheVariants.{Open, Commit, Abort}
-use Rattle.log_votes.specs.contracts.Outcome.{the_type as outcome-type}
-use Rattle.log_votes.proofs.InList.{in_list}
+use Rattle.std.proofs.lemmas.List.{get_or_default}
 use Rattle.log_core.specs.declared.Replay.{Replay}
-use Rattle.model_protocol.specs.declared.Followed.{Followed}
 use Rattle.model_protocol.specs.declared.Follows.{Follows}
 use Rattle.model_protocol.specs.declared.Process.{Process}
 use Rattle.log_core.specs.Replay.{no_replay}
 use Rattle.model_protocol.specs.World.{fresh_process, no_follows}
 use Rattle.text_report.specs.Report.{replay_text, rows_of}
 use Rattle.world_report.proofs.Elements.{element_from_1}
-use Rattle.world_report.specs.Processes.{follow_line, follow_text, follows_text, heard_line, listed_text, outcome_text, restore_line, restore_text, running_line, running_text}
+use Rattle.world_report.specs.Processes.{follows_text, restore_line, restore_text, running_text}
 
 module _ (proc : ℕ) (p : Process) (replay : Replay) (follows : Follows) where
   pub one_taken : (p.position ≡ 0 → ⊥)
@@ -35,5 +25,5 @@ pub restore_from_1 : (ps : List Process) (replays : List Replay) (follows : List
     → restore_text i (get_or ps i d) (get_or replays i e) (get_or follows i f)
     ≡ restore_text (suc (i - 1)) (get_or ps (suc (i - 1)) fresh_process) (get_or replays (suc (i - 1)) no_replay) (get_or follows (suc (i - 1)) no_follows)
 restore_from_1 ps replays follows i d e f g h k m =
-    (λ n. restore_text i (get_or ps i d) (in_list replays i e no_replay k n) (in_list follows i f no_follows m n))
+    (λ n. restore_text i (get_or ps i d) (get_or_default replays i e no_replay k n) (get_or_default follows i f no_follows m n))
     ∙ element_from_1 (λ proc p. restore_text proc p (get_or replays proc no_replay) (get_or follows proc no_follows)) ps i d fresh_process g h

@@ -19,8 +19,8 @@ pub fn coordinator_line(page: &mut Page, coord: u8, applied: u8)
 }
 
 // Its line and its log.
-pub fn put_coordinator(page: &mut Page, coord: u8, c: Coordinator, log: Log)
-    ensures { Within longest_coordinator page.old page.new (coordinator_text coord c log) }
+pub fn put_coordinator(page: &mut Page, coord: u8, c: &Coordinator, log: &Log)
+    ensures { Within longest_coordinator page.old page.new (coordinator_text coord c.now log.now) }
 {
     coordinator_line(page, coord, c.applied);
     text_report::put_log(page, log);
@@ -28,13 +28,13 @@ pub fn put_coordinator(page: &mut Page, coord: u8, c: Coordinator, log: Log)
 
 pub fn put_coordinators(
     page: &mut Page,
-    cs: [Coordinator; COORDINATOR_PLACES],
-    logs: [Log; COORDINATOR_PLACES],
+    cs: &[Coordinator; COORDINATOR_PLACES],
+    logs: &[Log; COORDINATOR_PLACES],
 )
-    ensures { Within (coordinators * longest_coordinator) page.old page.new (coordinators_text cs logs) }
+    ensures { Within (coordinators * longest_coordinator) page.old page.new (coordinators_text cs.now logs.now) }
 {
     for coord in 0..COORDINATORS {
         let i = usize::from(coord);
-        put_coordinator(page, coord, cs[i], logs[i]);
+        put_coordinator(page, coord, &cs[i], &logs[i]);
     }
 }

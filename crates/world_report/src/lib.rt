@@ -31,10 +31,10 @@ pub const WORLD_BYTES: usize = COORDINATORS as usize * (1 + LOG_LINES) * LINE_BY
     + PROCESSES as usize * RESTORE_BYTES;
 
 // A world as it is printed.
-pub fn put_world(page: &mut Page, w: World)
-    ensures { Within longest_world page.old page.new (world_text w) }
+pub fn put_world(page: &mut Page, w: &World)
+    ensures { Within longest_world page.old page.new (world_text w.now) }
 {
-    coordinators::put_coordinators(page, w.coordinators, w.logs);
-    processes::put_all_heard(page, w.processes);
-    processes::put_restores(page, w.processes, w.restored, w.follows);
+    coordinators::put_coordinators(page, &w.coordinators, &w.logs);
+    processes::put_all_heard(page, &w.processes);
+    processes::put_restores(page, &w.processes, &w.restored, &w.follows);
 }

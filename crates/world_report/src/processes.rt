@@ -30,8 +30,8 @@ pub fn put_outcome(page: &mut Page, proc: u8, tx: u8, outcome: Outcome)
 }
 
 // What the process heard.
-pub fn put_heard(page: &mut Page, proc: u8, p: Process)
-    ensures { Within longest_heard page.old page.new (heard_text proc p) }
+pub fn put_heard(page: &mut Page, proc: u8, p: &Process)
+    ensures { Within longest_heard page.old page.new (heard_text proc p.now) }
 {
     for tx in 0..TRANSACTIONS {
         put_outcome(page, proc, tx, p.heard[usize::from(tx)].outcome);
@@ -39,11 +39,11 @@ pub fn put_heard(page: &mut Page, proc: u8, p: Process)
 }
 
 // What all processes heard.
-pub fn put_all_heard(page: &mut Page, ps: [Process; PROCESS_PLACES])
-    ensures { Within (processes * longest_heard) page.old page.new (by_process heard_text ps) }
+pub fn put_all_heard(page: &mut Page, ps: &[Process; PROCESS_PLACES])
+    ensures { Within (processes * longest_heard) page.old page.new (by_process heard_text ps.now) }
 {
     for proc in 1..=PROCESSES {
-        put_heard(page, proc, ps[usize::from(proc)]);
+        put_heard(page, proc, &ps[usize::from(proc)]);
     }
 }
 
@@ -99,8 +99,8 @@ pub fn put_follow(page: &mut Page, followed: u32, tx: u8, f: Followed)
 }
 
 // The follows that were taken since the restore.
-pub fn put_follows(page: &mut Page, followed: u32, follows: Follows)
-    ensures { Within longest_follows page.old page.new (follows_text followed follows) }
+pub fn put_follows(page: &mut Page, followed: u32, follows: &Follows)
+    ensures { Within longest_follows page.old page.new (follows_text followed follows.now) }
 {
     for tx in 0..TRANSACTIONS {
         put_follow(page, followed, tx, follows.of[usize::from(tx)]);
@@ -108,8 +108,8 @@ pub fn put_follows(page: &mut Page, followed: u32, follows: Follows)
 }
 
 // The restore that the process took, if it took one, and the follows since.
-pub fn put_restore(page: &mut Page, proc: u8, p: Process, replay: Replay, follows: Follows)
-    ensures { Within longest_restore page.old page.new (restore_text proc p replay follows) }
+pub fn put_restore(page: &mut Page, proc: u8, p: &Process, replay: &Replay, follows: &Follows)
+    ensures { Within longest_restore page.old page.new (restore_text proc p.now replay.now follows.now) }
 {
     if p.position == 0 {
         return;
@@ -123,14 +123,14 @@ pub fn put_restore(page: &mut Page, proc: u8, p: Process, replay: Replay, follow
 // The restores of all processes, and the follows since.
 pub fn put_restores(
     page: &mut Page,
-    ps: [Process; PROCESS_PLACES],
-    replays: [Replay; PROCESS_PLACES],
-    follows: [Follows; PROCESS_PLACES],
+    ps: &[Process; PROCESS_PLACES],
+    replays: &[Replay; PROCESS_PLACES],
+    follows: &[Follows; PROCESS_PLACES],
 )
-    ensures { Within (processes * longest_restore) page.old page.new (restores_text ps replays follows) }
+    ensures { Within (processes * longest_restore) page.old page.new (restores_text ps.now replays.now follows.now) }
 {
     for proc in 1..=PROCESSES {
         let i = usize::from(proc);
-        put_restore(page, proc, ps[i], replays[i], follows[i]);
+        put_restore(page, proc, &ps[i], &replays[i], &follows[i]);
     }
 }

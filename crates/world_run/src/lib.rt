@@ -57,7 +57,7 @@ pub fn output_of(input: Input, out: &mut [u8; OUTPUT_BYTES]) -> usize
 {
     let session = run_fed(input);
     let mut page = Page { bytes: out, at: 0 };
-    text_report::put_answers(&mut page, session.answers);
-    world_report::put_world(&mut page, session.world);
+    text_report::put_answers(&mut page, &session.answers);
+    world_report::put_world(&mut page, &session.world);
     page.at
 }

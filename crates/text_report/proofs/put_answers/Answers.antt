@@ -3,7 +3,6 @@ use mathlib.Core.Path.{ap, ◌∙◌}
 use native.Mathlib.Numerals.{add-one}
 use native.Mathlib.Omega.{arith}
 use lib.ListN.{get_or}
-use Rattle.text_lines.proofs.Good.{answers_length}
 use Rattle.text_report.specs.Report.{step_line}
 use Rattle.text_report.proofs.Each.{counted, none_put, put_all, put_more}
 use Rattle.text_report.proofs.Texts.{answers_counted}
@@ -14,12 +13,12 @@ loop-i-init c = none_put
 
 pub loop-i-preserved : goal.loop-i-preserved
 loop-i-preserved c =
-    let all = answers_counted c.args.answers (answers_length c.args.answers _ c.well_formed.1.0) in
+    let all = answers_counted c.args.answers.now (omega arith) in
     put_more c.loop-i.invariant (omega (arith, all)) c.step_line.ensures
-    (rw c.from.ensures (ap (λ (n : ℕ). step_line n (get_or c.args.answers.answers c.loop-i.i 0)) (add-one c.loop-i.i))
-    ∙ counted (step_line (suc c.loop-i.i)) 0 c.args.answers.answers c.args.answers.count c.loop-i.i (omega arith))
+    (rw c.from.ensures (ap (λ (n : ℕ). step_line n (get_or c.args.answers.now.answers c.loop-i.i 0)) (add-one c.loop-i.i))
+    ∙ counted (step_line (suc c.loop-i.i)) 0 c.args.answers.now.answers c.args.answers.now.count c.loop-i.i (omega arith))
 
 pub returns : goal.returns
 returns c =
-    let all = answers_counted c.args.answers (answers_length c.args.answers _ c.well_formed.1.0) in
+    let all = answers_counted c.args.answers.now (omega arith) in
     put_all c.loop-i.invariant (omega (arith, all)) (omega (arith, all))

@@ -8,4 +8,4 @@ use Rattle.text_report.proofs.put_answers.Given as goal
 
 abbrev pub invariant-loop-i : goal.invariant-loop-i
 invariant-loop-i l =
-    Put (length (answers_of l.fn.answers)) longest_answer (λ j. step_line (suc j) (get_or (answers_of l.fn.answers) j 0)) l.initial.page l.page l.i
+    Put (length (answers_of l.answers)) longest_answer (λ j. step_line (suc j) (get_or (answers_of l.fn.answers) j 0)) l.initial.page l.page l.i

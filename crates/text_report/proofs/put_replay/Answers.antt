@@ -12,9 +12,9 @@ loop-i-init c = none_put
 
 pub loop-i-preserved : goal.loop-i-preserved
 loop-i-preserved c =
-    put_more c.loop-i.invariant (omega (arith, rows_counted c.args.replay)) c.replay_line.ensures
-    (ap (replay_line c.args.store) (sym (row_in c.args.replay c.loop-i.i (omega arith)))
-    ∙ counted (replay_line c.args.store) no_replayed (rows_in c.args.replay) c.args.replay.count c.loop-i.i (omega arith))
+    put_more c.loop-i.invariant (omega (arith, rows_counted c.args.replay.now)) c.replay_line.ensures
+    (ap (replay_line c.args.store) (sym (row_in c.args.replay.now c.loop-i.i (omega arith)))
+    ∙ counted (replay_line c.args.store) no_replayed (rows_in c.args.replay.now) c.args.replay.now.count c.loop-i.i (omega arith))
 
 pub returns : goal.returns
-returns c = put_all c.loop-i.invariant (omega (arith, rows_counted c.args.replay)) (omega (arith, rows_counted c.args.replay))
+returns c = put_all c.loop-i.invariant (omega (arith, rows_counted c.args.replay.now)) (omega (arith, rows_counted c.args.replay.now))

@@ -7,4 +7,4 @@ use Rattle.text_report.proofs.put_replay.Given as goal
 
 abbrev pub invariant-loop-i : goal.invariant-loop-i
 invariant-loop-i l =
-    Put (length (rows_of l.fn.replay)) longest_line (λ j. replay_line l.fn.store (get_or (rows_of l.fn.replay) j no_replayed)) l.initial.page l.page l.i
+    Put (length (rows_of l.replay)) longest_line (λ j. replay_line l.store (get_or (rows_of l.fn.replay) j no_replayed)) l.initial.page l.page l.i

@@ -9,7 +9,7 @@ use Rattle.world_report.proofs.coordinators.put_coordinators.Goals as goal
 pub loop-coord-preserved : goal.loop-coord-preserved
 loop-coord-preserved c =
     put_more c.loop-coord.invariant (omega arith) c.put_coordinator.ensures
-    (rw c.from-i.ensures (both_elements (coordinator_text c.loop-coord.coord) c.args.cs c.args.logs c.loop-coord.coord _ fresh_coordinator _ empty_log (omega arith) (omega arith)))
+    (rw c.from-i.ensures (both_elements (coordinator_text c.loop-coord.coord) c.args.cs.now c.args.logs.now c.loop-coord.coord _ fresh_coordinator _ empty_log (omega arith) (omega arith)))
 
 pub loop-coord-init : goal.loop-coord-init
 loop-coord-init c = none_put

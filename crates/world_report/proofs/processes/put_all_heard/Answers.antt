@@ -8,7 +8,7 @@ use Rattle.world_report.proofs.processes.put_all_heard.Goals as goal
 pub loop-proc-preserved : goal.loop-proc-preserved
 loop-proc-preserved c =
     put_next c.loop-proc.proc c.loop-proc.invariant (omega arith) (omega arith) c.put_heard.ensures
-    (rw c.from.ensures (element_from_1 heard_text c.args.ps c.loop-proc.proc _ fresh_process (omega arith) (omega arith)))
+    (rw c.from.ensures (element_from_1 heard_text c.args.ps.now c.loop-proc.proc _ fresh_process (omega arith) (omega arith)))
 
 pub loop-proc-init : goal.loop-proc-init
 loop-proc-init c = none_put

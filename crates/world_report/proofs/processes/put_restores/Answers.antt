@@ -6,7 +6,7 @@ use Rattle.world_report.proofs.processes.put_restores.Goals as goal
 pub loop-proc-preserved : goal.loop-proc-preserved
 loop-proc-preserved c =
     put_next c.loop-proc.proc c.loop-proc.invariant (omega arith) (omega arith) c.put_restore.ensures
-    (rw c.from-i.ensures (restore_from_1 c.args.ps c.args.replays c.args.follows c.loop-proc.proc _ _ _ (omega arith) (omega arith) (omega arith) (omega arith)))
+    (rw c.from-i.ensures (restore_from_1 c.args.ps.now c.args.replays.now c.args.follows.now c.loop-proc.proc _ _ _ (omega arith) (omega arith) (omega arith) (omega arith)))
 
 pub loop-proc-init : goal.loop-proc-init
 loop-proc-init c = none_put
