@@ -93,7 +93,8 @@ pub fn read_all<S: Session, R: Read>(reader: &mut R, buffer: &mut [u8]) -> Readi
     };
     for _ in 0..MAX_PIECES {
         read_more(reader, buffer, &mut reading);
-        if reading.last == 0 || reading.input.is_over() {
+        let none_left = reading.last == 0;
+        if none_left || reading.input.is_over() {
             return reading;
         }
     }
