@@ -1,22 +1,29 @@
 -- The log after lent records, record by record.
+use Rattle.log_votes.specs.Vote.{vote_kept}
+use Rattle.log_entry.specs.Entry.{by_of, is_take, tx_of}
 use Prim.Native.Nat.{ℕ, zero, suc, ◌%◌, ◌+◌, ◌-◌, ◌*◌, ◌/◌, ◌<◌, ◌^◌, ◌≤◌}
-use mathlib.Core.Bool.{Bool, cond, false, true, ◌||◌}
+use mathlib.Core.Bool.{Bool, cond, false, true}
 use mathlib.Core.List.{List, [], ◌∷◌}
 use mathlib.Core.Logic.{◌⊎◌, inl, inr, ⊎_elim}
 use mathlib.Core.Path.{◌≡◌, ap, refl, sym, ◌∙◌}
-use native.Mathlib.Nat.{suc-sub-suc, sub-zero}
+use native.Mathlib.Numerals.{add-one}
 use native.Mathlib.Omega.{arith}
-use borrow.Author.Tests.{eq-eqb, eqb-true, le-ltb, lt-ltb, ltb-false, ltb-true, ne_eqb, not-false}
+use borrow.Author.Tests.{eqb-true, le-ltb, lt-ltb, ltb-false, ne_eqb, not-false}
 use lib.Bits.{bit_or}
 use lib.Dec.{eqb, ltb}
-use lib.ListN.{drop, get_or, length, set, take}
-use lib.Seq.{drop-drop, get_or-set_same}
+use lib.ListN.{drop, drop_of_length-le, get_or, length, set, take}
+use lib.Seq.{drop-cons, get_or-set_same}
+use Rattle.std.specs.Simd.{first_chunks}
 use Rattle.log_entry.specs.declared.Entry.{Entry}
 use Rattle.log_entry.specs.Entry.{outside}
 use Rattle.log_entry.specs.Limits.{small_stores, stores, transactions}
+use Rattle.std.proofs.Common.{Err, Ok, is_ok}
+use Rattle.log_entry.specs.declared.refusal.Refusal.{Refusal}
 use Rattle.log_entry.specs.Refusal.{accepted, outside_limits}
-use Rattle.log_entry.proofs.Tests.{by_test, either, is_false, neither_left, neither_right, or_cases}
+use Rattle.log_entry.proofs.AnswerLaws.{err_ok, not_ok}
+use Rattle.log_entry.proofs.Tests.{by_test, is_false, or_cases}
 use Rattle.log_votes.specs.declared.Row.{Row}
+use Rattle.log_votes.specs.Outcome.{tally_of}
 use Rattle.log_votes.specs.Refusal.{any_clash}
 use Rattle.log_votes.specs.Row.{vote_of_store}
 use Rattle.log_votes.proofs.RefusalLaws.{accepted_vote}
@@ -29,8 +36,7 @@ use Rattle.log_core.specs.declared.Log.{Log}
 use Rattle.log_core.specs.Enter.{answered, enter, stored}
 use Rattle.log_core.specs.Decide.{effect_of, parts_of, refusal, vote_parts_of}
 use Rattle.log_core.specs.Group.{remembered}
-use Rattle.host_records.specs.declared.Reading.{Reading}
-use Rattle.host_records.specs.declared.Reading.TheVariants.{Of, Refused}
+use Rattle.host_records.specs.Numbers.{Reading}
 use Rattle.host_records.specs.Record.{read_record, record_size}
 use Rattle.log_core.specs.Log.{empty_log, opened, row_of}
 use Rattle.host_lent.specs.declared.Summary.{Summary}
@@ -43,23 +49,16 @@ log_of stores rows holders turns takers latest groups remembered =
     record { rows = rows; holders = holders; turns = turns; takers = takers; latest = latest; groups = groups; remembered = remembered; stores = stores }
 
 module _ (l : Log) {r : Reading} where
-  pub entered : {e : Entry} {t : Entered} → r ≡ Of e → t ≡ enter l e → t ≡ enter_reading l r
+  pub entered : {e : Entry} {t : Entered} → r ≡ Ok e → t ≡ enter l e → t ≡ enter_reading l r
   unfolding enter_reading
   entered h k = rw (h, k)
 
-  pub refused : {n : ℕ} → r ≡ Refused n → answered l n ≡ enter_reading l r
+  pub refused : {n : Refusal} → r ≡ Err n → answered l (Err n) ≡ enter_reading l r
   unfolding enter_reading
   refused h = rw h
 
--- a log and an answer are those of an `Entered`
-pub parts : {l : Log} {n : ℕ} {t : Entered} → answered l n ≡ t → (l ≡ t.log) × (n ≡ t.answer)
-parts h = (ap (λ (t : Entered). t.log) h, ap (λ (t : Entered). t.answer) h)
-
-pub whole_of : {l : Log} {n : ℕ} {t : Entered} → l ≡ t.log → n ≡ t.answer → answered l n ≡ t
-whole_of h k = λ i. record { log = h i; answer = k i }
-
 -- a take that the log accepts, stored by a shifted one
-pub take_stored : (l : Log) (e : Entry) → e.take ≡ true → e.process < 16 → refusal_of l e ≡ accepted
+pub take_stored : (l : Log) (e : Entry) → is_take e ≡ true → e.process < 16 → refusal_of l e ≡ accepted
     → answered
     (record {
       rows = l.rows;
@@ -77,37 +76,37 @@ take_stored l e take h ok =
     ap (λ (m : Log). answered m accepted) (holder_stored l e (effect_of (parts_of l e) e) take h) ∙ enter_accepted l e ok
 
 -- what a vote is decided on, by the summary of its row
-pub vote_parts_lem : (l : Log) (e : Entry) (s : Summary) (last : ℕ) → IsOf s (row_of l e.tx) → last ≡ remembered l l.groups
-    → summary_parts s e (get_or l.holders e.by 0) (get_or l.turns e.by 0) l.groups last ≡ vote_parts_of (parts_of l e) e
-vote_parts_lem l e s last is remembers = λ i. record {
-  tally = is.0 i;
-  clash = is.2 e i;
-  group = is.1 i;
-  holder = get_or l.holders e.by 0;
-  turn = get_or l.turns e.by 0;
+pub vote_parts_lem : (l : Log) (e : Entry) (s : Summary) (last : ℕ) {by tx : ℕ} → tx_of e ≡ tx → by_of e ≡ by → IsOf s (row_of l tx) → last ≡ remembered l l.groups
+    → summary_parts s e (get_or l.holders by 0) (get_or l.turns by 0) l.groups last ≡ vote_parts_of (parts_of l e) e
+vote_parts_lem l e s last on holds is remembers = λ i. record {
+  tally = (is.0 ∙ ap (λ (t : ℕ). tally_of (row_of l t).votes) (sym on)) i;
+  clash = (is.2 e ∙ ap (λ (t : ℕ). any_clash e (row_of l t).votes) (sym on)) i;
+  group = (is.1 ∙ ap (λ (t : ℕ). (row_of l t).group) (sym on)) i;
+  holder = get_or l.holders (sym holds i) 0;
+  turn = get_or l.turns (sym holds i) 0;
   groups = l.groups;
   remembered = remembers i;
 }
 
 -- a vote that was decided so
-module _ (l : Log) (e : Entry) (vote : e.take ≡ false) (f : Effect) (is : f ≡ effect_of (parts_of l e) e) where
-  place : e.tx ≡ cond e.take 0 e.tx
-  place = sym (ap (λ (b : Bool). cond b 0 e.tx) vote)
+module _ (l : Log) (e : Entry) (vote : is_take e ≡ false) (f : Effect) (is : f ≡ effect_of (parts_of l e) e) where
+  place : tx_of e ≡ cond (is_take e) 0 (tx_of e)
+  place = sym (ap (λ (b : Bool). cond b 0 (tx_of e)) vote)
 
   pub vote_refused : (f.answer ≡ accepted → ⊥) → answered l f.answer ≡ enter l e
-  vote_refused = enter_refused l e e.tx (remembered l l.groups) place refl f is
+  vote_refused = enter_refused l e (tx_of e) (remembered l l.groups) place refl f is
 
   pub vote_stored : f.answer ≡ accepted → {m : Log} → m ≡ stored l e f → answered m accepted ≡ enter l e
-  vote_stored = enter_stored l e e.tx (remembered l l.groups) place refl f is
+  vote_stored = enter_stored l e (tx_of e) (remembered l l.groups) place refl f is
 
   said : f.answer ≡ refusal (parts_of l e) e
   unfolding effect_of
   said = ap (λ (f : Effect). f.answer) is
 
   pub vote_agrees : outside l.stores e ≡ false → f.answer ≡ accepted
-      → (any_clash e (row_of l e.tx).votes ≡ false) × ((vote_of_store e.store (row_of l e.tx)).kept ≡ false)
+      → (any_clash e (row_of l (tx_of e)).votes ≡ false) × (vote_kept (vote_of_store e.store (row_of l (tx_of e))) ≡ false)
   vote_agrees inside ok =
-      accepted_vote (row_of l e.tx) (get_or l.holders e.by 0) (get_or l.turns e.by 0) e (answer_vote (parts_of l e) e inside vote ∙ sym said ∙ ok)
+      accepted_vote (row_of l (tx_of e)) (get_or l.holders (by_of e) 0) (get_or l.turns (by_of e) 0) e (answer_vote (parts_of l e) e inside vote refl ∙ sym said ∙ ok)
 
 -- what the last group remembers, once it is begun
 pub last_begun : (all : List ℕ) → length all ≡ transactions → (g running : ℕ) → 0 < g → g ≤ transactions
@@ -138,62 +137,47 @@ module _ (limit : ℕ) (bytes : List ℕ) (count : ℕ) where
     unfolding lent_log
     count_within k = rw (h, le-ltb (length bytes) (count * record_size) (omega arith))
 
--- both tests in one, as the code has them; b is the first
-module _ (limit : ℕ) (bytes : List ℕ) (count : ℕ) {b : Bool} (is : b ≡ no_limit limit) where
-  pub lent_refused : (b || ltb (length bytes / record_size) count) ≡ true → answered empty_log outside_limits ≡ lent_log limit bytes count
-  lent_refused h =
-      ⊎_elim (λ (k : no_limit limit ≡ true). no_such_limit limit bytes count k)
-      (λ k. count_beyond limit bytes count k (ltb-true (length bytes / record_size) count (or_second b _ (is ∙ k) h)))
-      (either (no_limit limit))
-    where
-      or_second : (a c : Bool) → a ≡ false → (a || c) ≡ true → c ≡ true
-      or_second a c k h = rw k at h
-
-  module _ (h : (b || ltb (length bytes / record_size) count) ≡ false) where
-    pub limit_tried : no_limit limit ≡ false
-    limit_tried = sym is ∙ neither_left b (ltb (length bytes / record_size) count) h
-
-    pub count_tried : count ≤ length bytes / record_size
-    count_tried = ltb-false (length bytes / record_size) count (neither_right b (ltb (length bytes / record_size) count) h)
-
-module _ (l : Log) where
-  pub none_left : (bytes : List ℕ) (left : ℕ) → left ≤ 0 → answered l accepted ≡ log_after l (records_in bytes left)
-  unfolding log_after records_in
-  none_left bytes zero h = refl
-  none_left bytes (suc left) h = absurd (let z : ⊥ = omega arith in z)
+module _ (l : Log) (records : List (List ℕ)) (i : ℕ) where
+  pub none_left : length records ≤ i → answered l accepted ≡ log_after l (drop i records)
+  unfolding log_after
+  none_left h = rw (drop_of_length-le records {i = i} h)
 
   -- one record more, and what the log says to it
-  module _ (bytes : List ℕ) (at : ℕ) {t : Entered} (h : t ≡ enter_record l (take record_size (drop at bytes))) where
-    pub record_refused : (left : ℕ) → 0 < left → (t.answer ≡ accepted → ⊥) → log_after l (records_in (drop at bytes) left) ≡ t
-    unfolding log_after records_in
-    record_refused zero k n = absurd (let z : ⊥ = omega arith in z)
-    record_refused (suc left) k n = rw (← h, ne_eqb t.answer accepted n)
+  module _ (more : i < length records) {t : Entered} (h : t ≡ enter_record l (get_or records i [])) where
+    pub record_refused : (t.answer ≡ accepted → ⊥) → log_after l (drop i records) ≡ t
+    unfolding log_after
+    record_refused n = rw (drop-cons records i [] more, ← h, not_ok t.answer n)
 
-    pub record_accepted : (left : ℕ) → 0 < left → t.answer ≡ accepted
-        → log_after l (records_in (drop at bytes) left) ≡ log_after t.log (records_in (drop (at + record_size) bytes) (left - 1))
-    unfolding log_after records_in
-    record_accepted zero k n = absurd (let z : ⊥ = omega arith in z)
-    record_accepted (suc left) k n = rw (← h, eq-eqb t.answer accepted n, drop-drop record_size at bytes, suc-sub-suc left 0, sub-zero left)
+    pub record_accepted : t.answer ≡ accepted → log_after l (drop i records) ≡ log_after t.log (drop (i + 1) records)
+    unfolding log_after
+    record_accepted n = rw (drop-cons records i [] more, ← h, ap is_ok n, add-one)
+
+-- the first records of a buffer, as std cuts it
+pub chunks_in : (count most : ℕ) (bytes : List ℕ) → count ≤ most → take count (first_chunks record_size most bytes) ≡ records_in bytes count
+unfolding records_in
+chunks_in zero most bytes h = refl
+chunks_in (suc count) zero bytes h = absurd (omega arith)
+chunks_in (suc count) (suc most) bytes h = ap (λ (rs : List (List ℕ)). take record_size bytes ∷ rs) (chunks_in count most (drop record_size bytes) (omega arith))
 
 -- ---- the log after lent records has the limit of the call
 
 pub reading_limit : (l : Log) (r : Reading) → (enter_reading l r).log.stores ≡ l.stores
 unfolding enter_reading
-reading_limit l (Of e) = enter_limit l e
-reading_limit l (Refused n) = refl
+reading_limit l (Ok e) = enter_limit l e
+reading_limit l (Err n) = refl
 
 pub after_limit : (l : Log) (rs : List (List ℕ)) → (log_after l rs).log.stores ≡ l.stores
 unfolding log_after
 after_limit l [] = refl
 after_limit l (r ∷ rs) =
-    by_test (λ (t : Entered). t.log.stores ≡ l.stores) (eqb (enter_record l r).answer accepted) _ _
+    by_test (λ (t : Entered). t.log.stores ≡ l.stores) (is_ok (enter_record l r).answer) _ _
     (λ h. after_limit (enter_record l r).log rs ∙ reading_limit l (read_record l.stores r))
     (λ h. reading_limit l (read_record l.stores r))
 
 module _ (limit : ℕ) (bytes : List ℕ) (count : ℕ) (h : (lent_log limit bytes count).answer ≡ accepted) where
   pub limit_fits : no_limit limit ≡ false
   unfolding lent_log
-  limit_fits = is_false (no_limit limit) (λ k. let z : ◌≡◌ {A = ℕ} outside_limits accepted = rw k at h in let y : ⊥ = omega arith in y)
+  limit_fits = is_false (no_limit limit) (λ k. err_ok (rw k at h))
 
   pub limit_byte : limit < 256
   limit_byte = limit_is_byte limit limit_fits
@@ -202,7 +186,7 @@ module _ (limit : ℕ) (bytes : List ℕ) (count : ℕ) (h : (lent_log limit byt
   unfolding lent_log
   count_fits =
       ltb-false (length bytes) (count * record_size)
-      (is_false (ltb (length bytes) (count * record_size)) (λ k. let z : ◌≡◌ {A = ℕ} outside_limits accepted = rw (limit_fits, k) at h in let y : ⊥ = omega arith in y))
+      (is_false (ltb (length bytes) (count * record_size)) (λ k. err_ok (rw (limit_fits, k) at h)))
 
   pub lent_after : lent_log limit bytes count ≡ records_entered limit bytes count
   unfolding lent_log

@@ -14,6 +14,7 @@ use Rattle.log_votes.specs.Outcome.{is_kept, is_open, outcome_of_votes, running}
 use Rattle.log_votes.specs.Row.{empty_row, in_group, keeping, no_row, vote_of_entry}
 use Rattle.log_votes.specs.Scan.{any_from}
 use Rattle.log_votes.proofs.ScanLaws.{any_set}
+use Rattle.log_votes.proofs.VoteLaws.{of_kept}
 use Rattle.log_votes.proofs.SetLaws.{set_changed, set_has, set_lt, set_of_none}
 use Rattle.log_core.specs.Group.{running_set}
 
@@ -76,4 +77,4 @@ module _ (rows : List Row) (n : ℕ) (is : n ≡ running_set rows) (size : lengt
 pub vote_runs : (r : Row) (e : Entry) (g : ℕ) → e.store < length (keeping r e).votes
     → is_open (outcome_of_votes (keeping r e).votes) ≡ running (in_group (keeping r e) g)
 unfolding running
-vote_runs r e g h = rw (any_set is_kept (vote_of_entry e) (λ i. refl) r.votes e.store 0 (rw length-set at h))
+vote_runs r e g h = rw (any_set is_kept (vote_of_entry e) (λ i. of_kept e) r.votes e.store 0 (rw length-set at h))

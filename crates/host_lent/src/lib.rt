@@ -1,19 +1,19 @@
 // The log after the records that a host lends. Document 01, "Hosts in C".
 #![tactic(auto)]
 
-ghost use Rattle.std.specs.Prelude.{cond, ◌≡◌, ◌*◌, ◌+◌, ◌-◌, ◌<◌, ◌^◌, ◌≤◌, length};
+ghost use Rattle.std.specs.Prelude.{cond, ◌≡◌, ◌+◌, ◌-◌, ◌<◌, ◌^◌, ◌≤◌};
 ghost use Rattle.log_entry.specs.Bits.{has};
 ghost use Rattle.log_entry.specs.Limits.{transactions};
 ghost use Rattle.log_votes.specs.Row.{empty_row};
-ghost use Rattle.host_records.specs.Record.{record_size};
-ghost use Rattle.host_lent.specs.Lent.{lent_log, no_limit, records_entered, refusal_in};
+ghost use Rattle.log_core.specs.Log.{opened};
+ghost use Rattle.host_lent.specs.Lent.{lent_log, log_after, no_limit};
 
-use host_records::{RECORD_SIZE, Reading};
-use log_core::Log;
+use host_records::RECORD_SIZE;
 use log_core::refusal::take_refusal;
+use log_core::{Entered, Log};
 use log_entry::limits::{PROCESS_PLACES, SMALL_STORES, STORE_PLACES, STORES, TRANSACTION_PLACES};
-use log_entry::refusal::{ACCEPTED, OUTSIDE_LIMITS};
-use log_entry::{Limit, sets};
+use log_entry::refusal::Refusal;
+use log_entry::{Limit, Request, sets};
 use log_votes::{Row, Tally};
 
 mod summaries;
@@ -26,16 +26,6 @@ pub struct Summary {
     pub group: u8,
 }
 
-// The number of a refusal that was read.
-fn refusal_in(reading: Reading) -> u8
-    ensures { result ≡ refusal_in reading }
-{
-    match reading {
-        Reading::Of(e) => ACCEPTED,
-        Reading::Refused(n) => n,
-    }
-}
-
 // The set of running transactions, with this one in it if it runs, and else without.
 fn noted(running: u32, tx: u8, runs: bool) -> u32
     requires tx_lt_transactions { tx < transactions }
@@ -44,7 +34,7 @@ fn noted(running: u32, tx: u8, runs: bool) -> u32
     ensures { result ≡ running - cond (has running tx) (2 ^ tx) 0 + cond runs (2 ^ tx) 0 }
 {
     let bit = 1u32 << tx;
-    if sets::has32(running, tx) {
+    if sets::has(running, tx) {
         if runs {
             return running;
         }
@@ -61,11 +51,9 @@ fn noted(running: u32, tx: u8, runs: bool) -> u32
 // is kept beside it: the rows in short, what the last group remembers, and `running`, the set of
 // the running transactions. The row without votes is a parameter, so that the compiler copies it as
 // one piece.
-fn entered(none: Row, stores: u8, lent: &[u8], count: usize, answer: &mut u8) -> Log
-    requires none_value { none ≡ empty_row }
-    requires record_size_in_bounds { count * record_size ≤ length lent.now }
-    ensures value { result ≡ (records_entered stores lent.now count).log }
-    ensures answer_after { answer.new ≡ (records_entered stores lent.now count).answer }
+fn entered(none: Row, stores: u8, records: &[[u8; RECORD_SIZE]]) -> Entered
+    requires { none ≡ empty_row }
+    ensures { result ≡ log_after (opened stores) records.now }
 {
     let mut rows = [none; TRANSACTION_PLACES];
     let mut holders: [u8; STORE_PLACES] = [0; STORE_PLACES];
@@ -78,24 +66,19 @@ fn entered(none: Row, stores: u8, lent: &[u8], count: usize, answer: &mut u8) ->
     let mut summaries = [summary; TRANSACTION_PLACES];
     let mut last: u32 = 0;
     let mut running: u32 = 0;
-    let mut at: usize = 0;
-    let mut left = count;
-    *answer = ACCEPTED;
-    while 0 < left {
-        let end = at + RECORD_SIZE;
-        let reading = host_records::read(stores, &lent[at..end]);
-        let Reading::Of(e) = reading else {
-            *answer = refusal_in(reading);
+    let mut answer = Ok(());
+    for record in records {
+        let read = host_records::read(stores, record);
+        let Ok(e) = read else {
+            answer = read.map(|_| ());
             break;
         };
-        at = end;
-        left -= 1;
         let store = e.store as usize;
-        if e.take {
+        let Request::Vote { by, tx, .. } = e.request else {
             let process = e.process as usize;
             let refused = take_refusal(holders, takers[store], latest[process], e);
-            if refused != ACCEPTED {
-                *answer = refused;
+            if refused.is_err() {
+                answer = refused;
                 break;
             }
             holders[store] = e.process;
@@ -103,25 +86,27 @@ fn entered(none: Row, stores: u8, lent: &[u8], count: usize, answer: &mut u8) ->
             takers[store] = takers[store] | (1u16 << e.process);
             latest[process] = e.turn;
             continue;
-        }
-        let tx = e.tx as usize;
-        let old = summaries[tx];
-        let by = e.by as usize;
-        let f = old.parts(e, holders[by], turns[by], groups, last).decide(e);
-        if f.answer != ACCEPTED {
-            *answer = f.answer;
+        };
+        let place = tx as usize;
+        let old = summaries[place];
+        let holding = by as usize;
+        let f = old
+            .parts(e, holders[holding], turns[holding], groups, last)
+            .decide(e);
+        if f.answer.is_err() {
+            answer = f.answer;
             break;
         }
-        summaries[tx] = old.keeping(e, f.group);
+        summaries[place] = old.keeping(e, f.group);
         // A row made anew: a changed one would be copied with the bytes that fill it up, and that
         // takes a third longer.
-        let kept = rows[tx].keeping(e);
+        let kept = rows[place].keeping(e);
         let votes = kept.votes;
-        rows[tx] = Row {
-            votes: votes,
+        rows[place] = Row {
+            votes,
             group: f.group,
         };
-        let after = noted(running, e.tx, f.runs);
+        let after = noted(running, tx, f.runs);
         if f.begins {
             groups = f.group;
             last = running;
@@ -130,34 +115,37 @@ fn entered(none: Row, stores: u8, lent: &[u8], count: usize, answer: &mut u8) ->
         }
         running = after;
     }
-    Log {
-        rows: rows,
-        holders: holders,
-        turns: turns,
-        takers: takers,
-        latest: latest,
-        groups: groups,
-        remembered: remembered,
-        stores: stores,
-    }
+    let log = Log {
+        rows,
+        holders,
+        turns,
+        takers,
+        latest,
+        groups,
+        remembered,
+        stores,
+    };
+    Entered { log, answer }
 }
 
 // Whether no log is opened with so many stores.
 fn no_limit(stores: u32) -> bool
     ensures { result ≡ no_limit stores }
 {
-    !((stores == STORES as u32) | (stores == SMALL_STORES as u32))
+    stores != u32::from(STORES) && stores != u32::from(SMALL_STORES)
 }
 
 // The log of so many stores after the lent records, and the answer: the first refusal found, or
 // that all were accepted.
-pub fn lent_log(stores: u32, lent: &[u8], count: usize, answer: &mut u8) -> Log
-    ensures value { result ≡ (lent_log stores lent.now count).log }
-    ensures answer_after { answer.new ≡ (lent_log stores lent.now count).answer }
+pub fn lent_log(stores: u32, lent: &[u8], count: usize) -> Entered
+    ensures { result ≡ lent_log stores lent.now count }
 {
-    if no_limit(stores) | (lent.len() / RECORD_SIZE < count) {
-        *answer = OUTSIDE_LIMITS;
-        return Log::empty(Limit::Full);
+    let (records, _) = lent.as_chunks::<RECORD_SIZE>();
+    if no_limit(stores) || records.len() < count {
+        return Entered {
+            log: Log::empty(Limit::Full),
+            answer: Err(Refusal::OutsideLimits),
+        };
     }
-    entered(Row::none(), stores as u8, lent, count, answer)
+    entered(Row::none(), stores as u8, &records[..count])
 }

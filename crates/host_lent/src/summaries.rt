@@ -3,6 +3,7 @@ ghost use Rattle.std.specs.Prelude.{false, ◌≡◌, ◌<◌};
 ghost use Rattle.log_entry.specs.Limits.{stores};
 ghost use Rattle.log_votes.specs.declared.Row.{Row};
 ghost use Rattle.log_votes.specs.Refusal.{any_clash};
+ghost use Rattle.log_votes.specs.Vote.{vote_kept};
 ghost use Rattle.log_votes.specs.Row.{in_group, keeping, vote_of_store};
 ghost use Rattle.host_lent.specs.Summary.{IsOf, clashes_with, no_summary, summary_parts};
 
@@ -21,7 +22,7 @@ impl Summary {
             commits: 0,
         };
         Summary {
-            tally: tally,
+            tally,
             list: 0,
             group: 0,
         }
@@ -34,44 +35,43 @@ impl Summary {
         if self.tally.commits == 0 {
             return false;
         }
-        if e.commit {
-            return self.list != e.participants;
+        if e.says_commit() {
+            return self.list != e.list();
         }
-        !sets::within8(e.participants, self.list)
+        !sets::within(e.list(), self.list)
     }
 
     // What a vote on the row is decided on.
     pub fn parts(self, e: Entry, holder: u8, turn: u8, groups: u8, remembered: u32) -> VoteParts
         ensures { result ≡ summary_parts self e holder turn groups remembered }
     {
-        let tally = self.tally;
         VoteParts {
-            tally: tally,
+            tally: self.tally,
             clash: self.clashes(e),
             group: self.group,
-            holder: holder,
-            turn: turn,
-            groups: groups,
-            remembered: remembered,
+            holder,
+            turn,
+            groups,
+            remembered,
         }
     }
 
     // That of the row with an accepted vote, in its group.
     pub fn keeping(self, e: Entry, group: u8) -> Summary
-        ensures { (r : Row) → IsOf self r → e.store < stores → any_clash e r.votes ≡ false → (vote_of_store e.store r).kept ≡ false → IsOf result (in_group (keeping r e) group) }
+        ensures { (r : Row) → IsOf self r → e.store < stores → any_clash e r.votes ≡ false → vote_kept (vote_of_store e.store r) ≡ false → IsOf result (in_group (keeping r e) group) }
     {
         let tally = self.tally.keeping(e);
-        if e.commit {
+        if e.says_commit() {
             return Summary {
-                tally: tally,
-                list: e.participants,
-                group: group,
+                tally,
+                list: e.list(),
+                group,
             };
         }
         Summary {
-            tally: tally,
+            tally,
             list: self.list,
-            group: group,
+            group,
         }
     }
 }

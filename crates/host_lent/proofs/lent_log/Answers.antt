@@ -1,21 +1,24 @@
-use Rattle.std.proofs.Common.{ap, ◌∙◌}
+use Rattle.std.proofs.Common.{ap, arith, length, sym, take, ◌/◌, ◌≤◌, ◌∙◌}
+use mathlib.Core.Logic.{⊎_elim}
 use Rattle.log_entry.specs.Refusal.{outside_limits}
-use Rattle.log_core.specs.declared.Entered.{Entered}
 use Rattle.log_core.specs.declared.Log.{Log}
 use Rattle.log_core.specs.Enter.{answered}
-use Rattle.host_lent.proofs.LentLaws.{count_tried, count_within, lent_refused, limit_tried, parts}
+use Rattle.log_core.specs.Log.{opened}
+use Rattle.host_records.specs.Record.{record_size}
+use Rattle.host_lent.proofs.LentLaws.{chunks_in, count_beyond, count_within, no_such_limit}
+use Rattle.host_lent.specs.Lent.{log_after}
 use Rattle.host_lent.proofs.lent_log.Goals as goal
 
-pub returns-then-no_limit-lent : goal.returns-then-no_limit-lent
-returns-then-no_limit-lent c =
-    let w =
-    parts (ap (λ (l : Log). answered l outside_limits) c.empty.ensures
-    ∙ lent_refused c.args.stores c.args.lent.now c.args.count c.no_limit.ensures c.if-no_limit-lent.true) in
-    record { value = w.0; answer_after = w.1 }
+pub returns-then-no_limit : goal.returns-then-no_limit
+returns-then-no_limit c =
+    ap (λ (l : Log). answered l outside_limits) c.empty.ensures
+    ∙ ⊎_elim (λ h. no_such_limit c.args.stores c.args.lent.now c.args.count (sym c.no_limit.ensures ∙ h))
+    (λ h. count_beyond c.args.stores c.args.lent.now c.args.count (sym c.no_limit.ensures ∙ h.0) (omega (arith, h.1, c.as_chunks.ensures.front_len)))
+    c.then-no_limit.either
 
 pub returns : goal.returns
 returns c =
-    let w = count_within c.args.stores c.args.lent.now c.args.count
-    (limit_tried c.args.stores c.args.lent.now c.args.count c.no_limit.ensures c.if-no_limit-lent.false)
-    (count_tried c.args.stores c.args.lent.now c.args.count c.no_limit.ensures c.if-no_limit-lent.false) in
-    record { value = c.entered.ensures.value ∙ ap (λ (t : Entered). t.log) w; answer_after = c.entered.ensures.answer_after ∙ ap (λ (t : Entered). t.answer) w }
+    let within : c.args.count ≤ length c.args.lent.now / record_size = omega (arith, c.as_chunks.ensures.front_len) in
+    c.entered.ensures
+    ∙ ap (log_after (opened c.args.stores)) (ap (take c.args.count) c.as_chunks.ensures.front ∙ chunks_in c.args.count (length c.args.lent.now / record_size) c.args.lent.now within)
+    ∙ count_within c.args.stores c.args.lent.now c.args.count (sym c.no_limit.ensures ∙ c.if-no_limit.false) within
