@@ -1,5 +1,4 @@
 pub mod Good
-pub mod FrontLaws
 pub mod QueueLaws
 pub mod RoundLaws
 pub mod LearnLaws

@@ -5,7 +5,6 @@ ghost use Rattle.model_steps.specs.Limits.{instances};
 ghost use Rattle.model_protocol.specs.Batch.{entries_of};
 ghost use Rattle.model_protocol.specs.Coordinator.{learning};
 
-use crate::limits::least;
 use crate::queue::left_by;
 use log_core::Log;
 use model_protocol::limits::BATCH_PLACES;
@@ -14,16 +13,12 @@ use model_steps::limits::INSTANCES;
 use world_fresh::new_round;
 
 // The batch is applied in order; a refused entry is skipped.
+#[tactic(auto, using(crate::proofs::LearnLaws::turns))]
 pub fn fed(mut log: Log, batch: Batch) -> Log
     ensures { result ≡ feed log (entries_of batch) }
 {
-    let count = least(batch.count, BATCH_PLACES);
-    let mut i: usize = 0;
-    while i < count {
-        let e = batch.entries[i];
-        let entered = log.enter(e);
-        log = entered.log;
-        i += 1;
+    for e in &batch.entries[..batch.count.min(BATCH_PLACES)] {
+        log = log.enter(*e).log;
     }
     log
 }
@@ -32,10 +27,7 @@ pub fn fed(mut log: Log, batch: Batch) -> Log
 fn one_more(applied: u8) -> u8
     ensures { result ≡ min (applied + 1) instances }
 {
-    if INSTANCES <= applied {
-        return INSTANCES;
-    }
-    applied + 1
+    applied.saturating_add(1).min(INSTANCES)
 }
 
 // The coordinator after a majority accepted its proposal; the batch is for its log.

@@ -3,7 +3,6 @@ ghost use Rattle.std.specs.Prelude.{◌≡◌};
 ghost use Rattle.model_protocol.specs.Queue.{first_batch, is_full, is_in, left_by, queued};
 ghost use Rattle.model_protocol.specs.Queue.{joining};
 
-use crate::limits::least;
 use log_entry::Entry;
 use model_protocol::limits::{BATCH_PLACES, QUEUE_PLACES};
 use model_protocol::{Batch, Queue};
@@ -45,12 +44,8 @@ pub fn first_batch(queue: Queue) -> Batch
 {
     let blank = no_entry();
     let mut entries = [blank; BATCH_PLACES];
-    let count = least(queue.count, BATCH_PLACES);
-    let mut i: usize = 0;
-    while i < count {
-        entries[i] = queue.entries[i];
-        i += 1;
-    }
+    let count = queue.count.min(BATCH_PLACES);
+    entries[..count].copy_from_slice(&queue.entries[..count]);
     Batch {
         entries: entries,
         count: count,
@@ -58,27 +53,20 @@ pub fn first_batch(queue: Queue) -> Batch
 }
 
 // Queue entries equal to an entry of the learned batch leave, the rest keep their order.
+#[tactic(auto, using(crate::proofs::QueueLaws::turns))]
 pub fn left_by(queue: Queue, batch: Batch) -> Queue
     ensures { result ≡ left_by queue batch }
 {
     let blank = no_entry();
     let mut entries = [blank; QUEUE_PLACES];
-    let waiting = least(queue.count, QUEUE_PLACES);
-    let learned = least(batch.count, BATCH_PLACES);
     let mut n: usize = 0;
-    let mut i: usize = 0;
-    'queue: while i < waiting {
-        let e = queue.entries[i];
-        i += 1;
-        let mut j: usize = 0;
-        while j < learned {
-            let f = batch.entries[j];
-            if e.same(f) {
+    'queue: for e in &queue.entries[..queue.count.min(QUEUE_PLACES)] {
+        for f in &batch.entries[..batch.count.min(BATCH_PLACES)] {
+            if e.same(*f) {
                 continue 'queue;
             }
-            j += 1;
         }
-        entries[n] = e;
+        entries[n] = *e;
         n += 1;
     }
     Queue {
