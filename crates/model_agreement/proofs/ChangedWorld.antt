@@ -17,7 +17,7 @@ use Rattle.model_protocol.specs.declared.Process.{Process}
 use Rattle.model_protocol.specs.declared.World.{World}
 use Rattle.model_protocol.specs.Batch.{entries_of}
 use Rattle.model_protocol.specs.Change.{acceptors_now, slot_now, coordinator_now, done, down_now, gives_replay, keeps_follow, learns, process_now, sending, starts_anew, takes_replay}
-use Rattle.model_protocol.specs.Message.{accept_to, prepare_to}
+use Rattle.model_protocol.specs.Message.{accept_to, prepare_to, said_store}
 use Rattle.model_protocol.specs.Process.{with_follow}
 use Rattle.model_protocol.specs.Send.{copy_of, send_to_all}
 use Rattle.model_protocol.specs.Step.{changed, parts_at, put_back}
@@ -301,10 +301,10 @@ module _ (w : World) (at : Places) (r : Replay) (d : Message) where
   -- with its store's replay
   pub restore_sent : (m : Message)
       → changed w at r (gives_replay (parts_at w at d) m)
-      ≡ posted w (adding_both (outbox_of w) w.sent m (replay_of (log_of w at.coordinator) m.store)) (w.sent + 1)
+      ≡ posted w (adding_both (outbox_of w) w.sent m (replay_of (log_of w at.coordinator) (said_store m))) (w.sent + 1)
   restore_sent m =
       one_sent _ m
-      ∙ ap (λ (v : World). posted v (adding_both (outbox_of v) v.sent m (replay_of (log_of w at.coordinator) m.store)) (v.sent + 1)) (all_back w at d r 0)
+      ∙ ap (λ (v : World). posted v (adding_both (outbox_of v) v.sent m (replay_of (log_of w at.coordinator) (said_store m))) (v.sent + 1)) (all_back w at d r 0)
 
   pub prepares_sent : (c : Coordinator) (n i b : ℕ)
       → changed w at r (sending (coordinator_now (parts_at w at d) c) n (prepare_to i b 0))

@@ -32,8 +32,8 @@ use Rattle.model_protocol.specs.declared.AcceptorSlot.{AcceptorSlot}
 use Rattle.model_protocol.specs.declared.Change.{Change}
 use Rattle.model_protocol.specs.declared.Coordinator.{Coordinator}
 use Rattle.model_protocol.specs.declared.Down.{Down}
-use Rattle.model_protocol.specs.declared.Kind.{Kind}
-use Rattle.model_protocol.specs.declared.Kind.TheVariants as kind
+use Rattle.model_protocol.specs.Kind.{Kind}
+use Rattle.model_protocol.specs.Kind as kind
 use Rattle.model_protocol.specs.declared.Message.{Message}
 use Rattle.model_protocol.specs.declared.Parts.{Parts}
 use Rattle.model_protocol.specs.declared.Places.{Places}
@@ -46,7 +46,7 @@ use Rattle.model_protocol.specs.Coordinator.{batch_to_propose, counting, hearing
 use Rattle.model_protocol.specs.Change.{coordinator_now, done}
 use Rattle.model_protocol.specs.Deliver.{delivery_change, no_place_for}
 use Rattle.model_protocol.specs.Limits.{slot_places}
-use Rattle.model_protocol.specs.Message.{accept_to, accepted_from, follow_to, prepare_to, promise_from, request_to, restore_to, tell_to}
+use Rattle.model_protocol.specs.Message.{accept_to, accepted_from, follow_to, prepare_to, promise_from, request_to, restore_to, said_accepted, said_acceptor, said_ballot, said_batch, said_entry, said_inst, said_kind, said_outcome, said_position, said_running, said_store, said_to, said_turn, said_tx, said_update, tell_to}
 use Rattle.model_protocol.specs.Places.{delivery_places, places_of}
 use Rattle.model_protocol.specs.Process.{following, hearing_outcome, taking, takes_follow, takes_restore}
 use Rattle.model_protocol.specs.Queue.{is_full, is_in, joined, joining, queued}
@@ -215,17 +215,17 @@ module _ (w : World) (h : List Event) (room : Roomy (outbox_of w)) (few : w.acce
 
   module _ (j : ℕ) (m : Message) (y : Replay) where
     abbrev its_slot : AcceptorSlot
-    its_slot = slot_of w m.acceptor m.inst
+    its_slot = slot_of w (said_acceptor m) (said_inst m)
 
     abbrev its_owner : Coordinator
-    its_owner = coordinator_of w (owner m.ballot)
+    its_owner = coordinator_of w (owner (said_ballot m))
 
-    t_prepare : At (outbox_of w) w.sent j (paxos (prepare m.inst m.ballot m.acceptor)) → Handled j m y kind.Prepare (slot_at m.acceptor m.inst)
+    t_prepare : At (outbox_of w) w.sent j (paxos (prepare (said_inst m) (said_ballot m) (said_acceptor m))) → Handled j m y kind.Prepare (slot_at (said_acceptor m) (said_inst m))
     unfolding delivery_change
     t_prepare s t =
-        let i = m.inst in
-        let b = m.ballot in
-        let a = m.acceptor in
+        let i = (said_inst m) in
+        let b = (said_ballot m) in
+        let a = (said_acceptor m) in
         let x = its_slot in
         move_by (λ (ch : Change). changed w (slot_at a i) y ch) (ltb x.promised b)
         (λ f. to_world (slot_answers w y m a i (promising x b) (promise_from i b a x.ballot x.batch))
@@ -234,30 +234,30 @@ module _ (w : World) (h : List Event) (room : Roomy (outbox_of w)) (few : w.acce
         (one_left (not_second (acceptor.promises x b) (lacks_numbers w.sent 1) t f)))))
         (λ f. to_world (nothing w (slot_at a i) y m) (passes_prepare j i b a s (nltb→le x.promised b f)))
 
-    t_accept : At (outbox_of w) w.sent j (paxos (accept m.inst m.ballot m.acceptor m.batch)) → Handled j m y kind.Accept (slot_at m.acceptor m.inst)
+    t_accept : At (outbox_of w) w.sent j (paxos (accept (said_inst m) (said_ballot m) (said_acceptor m) (said_batch m))) → Handled j m y kind.Accept (slot_at (said_acceptor m) (said_inst m))
     unfolding delivery_change
     t_accept s t =
-        let i = m.inst in
-        let b = m.ballot in
-        let a = m.acceptor in
+        let i = (said_inst m) in
+        let b = (said_ballot m) in
+        let a = (said_acceptor m) in
         let x = its_slot in
         move_by (λ (ch : Change). changed w (slot_at a i) y ch) (leb x.promised b)
         (λ f. let g = one_left (not_second (acceptor.accepts x b) (lacks_numbers w.sent 1) t f) in
-        to_world (slot_answers w y m a i (accepting b m.batch) (accepted_from i b a))
-        (votes j i b a m.batch _ _ s (leb→le x.promised b f)
+        to_world (slot_answers w y m a i (accepting b (said_batch m)) (accepted_from i b a))
+        (votes j i b a (said_batch m) _ _ s (leb→le x.promised b f)
         (posts_one (outbox_of w) w.sent (accepted_from i b a) room g)
         (at_new (outbox_of w) w.sent (accepted_from i b a) room g)))
-        (λ f. to_world (nothing w (slot_at a i) y m) (passes_accept j i b a m.batch s (nleb→lt x.promised b f)))
+        (λ f. to_world (nothing w (slot_at a i) y m) (passes_accept j i b a (said_batch m) s (nleb→lt x.promised b f)))
 
-    t_promise : At (outbox_of w) w.sent j (paxos (promise m.inst m.ballot m.acceptor m.accepted m.batch)) → Handled j m y kind.Promise (coordinator_at (owner m.ballot))
+    t_promise : At (outbox_of w) w.sent j (paxos (promise (said_inst m) (said_ballot m) (said_acceptor m) (said_accepted m) (said_batch m))) → Handled j m y kind.Promise (coordinator_at (owner (said_ballot m)))
     unfolding delivery_change promise_heard
     t_promise s _ =
-        let i = m.inst in
-        let b = m.ballot in
-        let a = m.acceptor in
+        let i = (said_inst m) in
+        let b = (said_ballot m) in
+        let a = (said_acceptor m) in
         let c = its_owner in
-        let d = m.accepted in
-        let v = m.batch in
+        let d = (said_accepted m) in
+        let v = (said_batch m) in
         let at = coordinator_at (owner b) in
         move_by (λ (ch : Change). changed w at y ch) (is_heard c i b a)
         (λ f. let g = both (eqb i c.applied) (eqb b c.round.ballot) (both (is_current c i b) (ltb a most_acceptors) f).0 in
@@ -269,12 +269,12 @@ module _ (w : World) (h : List Event) (room : Roomy (outbox_of w)) (few : w.acce
         (λ l. hears j i b a d v _ _ s e e' (ours (nltb→le c.round.accepted d l)))))
         (λ f. to_world (nothing w at y m) (passes_promise j i b a d v s))
 
-    t_accepted : At (outbox_of w) w.sent j (paxos (accepted m.inst m.ballot m.acceptor)) → Handled j m y kind.Accepted (coordinator_at (owner m.ballot))
+    t_accepted : At (outbox_of w) w.sent j (paxos (accepted (said_inst m) (said_ballot m) (said_acceptor m))) → Handled j m y kind.Accepted (coordinator_at (owner (said_ballot m)))
     unfolding delivery_change
     t_accepted s _ =
-        let i = m.inst in
-        let b = m.ballot in
-        let a = m.acceptor in
+        let i = (said_inst m) in
+        let b = (said_ballot m) in
+        let a = (said_acceptor m) in
         let c = its_owner in
         let r = counting c.round a in
         let at = coordinator_at (owner b) in
@@ -288,10 +288,10 @@ module _ (w : World) (h : List Event) (room : Roomy (outbox_of w)) (few : w.acce
         (λ f. to_world (nothing w at y m) (passes_accepted j i b a s (λ l d e. T_not (is_heard c i b a) f (current l d e))))
       where
         a : ℕ
-        a = m.acceptor
+        a = (said_acceptor m)
 
-        current : a < most_acceptors → m.inst ≡ its_owner.applied → m.ballot ≡ its_owner.round.ballot → T (is_heard its_owner m.inst m.ballot a)
-        current l d e = rw (← d, ← e) (go m.inst m.ballot)
+        current : a < most_acceptors → (said_inst m) ≡ its_owner.applied → (said_ballot m) ≡ its_owner.round.ballot → T (is_heard its_owner (said_inst m) (said_ballot m) a)
+        current l d e = rw (← d, ← e) (go (said_inst m) (said_ballot m))
           where
             go : (i b : ℕ) → T (eqb i i && eqb b b && ltb a most_acceptors)
             go i b = rw (is_true (eqb i i) (eqb_refl i), is_true (eqb b b) (eqb_refl b)) (lt→ltb a most_acceptors l)
@@ -301,45 +301,45 @@ module _ (w : World) (h : List Event) (room : Roomy (outbox_of w)) (few : w.acce
     queue_by true full t u = absurd u
     queue_by false full t u = u
 
-    t_request : At (outbox_of w) w.sent j (request m.to m.entry) → Handled j m y kind.Request (coordinator_at m.to)
+    t_request : At (outbox_of w) w.sent j (request (said_to m) (said_entry m)) → Handled j m y kind.Request (coordinator_at (said_to m))
     unfolding delivery_change joining
     t_request s t =
-        let k = coordinator_of w m.to in
-        let at = coordinator_at m.to in
-        let here = is_in m.entry (queued k.queue) in
+        let k = coordinator_of w (said_to m) in
+        let at = coordinator_at (said_to m) in
+        let here = is_in (said_entry m) (queued k.queue) in
         move_by (λ (q : Queue). changed w at y (done (coordinator_now (parts_at w at m) (with_queue k q)))) (here || is_full k.queue)
-        (λ _. to_world (nothing w at y m) (passes_request j m.to m.entry s))
-        (λ f. to_world (coordinator_changed w at y m (with_queue k (joined k.queue m.entry)))
-        (joins j m.to m.entry s (queue_by here (is_full k.queue) t f)))
+        (λ _. to_world (nothing w at y m) (passes_request j (said_to m) (said_entry m) s))
+        (λ f. to_world (coordinator_changed w at y m (with_queue k (joined k.queue (said_entry m))))
+        (joins j (said_to m) (said_entry m) s (queue_by here (is_full k.queue) t f)))
 
-    t_told : At (outbox_of w) w.sent j (tell m.to m.tx m.outcome) → Handled j m y kind.Tell (process_at m.to)
+    t_told : At (outbox_of w) w.sent j (tell (said_to m) (said_tx m) (said_outcome m)) → Handled j m y kind.Tell (process_at (said_to m))
     unfolding delivery_change
     t_told s _ =
-        to_world (process_changed w (process_at m.to) y m (hearing_outcome (process_of w m.to) m.tx m.outcome))
-        (is_told j m.to m.tx m.outcome s)
+        to_world (process_changed w (process_at (said_to m)) y m (hearing_outcome (process_of w (said_to m)) (said_tx m) (said_outcome m)))
+        (is_told j (said_to m) (said_tx m) (said_outcome m) s)
 
-    t_taken : At (outbox_of w) w.sent j (restore m.to m.turn m.store m.position y m.running) → Handled j m y kind.Restore (process_at m.to)
+    t_taken : At (outbox_of w) w.sent j (restore (said_to m) (said_turn m) (said_store m) (said_position m) y (said_running m)) → Handled j m y kind.Restore (process_at (said_to m))
     unfolding delivery_change
     t_taken s _ =
-        let at = process_at m.to in
-        let q = process_of w m.to in
-        move_by (λ (ch : Change). changed w at y ch) (takes_restore q m.turn m.position)
-        (λ f. to_world (process_takes w at y m (taking q m.store m.position m.running))
-        (takes j m.to m.turn m.store m.position y m.running s f))
-        (λ f. to_world (nothing w at y m) (passes_restore j m.to m.turn m.store m.position y m.running s f))
+        let at = process_at (said_to m) in
+        let q = process_of w (said_to m) in
+        move_by (λ (ch : Change). changed w at y ch) (takes_restore q (said_turn m) (said_position m))
+        (λ f. to_world (process_takes w at y m (taking q (said_store m) (said_position m) (said_running m)))
+        (takes j (said_to m) (said_turn m) (said_store m) (said_position m) y (said_running m) s f))
+        (λ f. to_world (nothing w at y m) (passes_restore j (said_to m) (said_turn m) (said_store m) (said_position m) y (said_running m) s f))
 
-    t_followed : At (outbox_of w) w.sent j (follow m.to m.store m.tx m.outcome m.update) → Handled j m y kind.Follow (process_at m.to)
+    t_followed : At (outbox_of w) w.sent j (follow (said_to m) (said_store m) (said_tx m) (said_outcome m) (said_update m)) → Handled j m y kind.Follow (process_at (said_to m))
     unfolding delivery_change
     t_followed s _ =
-        let at = process_at m.to in
-        let q = process_of w m.to in
-        move_by (λ (ch : Change). changed w at y ch) (takes_follow q m.store m.tx)
-        (λ f. to_world (process_follows w at y m (following q m.tx)) (takes_follow_lem j m.to m.store m.tx m.outcome m.update s f))
-        (λ f. to_world (nothing w at y m) (passes_follow j m.to m.store m.tx m.outcome m.update s f))
+        let at = process_at (said_to m) in
+        let q = process_of w (said_to m) in
+        move_by (λ (ch : Change). changed w at y ch) (takes_follow q (said_store m) (said_tx m))
+        (λ f. to_world (process_follows w at y m (following q (said_tx m))) (takes_follow_lem j (said_to m) (said_store m) (said_tx m) (said_outcome m) (said_update m) s f))
+        (λ f. to_world (nothing w at y m) (passes_follow j (said_to m) (said_store m) (said_tx m) (said_outcome m) (said_update m) s f))
 
     -- no number of a message that was sent lies beyond the places
-    slot_place : m.acceptor < w.acceptors → m.inst < instances
-        → (m.acceptor * instances + m.inst) % slot_places ≡ m.acceptor * instances + m.inst
+    slot_place : (said_acceptor m) < w.acceptors → (said_inst m) < instances
+        → (said_acceptor m * instances + said_inst m) % slot_places ≡ said_acceptor m * instances + said_inst m
     slot_place l g = mod-eq_of_lt (omega arith)
 
     t_deliver : (κ : Kind) → At (outbox_of w) w.sent j (content_as κ m y) → Handled j m y κ (delivery_places m κ)
@@ -348,9 +348,9 @@ module _ (w : World) (h : List Event) (room : Roomy (outbox_of w)) (few : w.acce
     t_deliver kind.Accept s = rw (slot_place (range j _ s).acceptor (range j _ s).inst) (t_accept s)
     t_deliver kind.Promise s = t_promise s
     t_deliver kind.Accepted s = t_accepted s
-    t_deliver kind.Tell s = let l = (range j _ s).0 in let e : m.to % process_places ≡ m.to = mod-eq_of_lt (omega arith) in rw e (t_told s)
-    t_deliver kind.Restore s = let l = (range j _ s).1 in let e : m.to % process_places ≡ m.to = mod-eq_of_lt (omega arith) in rw e (t_taken s)
-    t_deliver kind.Follow s = let l = (range j _ s).1 in let e : m.to % process_places ≡ m.to = mod-eq_of_lt (omega arith) in rw e (t_followed s)
+    t_deliver kind.Tell s = let l = (range j _ s).0 in let e : (said_to m) % process_places ≡ (said_to m) = mod-eq_of_lt (omega arith) in rw e (t_told s)
+    t_deliver kind.Restore s = let l = (range j _ s).1 in let e : (said_to m) % process_places ≡ (said_to m) = mod-eq_of_lt (omega arith) in rw e (t_taken s)
+    t_deliver kind.Follow s = let l = (range j _ s).1 in let e : (said_to m) % process_places ≡ (said_to m) = mod-eq_of_lt (omega arith) in rw e (t_followed s)
 
   -- ---- steps
 
@@ -509,11 +509,11 @@ module _ (w : World) (h : List Event) (room : Roomy (outbox_of w)) (few : w.acce
   at_its_process : (q : ℕ) (s : Step) (r : Replay) (d : Message) → q ≤ processes → Taken s (process_at q) r d → Taken s (process_at (q % process_places)) r d
   at_its_process q s r d l f = let e : q % process_places ≡ q = mod-eq_of_lt (omega arith) in rw e f
 
-  t_deliver_step : (j : ℕ) → Taken (Deliver j) (delivery_places (message_of w j) (message_of w j).kind) (replay_with w j) (message_of w j)
+  t_deliver_step : (j : ℕ) → Taken (Deliver j) (delivery_places (message_of w j) (said_kind (message_of w j))) (replay_with w j) (message_of w j)
   unfolding change_of step_checks
   t_deliver_step j p =
       moves (live p.1.1.1.0)
-      (t_deliver j (message_of w j) (replay_with w j) (message_of w j).kind (record { below = nleb→lt w.sent j p.1.0; is = refl }) p.1.1.1.1.0)
+      (t_deliver j (message_of w j) (replay_with w j) (said_kind (message_of w j)) (record { below = nleb→lt w.sent j p.1.0; is = refl }) p.1.1.1.1.0)
 
   t_step : (s : Step) → Taken s (places_in w s) (replay_in w s) (message_in w s)
   unfolding places_of message_for outside_step

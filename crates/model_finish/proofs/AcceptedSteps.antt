@@ -17,7 +17,7 @@ use Rattle.model_paxos.specs.Majority.{majority}
 use Rattle.model_protocol.specs.declared.AcceptorSlot.{AcceptorSlot}
 use Rattle.model_protocol.specs.declared.Batch.{Batch}
 use Rattle.model_protocol.specs.declared.Coordinator.{Coordinator}
-use Rattle.model_protocol.specs.declared.Kind.TheVariants.{Accept, Accepted, Prepare, Promise}
+use Rattle.model_protocol.specs.Kind.{Accept, Accepted, Prepare, Promise}
 use Rattle.model_protocol.specs.declared.Message.{Message}
 use Rattle.model_protocol.specs.declared.Parts.{Parts}
 use Rattle.model_protocol.specs.declared.World.{World}
@@ -25,7 +25,7 @@ use Rattle.model_protocol.specs.Acceptor.{accepting, accepts, promises, promisin
 use Rattle.model_protocol.specs.Coordinator.{batch_to_propose, counting, is_heard, learning, promise_heard, proposing, with_round}
 use Rattle.model_protocol.specs.Deliver.{delivery_change, no_place_for, receiver_down}
 use Rattle.model_protocol.specs.Limits.{slot_places}
-use Rattle.model_protocol.specs.Message.{accept_to, accepted_from, prepare_to, promise_from}
+use Rattle.model_protocol.specs.Message.{accept_to, accepted_from, prepare_to, promise_from, said_kind}
 use Rattle.model_protocol.specs.Places.{delivery_places, only_coordinator, only_owner, places_of}
 use Rattle.model_protocol.specs.Send.{lacks_numbers, send_to_all}
 use Rattle.model_protocol.specs.Step.{answered, change_of, changed, message_for, parts_at, parts_of, places_in, replay_in, step_checks, step_of, step_refusal}
@@ -92,8 +92,8 @@ propose_passes p c i b r up live current opened heard fresh queued room =
       le-ltb (messages - p.sent) p.acceptors (omega arith),
     )
 
-deliver_passes : (p : Parts) (j : ℕ) → j < messages → j < p.sent → receiver_down p.down p.message p.message.kind ≡ false
-    → 0 < p.acceptors → no_place_for p p.message.kind ≡ false → step_refusal p (Deliver j) ≡ accepted
+deliver_passes : (p : Parts) (j : ℕ) → j < messages → j < p.sent → receiver_down p.down p.message (said_kind p.message) ≡ false
+    → 0 < p.acceptors → no_place_for p (said_kind p.message) ≡ false → step_refusal p (Deliver j) ≡ accepted
 unfolding step_refusal first_refusal step_checks outside_step
 deliver_passes p j inside sent up live place =
     rw (lt-leb messages j inside, lt-leb p.sent j sent, up, ne_eqb p.acceptors 0 (λ e. omega arith), place)
@@ -142,13 +142,13 @@ module _ (w : World) (j : ℕ) (sent : j < w.sent) (most : w.sent ≤ messages) 
 
   -- the parts that the delivery of the message touches
   abbrev parts_for : Message → Parts
-  parts_for m = parts_at w (delivery_places m m.kind) m
+  parts_for m = parts_at w (delivery_places m (said_kind m)) m
 
   -- what the delivery of the message comes to
   abbrev Comes : Message → Type 0
   Comes m =
-      receiver_down w.down m m.kind ≡ false → no_place_for (parts_for m) m.kind ≡ false
-      → step_of w (Deliver j) ≡ answered (changed w (delivery_places m m.kind) (replay_with w (j % messages)) (delivery_change (parts_for m) m.kind)) accepted
+      receiver_down w.down m (said_kind m) ≡ false → no_place_for (parts_for m) (said_kind m) ≡ false
+      → step_of w (Deliver j) ≡ answered (changed w (delivery_places m (said_kind m)) (replay_with w (j % messages)) (delivery_change (parts_for m) (said_kind m))) accepted
 
   delivered_itself : Comes (message_of w (j % messages))
   unfolding places_of message_for change_of

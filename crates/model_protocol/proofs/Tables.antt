@@ -19,6 +19,7 @@ use Rattle.model_protocol.specs.Queue.{queued}
 use Rattle.model_protocol.specs.Tables.{Holds, Tried, accept_promises, answers_the_down, as_defined, ballots_of_one, before_setup, comes_back, comes_back_again, down_and_belief, follows_taken, full_queue, hears_again, learns_anothers, left_running, none_to_follow, numbers_used, of_five, opens_with_three, other_instance, own_left_running, proposes_with_three, receivers_down, restored_anew, restored_once, steps_of, taken_over, three_left, told, update_a, update_b}
 use Rattle.model_protocol.specs.World.{coordinator_of, follows_of, log_of, no_followed, message_of, process_of, restored_to, slot_of, started_in}
 use Rattle.model_protocol.proofs.Compute.{computed}
+use Rattle.model_protocol.specs.Message.{said_accepted, said_acceptor, said_batch}
 
 pub before_setup_lem : Holds before_setup
 unfolding computed as_defined before_setup
@@ -114,7 +115,7 @@ rows_of w p = take (restored_to w p).count (rows_in (restored_to w p))
 
 -- "the first up to four queue entries" were proposed; the rest keep their order, and the refused
 -- one could join later
-pub first_four : ((message_of (after full_queue) 15).batch.count ≡ 4)
+pub first_four : ((said_batch (message_of (after full_queue) 15)).count ≡ 4)
     × ((log_of (after full_queue) 0).holders ≡ 1 ∷ 2 ∷ 3 ∷ 4 ∷ 0 ∷ 0 ∷ 0 ∷ 0 ∷ [])
     × (queued_by (after full_queue) 0 ≡ 5 ∷ 6 ∷ 7 ∷ 8 ∷ 9 ∷ [])
 unfolding computed full_queue
@@ -129,10 +130,10 @@ equal_ones_leave = (refl, refl, refl)
 
 -- "sends prepare to every acceptor, down or not, acceptor 0 first"; a promise carries the accepted
 -- pair; an accept promises
-pub slot_and_promise : (map (λ (m : Message). m.acceptor) (take 4 (after accept_promises).messages) ≡ 0 ∷ 0 ∷ 1 ∷ 2 ∷ [])
+pub slot_and_promise : (map (λ (m : Message). said_acceptor m) (take 4 (after accept_promises).messages) ≡ 0 ∷ 0 ∷ 1 ∷ 2 ∷ [])
     × ((slot_of (after accept_promises) 2 0).promised ≡ 8)
     × ((slot_of (after accept_promises) 2 0).ballot ≡ 6)
-    × ((message_of (after accept_promises) 16).accepted ≡ 6)
+    × (said_accepted (message_of (after accept_promises) 16) ≡ 6)
     × ((after accept_promises).sent ≡ 17)
 unfolding computed accept_promises
 slot_and_promise = (refl, refl, refl, refl, refl)

@@ -23,8 +23,8 @@ use Rattle.model_steps.specs.declared.Step.{Step}
 use Rattle.model_steps.specs.declared.Step.TheVariants.{Back, Crash, Deliver, Follow, Open, Propose, Request, Restore, Setup, Tell}
 use Rattle.model_protocol.specs.declared.Change.{Change}
 use Rattle.model_protocol.specs.declared.Down.{Down}
-use Rattle.model_protocol.specs.declared.Kind.{Kind}
-use Rattle.model_protocol.specs.declared.Kind.TheVariants as kind
+use Rattle.model_protocol.specs.Kind.{Kind}
+use Rattle.model_protocol.specs.Kind as kind
 use Rattle.model_protocol.specs.declared.Message.{Message}
 use Rattle.model_protocol.specs.declared.Parts.{Parts}
 use Rattle.model_protocol.specs.declared.Stepped.{Stepped}
@@ -34,7 +34,7 @@ use Rattle.model_protocol.specs.Acceptor.{accepting, accepts, promises, promisin
 use Rattle.model_protocol.specs.Change.{coordinator_now, done, keeps_follow, learns, process_now, sending, slot_now, takes_replay}
 use Rattle.model_protocol.specs.Coordinator.{counting, is_heard, learning, promise_heard, with_round}
 use Rattle.model_protocol.specs.Deliver.{delivery_change}
-use Rattle.model_protocol.specs.Message.{accepted_from, promise_from}
+use Rattle.model_protocol.specs.Message.{accepted_from, promise_from, said_accepted, said_acceptor, said_ballot, said_batch, said_inst, said_kind, said_position, said_running, said_store, said_turn, said_tx}
 use Rattle.model_protocol.specs.Process.{following, taking, takes_follow, takes_restore}
 use Rattle.model_protocol.specs.Places.{places_of}
 use Rattle.model_protocol.specs.Send.{send_to_all}
@@ -104,33 +104,33 @@ delivered_down p kind.Request = refl
 delivered_down p kind.Prepare =
     let m = p.message in
     let x = p.slot in
-    same_down p (promises x m.ballot)
-    (sending (slot_now p (promising x m.ballot)) 1 (promise_from m.inst m.ballot m.acceptor x.ballot x.batch)) (done p) refl refl
+    same_down p (promises x (said_ballot m))
+    (sending (slot_now p (promising x (said_ballot m))) 1 (promise_from (said_inst m) (said_ballot m) (said_acceptor m) x.ballot x.batch)) (done p) refl refl
 delivered_down p kind.Accept =
     let m = p.message in
-    same_down p (accepts p.slot m.ballot)
-    (sending (slot_now p (accepting m.ballot m.batch)) 1 (accepted_from m.inst m.ballot m.acceptor)) (done p) refl refl
+    same_down p (accepts p.slot (said_ballot m))
+    (sending (slot_now p (accepting (said_ballot m) (said_batch m))) 1 (accepted_from (said_inst m) (said_ballot m) (said_acceptor m))) (done p) refl refl
 delivered_down p kind.Promise =
     let m = p.message in
     let c = p.coordinator in
-    same_down p (is_heard c m.inst m.ballot m.acceptor)
-    (done (coordinator_now p (with_round c (promise_heard c.round m.acceptor m.accepted m.batch)))) (done p) refl refl
+    same_down p (is_heard c (said_inst m) (said_ballot m) (said_acceptor m))
+    (done (coordinator_now p (with_round c (promise_heard c.round (said_acceptor m) (said_accepted m) (said_batch m))))) (done p) refl refl
 delivered_down p kind.Accepted =
     let m = p.message in
     let c = p.coordinator in
-    let r = counting c.round m.acceptor in
+    let r = counting c.round (said_acceptor m) in
     let l = learns (coordinator_now p (learning c)) c.round.proposal in
     let n = done (coordinator_now p (with_round c r)) in
-    same_down p (is_heard c m.inst m.ballot m.acceptor) (cond (majority p.acceptors r.acceptances) l n) (done p)
+    same_down p (is_heard c (said_inst m) (said_ballot m) (said_acceptor m)) (cond (majority p.acceptors r.acceptances) l n) (done p)
     (same_down p (majority p.acceptors r.acceptances) l n refl refl) refl
 delivered_down p kind.Tell = refl
 delivered_down p kind.Restore =
     let m = p.message in
-    same_down p (takes_restore p.process m.turn m.position)
-    (takes_replay (process_now p (taking p.process m.store m.position m.running))) (done p) refl refl
+    same_down p (takes_restore p.process (said_turn m) (said_position m))
+    (takes_replay (process_now p (taking p.process (said_store m) (said_position m) (said_running m)))) (done p) refl refl
 delivered_down p kind.Follow =
     let m = p.message in
-    same_down p (takes_follow p.process m.store m.tx) (keeps_follow (process_now p (following p.process m.tx))) (done p) refl refl
+    same_down p (takes_follow p.process (said_store m) (said_tx m)) (keeps_follow (process_now p (following p.process (said_tx m)))) (done p) refl refl
 
 -- a flag that is set stays set when another is
 flag_stays : (l : List Bool) (i j : ℕ) → get_or l j false ≡ true → get_or (set l i true) j false ≡ true
@@ -164,7 +164,7 @@ change_down p (Setup n) role id again h = h
 change_down p (Request e to) role id again h = h
 change_down p (Open c i b) role id again h = h
 change_down p (Propose c i b) role id again h = h
-change_down p (Deliver m) role id again h = subst (λ (d : Down). is_down d role id ≡ true) (sym (delivered_down p p.message.kind)) h
+change_down p (Deliver m) role id again h = subst (λ (d : Down). is_down d role id ≡ true) (sym (delivered_down p (said_kind p.message))) h
 change_down p (Tell c q tx) role id again h = h
 change_down p (Restore c q) role id again h = h
 change_down p (Follow c q tx) role id again h = h

@@ -1,3 +1,4 @@
+pub mod Kind
 pub mod Acceptor
 pub mod Batch
 pub mod Change

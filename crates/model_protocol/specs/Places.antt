@@ -7,10 +7,11 @@ use Rattle.model_steps.specs.declared.Step.{Step}
 use Rattle.model_steps.specs.declared.Step.TheVariants.{Setup, Request, Open, Propose, Deliver, Tell, Restore, Follow, Crash, Back}
 use Rattle.model_steps.specs.Limits.{coordinators, instances, messages}
 use Rattle.model_owners.specs.Owners.{owner}
-use Rattle.model_protocol.specs.declared.Kind.{Kind}
-use Rattle.model_protocol.specs.declared.Kind.TheVariants as kind
+use Rattle.model_protocol.specs.Kind.{Kind}
+use Rattle.model_protocol.specs.Kind as kind
 use Rattle.model_protocol.specs.declared.Message.{Message}
 use Rattle.model_protocol.specs.Limits.{slot_places}
+use Rattle.model_protocol.specs.Message.{said_acceptor, said_ballot, said_inst, said_kind, said_to}
 use Rattle.model_protocol.specs.declared.Places.{Places}
 
 -- the message that the step delivers; message 0 if it delivers none
@@ -41,14 +42,14 @@ only_process k = record { coordinator = 0; slot = 0; process = k % process_place
 
 -- where the receiver of the message stands
 abbrev pub delivery_places : Message → Kind → Places
-delivery_places m kind.Request = only_coordinator m.to
-delivery_places m kind.Prepare = only_slot m.acceptor m.inst
-delivery_places m kind.Accept = only_slot m.acceptor m.inst
-delivery_places m kind.Promise = only_owner m.ballot
-delivery_places m kind.Accepted = only_owner m.ballot
-delivery_places m kind.Tell = only_process m.to
-delivery_places m kind.Restore = only_process m.to
-delivery_places m kind.Follow = only_process m.to
+delivery_places m kind.Request = only_coordinator (said_to m)
+delivery_places m kind.Prepare = only_slot (said_acceptor m) (said_inst m)
+delivery_places m kind.Accept = only_slot (said_acceptor m) (said_inst m)
+delivery_places m kind.Promise = only_owner (said_ballot m)
+delivery_places m kind.Accepted = only_owner (said_ballot m)
+delivery_places m kind.Tell = only_process (said_to m)
+delivery_places m kind.Restore = only_process (said_to m)
+delivery_places m kind.Follow = only_process (said_to m)
 
 -- the places of a step; m is the message that it delivers
 unfoldable pub places_of : Step → Message → Places
@@ -56,7 +57,7 @@ places_of (Setup n) m = only_coordinator 0
 places_of (Request e to) m = only_process e.process
 places_of (Open c i b) m = only_coordinator c
 places_of (Propose c i b) m = only_coordinator c
-places_of (Deliver k) m = delivery_places m m.kind
+places_of (Deliver k) m = delivery_places m (said_kind m)
 places_of (Tell c p tx) m = only_coordinator c
 places_of (Restore c p) m = only_coordinator c
 places_of (Follow c p tx) m = only_coordinator c

@@ -5,6 +5,7 @@ use Rattle.log_votes.specs.declared.Outcome.{Outcome}
 use Rattle.model_protocol.specs.declared.Follows.{Follows}
 use Rattle.model_protocol.specs.declared.Message.{Message}
 use Rattle.model_protocol.specs.declared.Process.{Process}
+use Rattle.model_protocol.specs.Message.{said_outcome, said_tx, said_update}
 
 -- the process took a restore, and the last one was of this store
 abbrev pub believes : Process → ℕ → Bool
@@ -39,4 +40,4 @@ following p tx = record { turn = p.turn; heard = p.heard; store = p.store; posit
 
 -- the follows with that of the message
 abbrev pub with_follow : Follows → Message → Follows
-with_follow fs m = record { of = set fs.of m.tx (record { outcome = m.outcome; update = m.update }) }
+with_follow fs m = record { of = set fs.of (said_tx m) (record { outcome = said_outcome m; update = said_update m }) }

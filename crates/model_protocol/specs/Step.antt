@@ -30,7 +30,7 @@ use Rattle.model_protocol.specs.Batch.{entries_of}
 use Rattle.model_protocol.specs.Change.{acceptors_now, coordinator_now, done, down_now, gives_replay, parts, process_now, sending, starts_anew}
 use Rattle.model_protocol.specs.Coordinator.{batch_to_propose, proposing, with_round}
 use Rattle.model_protocol.specs.Deliver.{delivery_change, no_place_for, receiver_down}
-use Rattle.model_protocol.specs.Message.{accept_to, follow_to, prepare_to, request_to, restore_to, tell_to}
+use Rattle.model_protocol.specs.Message.{accept_to, follow_to, prepare_to, request_to, restore_to, said_kind, said_outcome, said_store, tell_to}
 use Rattle.model_protocol.specs.Places.{message_at, places_of}
 use Rattle.model_protocol.specs.Process.{believes, with_follow}
 use Rattle.model_protocol.specs.Send.{copy_of, lacks_numbers, send_to_all}
@@ -108,25 +108,25 @@ step_checks p (Propose c i b) =
     ∷ []
 step_checks p (Deliver m) =
     check not_sent_yet (leb p.sent m)
-    ∷ check party_down (receiver_down p.down p.message p.message.kind)
+    ∷ check party_down (receiver_down p.down p.message (said_kind p.message))
     ∷ check not_met (not_set_up p)
-    ∷ check no_place (no_place_for p p.message.kind)
+    ∷ check no_place (no_place_for p (said_kind p.message))
     ∷ []
 step_checks p (Tell c process tx) =
     check party_down (is_down p.down Coord c || is_down p.down Proc process)
-    ∷ check not_met (not_set_up p || is_open p.message.outcome)
+    ∷ check not_met (not_set_up p || is_open (said_outcome p.message))
     ∷ check no_place (lacks_numbers p.sent 1)
     ∷ []
 step_checks p (Restore c process) =
     check party_down (is_down p.down Coord c || is_down p.down Proc process)
-    ∷ check not_met (not_set_up p || leb stores p.message.store)
+    ∷ check not_met (not_set_up p || leb stores (said_store p.message))
     ∷ check no_place (lacks_numbers p.sent 1)
     ∷ []
 -- "Follow is refused 5 while the transaction runs, where the process is not the holder, or where the
 -- store has no kept commit vote on it." `FollowRefusedExactly` says it of the log
 step_checks p (Follow c process tx) =
     check party_down (is_down p.down Coord c || is_down p.down Proc process)
-    ∷ check not_met (not_set_up p || is_open p.message.outcome || leb stores p.message.store)
+    ∷ check not_met (not_set_up p || is_open (said_outcome p.message) || leb stores (said_store p.message))
     ∷ check no_place (lacks_numbers p.sent 1)
     ∷ []
 step_checks p (Crash role id) = check party_down (is_down p.down role id) ∷ check not_met (not_set_up p) ∷ []
@@ -149,7 +149,7 @@ change_of p (Open c i b) = sending (coordinator_now p (with_round p.coordinator 
 change_of p (Propose c i b) =
     let v = batch_to_propose p.coordinator in
     sending (coordinator_now p (with_round p.coordinator (proposing p.coordinator.round v))) p.acceptors (accept_to i b v 0)
-change_of p (Deliver m) = delivery_change p p.message.kind
+change_of p (Deliver m) = delivery_change p (said_kind p.message)
 change_of p (Tell c process tx) = sending p 1 p.message
 change_of p (Restore c process) = gives_replay p p.message
 change_of p (Follow c process tx) = sending p 1 p.message
@@ -237,7 +237,7 @@ put_back w at r ch =
           w.follows);
       down = ch.parts.down;
       messages = w.messages;
-      replays = cond ch.gives (set w.replays w.sent (replay_of log ch.message.store)) w.replays;
+      replays = cond ch.gives (set w.replays w.sent (replay_of log (said_store ch.message))) w.replays;
       sent = w.sent;
     }
 

@@ -21,52 +21,65 @@ pub struct Batch {
     pub count: usize,
 }
 
+// A message, by its kind.
 #[derive(Clone, Copy)]
-pub enum Kind {
-    // To a coordinator: an entry.
-    Request,
-    // To an acceptor, from the ballot's coordinator.
-    Prepare,
-    Accept,
-    // From an acceptor, to the ballot's coordinator.
-    Promise,
-    Accepted,
-    // To a process, from a coordinator.
-    Tell,
-    Restore,
-    Follow,
-}
-
-// A message. What its kind does not use is 0.
-#[derive(Clone, Copy)]
-pub struct Message {
-    pub kind: Kind,
-    // Of a request the coordinator, of a tell, a restore and a follow the process that it goes to.
-    pub to: u8,
-    // Of a restore: the holder's turn. It stands here, where a byte more costs no room.
-    pub turn: u8,
-    // The acceptor that a prepare or an accept goes to, or that a promise or an acceptance comes
-    // from.
-    pub acceptor: u8,
-    pub inst: u8,
-    pub ballot: u8,
-    // Of a promise: the ballot that the acceptor accepted, 0 if none.
-    pub accepted: u8,
-    // Of a promise: the batch that goes with `accepted`; of an accept: the batch proposed.
-    pub batch: Batch,
-    // Of a request.
-    pub entry: Entry,
-    // Of a tell and a follow.
-    pub tx: u8,
-    pub outcome: Outcome,
-    // Of a restore and a follow.
-    pub store: u8,
-    // Of a restore: the sender's applied count, and the transactions that run with a kept commit
-    // vote of the store, bit t for transaction t. The world has its replay.
-    pub position: u8,
-    pub running: u32,
-    // Of a follow: the update of the store's commit vote, 0 if the transaction was aborted.
-    pub update: Update,
+pub enum Message {
+    // To the coordinator `to`.
+    Request {
+        to: u8,
+        entry: Entry,
+    },
+    // To the acceptor, from the ballot's coordinator.
+    Prepare {
+        inst: u8,
+        ballot: u8,
+        acceptor: u8,
+    },
+    // The same, with the batch proposed.
+    Accept {
+        inst: u8,
+        ballot: u8,
+        acceptor: u8,
+        batch: Batch,
+    },
+    // From the acceptor, to the ballot's coordinator: the ballot that it accepted, 0 if none, and
+    // the batch that goes with it.
+    Promise {
+        inst: u8,
+        ballot: u8,
+        acceptor: u8,
+        accepted: u8,
+        batch: Batch,
+    },
+    // The same way.
+    Accepted {
+        inst: u8,
+        ballot: u8,
+        acceptor: u8,
+    },
+    // To the process `to`, from a coordinator, as the two below.
+    Tell {
+        to: u8,
+        tx: u8,
+        outcome: Outcome,
+    },
+    // The holder's turn, the sender's applied count as position, and the transactions that run with
+    // a kept commit vote of the store, bit t for transaction t. The world has its replay.
+    Restore {
+        to: u8,
+        turn: u8,
+        store: u8,
+        position: u8,
+        running: u32,
+    },
+    // With the update of the store's commit vote, 0 if the transaction was aborted.
+    Follow {
+        to: u8,
+        store: u8,
+        tx: u8,
+        outcome: Outcome,
+        update: Update,
+    },
 }
 
 // What an acceptor holds of an instance, 0 at first.
