@@ -15,8 +15,8 @@ use model_protocol::limits::{
     ACCEPTOR_PLACES, BATCH_PLACES, COORDINATOR_PLACES, MESSAGE_PLACES, QUEUE_PLACES, SLOT_PLACES,
 };
 use model_protocol::{
-    AcceptorSlot, Batch, Coordinator, Down, Followed, Follows, Heard, Kind, Message, Process,
-    Queue, Round, World,
+    AcceptorSlot, Batch, Coordinator, Down, Followed, Follows, Heard, Message, Process, Queue,
+    Round, World,
 };
 
 pub fn no_entry() -> Entry
@@ -35,6 +35,7 @@ pub fn no_entry() -> Entry
     }
 }
 
+#[tactic(auto, unfolding(model_protocol::specs::Batch::no_batch))]
 pub fn no_batch() -> Batch
     ensures { result ≡ no_batch }
 {
@@ -45,6 +46,7 @@ pub fn no_batch() -> Batch
     }
 }
 
+#[tactic(auto, unfolding(model_protocol::specs::Queue::queue_of))]
 pub fn empty_queue() -> Queue
     ensures { result ≡ queue_of [] }
 {
@@ -61,7 +63,7 @@ pub fn new_round(ballot: u8) -> Round
 {
     let none = no_batch();
     Round {
-        ballot: ballot,
+        ballot,
         promises: 0,
         accepted: 0,
         batch: none,
@@ -71,6 +73,7 @@ pub fn new_round(ballot: u8) -> Round
     }
 }
 
+#[tactic(auto, unfolding(model_protocol::specs::World::fresh_coordinator))]
 pub fn fresh_coordinator() -> Coordinator
     ensures { result ≡ fresh_coordinator }
 {
@@ -84,22 +87,9 @@ pub fn fresh_coordinator() -> Coordinator
 pub fn no_message() -> Message
     ensures { result ≡ no_message }
 {
-    Message {
-        kind: Kind::Request,
+    Message::Request {
         to: 0,
-        turn: 0,
-        acceptor: 0,
-        inst: 0,
-        ballot: 0,
-        accepted: 0,
-        batch: no_batch(),
         entry: no_entry(),
-        tx: 0,
-        outcome: Outcome::Open,
-        store: 0,
-        position: 0,
-        running: 0,
-        update: 0,
     }
 }
 
@@ -114,6 +104,7 @@ pub fn empty_slot() -> AcceptorSlot
 }
 
 // A process that starts in this turn.
+#[tactic(auto, unfolding(model_protocol::specs::World::started_in))]
 pub fn started_in(turn: u8) -> Process
     ensures { result ≡ started_in turn }
 {
@@ -121,7 +112,7 @@ pub fn started_in(turn: u8) -> Process
         outcome: Outcome::Open,
     };
     Process {
-        turn: turn,
+        turn,
         heard: [nothing; TRANSACTION_PLACES],
         store: 0,
         position: 0,
@@ -130,6 +121,7 @@ pub fn started_in(turn: u8) -> Process
     }
 }
 
+#[tactic(auto, unfolding(model_protocol::specs::World::no_follows))]
 pub fn no_follows() -> Follows
     ensures { result ≡ no_follows }
 {
@@ -142,6 +134,7 @@ pub fn no_follows() -> Follows
     }
 }
 
+#[tactic(auto, unfolding(model_protocol::specs::World::all_up))]
 fn all_up() -> Down
     ensures { result ≡ all_up }
 {
@@ -152,6 +145,7 @@ fn all_up() -> Down
     }
 }
 
+#[tactic(auto, unfolding(model_protocol::specs::World::fresh_world))]
 pub fn fresh_world() -> World
     ensures { result ≡ fresh_world }
 {
@@ -173,7 +167,7 @@ pub fn fresh_world() -> World
         follows: [follows; PROCESS_PLACES],
         down: all_up(),
         messages: [none; MESSAGE_PLACES],
-        replays: replays,
+        replays,
         sent: 0,
         processes: [process; PROCESS_PLACES],
     }

@@ -4,7 +4,6 @@
 ghost use Rattle.std.specs.Prelude.{◌≡◌};
 ghost use Rattle.model_protocol.specs.Process.{believes, hearing_outcome, taking, takes_follow, takes_restore, with_follow};
 
-use log_entry::limits::TRANSACTIONS;
 use log_entry::sets::has32;
 use log_votes::Outcome;
 use model_protocol::{Followed, Follows, Heard, Message, Process};
@@ -20,10 +19,9 @@ pub fn believes(p: Process, store: u8) -> bool
 pub fn hearing(mut p: Process, tx: u8, outcome: Outcome) -> Process
     ensures { result ≡ hearing_outcome p tx outcome }
 {
-    if TRANSACTIONS <= tx {
-        return p;
+    if let Some(heard) = p.heard.get_mut(usize::from(tx)) {
+        *heard = Heard { outcome };
     }
-    p.heard[tx as usize] = Heard { outcome: outcome };
     p
 }
 
@@ -56,14 +54,18 @@ pub fn takes_follow(p: Process, store: u8, tx: u8) -> bool
 pub fn with_follow(mut follows: Follows, m: Message) -> Follows
     ensures { result ≡ with_follow follows m }
 {
-    let tx = m.tx;
-    if TRANSACTIONS <= tx {
-        return follows;
-    }
-    let outcome = m.outcome;
-    follows.of[tx as usize] = Followed {
-        outcome: outcome,
-        update: m.update,
+    let (tx, outcome, update) = match m {
+        Message::Follow {
+            tx,
+            outcome,
+            update,
+            ..
+        } => (tx, outcome, update),
+        Message::Tell { tx, outcome, .. } => (tx, outcome, 0),
+        _ => (0, Outcome::Open, 0),
     };
+    if let Some(kept) = follows.of.get_mut(usize::from(tx)) {
+        *kept = Followed { outcome, update };
+    }
     follows
 }
