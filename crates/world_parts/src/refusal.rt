@@ -20,6 +20,7 @@ pub struct Tests {
 }
 
 // The answer: the first refusal whose condition holds, 0 if none does.
+#[tactic(auto, unfolding(log_entry::specs::Refusal::first_refusal))]
 pub fn first_of(t: Tests) -> u8
     ensures { result ≡ first_of t }
 {

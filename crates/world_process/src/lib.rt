@@ -2,8 +2,10 @@
 #![tactic(auto)]
 
 ghost use Rattle.std.specs.Prelude.{◌≡◌};
+ghost use Rattle.model_protocol.specs.Message.{said_outcome, said_tx, said_update};
 ghost use Rattle.model_protocol.specs.Process.{believes, hearing_outcome, taking, takes_follow, takes_restore, with_follow};
 
+use log_entry::limits::TRANSACTIONS;
 use log_entry::sets::has32;
 use log_votes::Outcome;
 use model_protocol::{Followed, Follows, Heard, Message, Process};
@@ -19,8 +21,8 @@ pub fn believes(p: Process, store: u8) -> bool
 pub fn hearing(mut p: Process, tx: u8, outcome: Outcome) -> Process
     ensures { result ≡ hearing_outcome p tx outcome }
 {
-    if let Some(heard) = p.heard.get_mut(usize::from(tx)) {
-        *heard = Heard { outcome };
+    if tx < TRANSACTIONS {
+        p.heard[usize::from(tx)] = Heard { outcome };
     }
     p
 }
@@ -50,22 +52,36 @@ pub fn takes_follow(p: Process, store: u8, tx: u8) -> bool
     believes(p, store) & has32(p.running, tx) & !has32(p.followed, tx)
 }
 
-// The follows with that of the message.
-pub fn with_follow(mut follows: Follows, m: Message) -> Follows
-    ensures { result ≡ with_follow follows m }
+// The transaction that a message names, and what it says of it: 0 and open where it says nothing.
+fn said_of(m: Message) -> (u8, Followed)
+    ensures tx { result.0 ≡ said_tx m }
+    ensures said { result.1 ≡ record { outcome = said_outcome m; update = said_update m } }
 {
-    let (tx, outcome, update) = match m {
+    match m {
         Message::Follow {
             tx,
             outcome,
             update,
             ..
-        } => (tx, outcome, update),
-        Message::Tell { tx, outcome, .. } => (tx, outcome, 0),
-        _ => (0, Outcome::Open, 0),
-    };
-    if let Some(kept) = follows.of.get_mut(usize::from(tx)) {
-        *kept = Followed { outcome, update };
+        } => (tx, Followed { outcome, update }),
+        Message::Tell { tx, outcome, .. } => (tx, Followed { outcome, update: 0 }),
+        _ => (
+            0,
+            Followed {
+                outcome: Outcome::Open,
+                update: 0,
+            },
+        ),
+    }
+}
+
+// The follows with that of the message.
+pub fn with_follow(mut follows: Follows, m: Message) -> Follows
+    ensures { result ≡ with_follow follows m }
+{
+    let (tx, said) = said_of(m);
+    if tx < TRANSACTIONS {
+        follows.of[usize::from(tx)] = said;
     }
     follows
 }
