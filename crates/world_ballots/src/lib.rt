@@ -11,11 +11,11 @@ ghost use Rattle.world_parts.specs.Refusal.{first_of, tests};
 ghost use Rattle.world_parts.specs.Plan.{plan_of};
 
 use model_owners::owner;
-use model_protocol::{Change, Coordinator, Down, Parts};
+use model_protocol::{Change, Coordinator, Down, Message, Parts};
 use model_steps::Role;
 use world_coordinator::round;
 use world_fresh::new_round;
-use world_messages::{message, parties, send};
+use world_messages::{parties, send};
 use world_parts::refusal::Tests;
 use world_parts::{changes, refusal};
 
@@ -39,6 +39,7 @@ fn refusal_to(n: u8, sent: u8, d: Down, coord: u8, barred: bool) -> u8
     })
 }
 
+#[tactic(auto, unfolding(world_parts::specs::Plan::plan_of, model_protocol::specs::Step::step_checks, model_protocol::specs::Step::change_of, log_entry::specs::Refusal::first_refusal))]
 pub fn open(mut p: Parts, coord: u8, inst: u8, ballot: u8) -> Change
     ensures { result ≡ plan_of p (Open coord inst ballot) }
 {
@@ -47,10 +48,16 @@ pub fn open(mut p: Parts, coord: u8, inst: u8, ballot: u8) -> Change
     if answer != 0 {
         return changes::without_messages(p, answer);
     }
-    let mut c = p.coordinator;
-    c.round = new_round(ballot);
-    p.coordinator = c;
-    changes::sending(p, p.acceptors, message::prepare_to(inst, ballot, 0))
+    p.coordinator.round = new_round(ballot);
+    changes::sending(
+        p,
+        p.acceptors,
+        Message::Prepare {
+            inst,
+            ballot,
+            acceptor: 0,
+        },
+    )
 }
 
 // Whether coordinator k may not propose.
@@ -65,6 +72,7 @@ fn proposal_barred(n: u8, k: Coordinator, inst: u8, ballot: u8) -> bool
             | ((k.round.accepted == 0) & (k.queue.count == 0)))
 }
 
+#[tactic(auto, unfolding(world_parts::specs::Plan::plan_of, model_protocol::specs::Step::step_checks, model_protocol::specs::Step::change_of, log_entry::specs::Refusal::first_refusal))]
 pub fn propose(mut p: Parts, coord: u8, inst: u8, ballot: u8) -> Change
     ensures { result ≡ plan_of p (Propose coord inst ballot) }
 {
@@ -73,9 +81,13 @@ pub fn propose(mut p: Parts, coord: u8, inst: u8, ballot: u8) -> Change
     if answer != 0 {
         return changes::without_messages(p, answer);
     }
-    let mut c = p.coordinator;
-    let v = round::batch_to_propose(c);
-    c.round = round::proposing(c.round, v);
-    p.coordinator = c;
-    changes::sending(p, p.acceptors, message::accept_to(inst, ballot, v, 0))
+    let batch = round::batch_to_propose(p.coordinator);
+    p.coordinator.round = round::proposing(p.coordinator.round, batch);
+    let accept = Message::Accept {
+        inst,
+        ballot,
+        acceptor: 0,
+        batch,
+    };
+    changes::sending(p, p.acceptors, accept)
 }
