@@ -17,9 +17,8 @@ use Rattle.model_paxos.specs.Messages.{Paxos}
 use Rattle.model_paxos.specs.Rules.{Core}
 use Rattle.model_paxos.proofs.Grow.{AccOk, CoOk}
 use Rattle.model_paxos.proofs.Sets.{few_zero, has_zero, has←, meet}
-use Rattle.model_protocol.specs.declared.Batch.{Batch}
 use Rattle.model_protocol.specs.declared.World.{World}
-use Rattle.model_protocol.specs.Batch.{no_entry}
+use Rattle.model_protocol.specs.Batch.{Batch, no_entry}
 use Rattle.model_protocol.specs.Limits.{slot_places, queue_places}
 use Rattle.log_core.specs.Replay.{no_replay}
 use Rattle.model_protocol.specs.Message.{no_message}

@@ -16,13 +16,12 @@ use Rattle.model_paxos.specs.Rules.{Core}
 use Rattle.model_paxos.proofs.Grow.{AccOk, Attempt, Best, CoOk, Holding, New, NewAll, acc_up, co_up, core_accepted, core_open, core_promise, core_propose, kind, new, new_at}
 use Rattle.model_paxos.proofs.Local.{acc_accepted, acc_promise, co_count, co_hear, co_learn, co_open, co_others, co_propose}
 use Rattle.model_paxos.proofs.Sets.{majority→, with_lt}
-use Rattle.model_protocol.specs.declared.Batch.{Batch}
 use Rattle.model_protocol.specs.declared.AcceptorSlot.{AcceptorSlot}
 use Rattle.model_protocol.specs.declared.Coordinator.{Coordinator}
 use Rattle.model_protocol.specs.declared.Round.{Round}
 use Rattle.model_protocol.specs.declared.World.{World}
-use Rattle.model_protocol.specs.Batch.{no_batch}
-use Rattle.model_protocol.specs.Coordinator.{batch_to_propose, counting, hearing, learning, with_round}
+use Rattle.model_protocol.specs.Batch.{Batch, no_batch}
+use Rattle.model_protocol.specs.Coordinator.{batch_to_propose, counting, hearing, is_proposed, learning, proposal_of, with_round}
 use Rattle.model_protocol.specs.Queue.{first_batch}
 use Rattle.model_protocol.specs.World.{slot_of, coordinator_of, empty_slot, fresh_coordinator}
 use Rattle.model_agreement.specs.Content.{Content, follow, paxos, request, restore, tell}
@@ -120,8 +119,8 @@ attempt r = record {
   promises = r.promises;
   accepted = r.accepted;
   value = r.batch;
-  proposed = r.proposed;
-  proposal = r.proposal;
+  proposed = is_proposed r;
+  proposal = proposal_of r;
   acceptances = r.acceptances;
 }
 

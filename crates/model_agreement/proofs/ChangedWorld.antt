@@ -6,7 +6,6 @@ use Rattle.log_core.specs.declared.Replay.{Replay}
 use Rattle.log_core.specs.Enter.{feed}
 use Rattle.log_core.specs.Replay.{no_replay, replay_of}
 use Rattle.model_steps.specs.Limits.{instances}
-use Rattle.model_protocol.specs.declared.Batch.{Batch}
 use Rattle.model_protocol.specs.declared.AcceptorSlot.{AcceptorSlot}
 use Rattle.model_protocol.specs.declared.Coordinator.{Coordinator}
 use Rattle.model_protocol.specs.declared.Down.{Down}
@@ -15,7 +14,7 @@ use Rattle.model_protocol.specs.declared.Message.{Message}
 use Rattle.model_protocol.specs.declared.Places.{Places}
 use Rattle.model_protocol.specs.declared.Process.{Process}
 use Rattle.model_protocol.specs.declared.World.{World}
-use Rattle.model_protocol.specs.Batch.{entries_of}
+use Rattle.model_protocol.specs.Batch.{Batch, entries_of}
 use Rattle.model_protocol.specs.Change.{acceptors_now, slot_now, coordinator_now, done, down_now, gives_replay, keeps_follow, learns, process_now, sending, starts_anew, takes_replay}
 use Rattle.model_protocol.specs.Message.{accept_to, prepare_to, said_store}
 use Rattle.model_protocol.specs.Process.{with_follow}

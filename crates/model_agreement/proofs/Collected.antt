@@ -7,7 +7,7 @@ use mathlib.Core.List.{List, [], ◌∷◌, Memᴰ}
 use native.Mathlib.Decide.{ℕ_discrete}
 use native.Mathlib.Omega.{arith}
 use Rattle.model_paxos.specs.Messages.{Paxos}
-use Rattle.model_protocol.specs.declared.Batch.{Batch}
+use Rattle.model_protocol.specs.Batch.{Batch}
 use Rattle.model_agreement.specs.Content.{Content, follow, paxos, request, restore, tell}
 use Rattle.model_agreement.proofs.BallotInvariant.{Said, said_at}
 use Rattle.model_agreement.proofs.SentMessages.{Outbox, content_in}

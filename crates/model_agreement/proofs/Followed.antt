@@ -24,7 +24,7 @@ use Rattle.log_laws.proofs.TakenBefore.{took_turn}
 use Rattle.log_laws.proofs.Theorems.{held_before_exactly, kept_vote_stays, outcome_never_changes}
 use Rattle.model_steps.specs.declared.Step.{Step}
 use Rattle.model_protocol.specs.Tables.{follows_taken, left_running, restored_once, steps_of, update_a}
-use Rattle.model_protocol.specs.declared.Batch.{Batch}
+use Rattle.model_protocol.specs.Batch.{Batch}
 use Rattle.model_protocol.specs.declared.World.{World}
 use Rattle.model_protocol.specs.Step.{run}
 use Rattle.model_protocol.specs.World.{coordinator_of, follows_of, fresh_world, log_of, process_of, restored_to}

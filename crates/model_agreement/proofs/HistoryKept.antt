@@ -15,7 +15,7 @@ use Rattle.model_paxos.specs.Majority.{Majority, majority}
 use Rattle.model_paxos.specs.Messages.{Paxos, accept, accepted, prepare, promise}
 use Rattle.model_paxos.proofs.Grow.{New, is_new, kind, new}
 use Rattle.model_paxos.proofs.Sets.{majority←, majority→, with_lt}
-use Rattle.model_protocol.specs.declared.Batch.{Batch}
+use Rattle.model_protocol.specs.Batch.{Batch}
 use Rattle.model_protocol.specs.declared.AcceptorSlot.{AcceptorSlot}
 use Rattle.model_protocol.specs.declared.Coordinator.{Coordinator}
 use Rattle.model_protocol.specs.declared.World.{World}

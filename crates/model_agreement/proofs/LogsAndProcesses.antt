@@ -30,14 +30,12 @@ use Rattle.model_paxos.specs.Rules.{Chosen}
 use Rattle.model_paxos.proofs.Grow.{Best, New, NewAll, chosen_up, kind, new, new_at}
 use Rattle.model_paxos.proofs.Local.{co_count, learns_chosen}
 use Rattle.model_paxos.proofs.Sets.{majority→, with_lt}
-use Rattle.model_protocol.specs.declared.Batch.{Batch}
 use Rattle.model_protocol.specs.declared.Coordinator.{Coordinator}
-use Rattle.model_protocol.specs.declared.Queue.{Queue}
 use Rattle.model_protocol.specs.declared.World.{World}
-use Rattle.model_protocol.specs.Batch.{batch_of, entries_of, no_batch, no_entry}
-use Rattle.model_protocol.specs.Coordinator.{batch_to_propose, counting, learning}
+use Rattle.model_protocol.specs.Batch.{Batch, batch_of, entries_of, no_batch, no_entry}
+use Rattle.model_protocol.specs.Coordinator.{batch_to_propose, counting, learning, proposal_of}
 use Rattle.model_protocol.specs.Limits.{batch_entries, queue_places}
-use Rattle.model_protocol.specs.Queue.{first_batch, left_by, queue_of, queued, without}
+use Rattle.model_protocol.specs.Queue.{Queue, first_batch, left_by, queue_of, queued, without}
 use Rattle.model_protocol.specs.Step.{held_store, update_of, voting_store}
 use Rattle.model_protocol.specs.World.{coordinator_of, fresh_coordinator, log_of}
 use Rattle.model_agreement.specs.Plain.{all_entries, plain_log}
@@ -356,12 +354,12 @@ module _ {w : World} {h : List Event} (s : Shape w) (R : Range w) (I : Inv w) (H
   learned_fact : {h' : List Event} (b a : ℕ) → Later h h'
       → S (accepted (coordinator_of w (owner b)).applied (coordinator_of w (owner b)).round.ballot a)
       → Majority w.acceptors (counting (coordinator_of w (owner b)).round a).acceptances
-      → CoFact w.acceptors h' S (learning (coordinator_of w (owner b))) (feed (log_of w (owner b)) (entries_of (coordinator_of w (owner b)).round.proposal))
+      → CoFact w.acceptors h' S (learning (coordinator_of w (owner b))) (feed (log_of w (owner b)) (entries_of (proposal_of (coordinator_of w (owner b)).round)))
   unfolding learning
   learned_fact b a l r q =
       record {
         fed = rw e (fed_more _ _ (O.cos (owner b)).fed (learns_chosen (co_count (I.co (owner b)) a r) I.core q));
-        queue = λ x t. asked_up l ((O.cos (owner b)).queue x (in_left c.queue c.round.proposal (s.queues (owner b)) t));
+        queue = λ x t. asked_up l ((O.cos (owner b)).queue x (in_left c.queue (proposal_of c.round) (s.queues (owner b)) t));
       }
     where
       c : Coordinator

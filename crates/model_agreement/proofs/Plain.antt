@@ -11,8 +11,7 @@ use Rattle.log_core.specs.declared.Log.{Log}
 use Rattle.log_core.specs.Enter.{enter, feed}
 use Rattle.log_core.specs.Log.{empty_log, holder_of}
 use Rattle.log_laws.specs.Reached.{reached}
-use Rattle.model_protocol.specs.declared.Batch.{Batch}
-use Rattle.model_protocol.specs.Batch.{entries_of}
+use Rattle.model_protocol.specs.Batch.{Batch, entries_of}
 use Rattle.model_protocol.specs.Step.{held_from, held_store}
 use Rattle.model_agreement.specs.Plain.{all_entries, plain_log}
 

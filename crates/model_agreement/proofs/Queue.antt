@@ -9,8 +9,7 @@ use native.Mathlib.Omega.{arith}
 use lib.ListN.{drop, length, length-replicate, replicate, set, take}
 use lib.Seq.{sets, sets-eq, take-append_seam}
 use Rattle.log_entry.specs.declared.Entry.{Entry}
-use Rattle.model_protocol.specs.declared.Queue.{Queue}
-use Rattle.model_protocol.specs.Queue.{is_in, joined, queued, without}
+use Rattle.model_protocol.specs.Queue.{Queue, is_in, joined, queued, without}
 
 -- ---- membership
 

@@ -10,7 +10,7 @@ use Rattle.model_steps.specs.Limits.{ballots}
 use Rattle.model_owners.specs.Owners.{owner}
 use Rattle.model_paxos.proofs.Grow.{New, NewAll, new, new_at}
 use Rattle.model_paxos.proofs.Sets.{with_lt}
-use Rattle.model_protocol.specs.declared.Batch.{Batch}
+use Rattle.model_protocol.specs.Batch.{Batch}
 use Rattle.model_protocol.specs.declared.AcceptorSlot.{AcceptorSlot}
 use Rattle.model_protocol.specs.declared.Coordinator.{Coordinator}
 use Rattle.model_protocol.specs.declared.World.{World}

@@ -11,7 +11,7 @@ use Rattle.model_paxos.specs.Majority.{Majority}
 use Rattle.model_paxos.specs.Messages.{Paxos, accept, accepted, prepare}
 use Rattle.model_paxos.specs.Rules.{Has}
 use Rattle.model_paxos.proofs.Sets.{few_zero, has_with, has_zero, has←, has→, meet, most_mono, with_has, with_keeps}
-use Rattle.model_protocol.specs.declared.Batch.{Batch}
+use Rattle.model_protocol.specs.Batch.{Batch}
 use Rattle.model_agreement.specs.Content.{Content, paxos}
 use Rattle.model_agreement.specs.History.{Accepts, Event, Got, LastOpened, Learns, NoneAbove, Other, Since, before, delivered, first, heard, here, kept, later, learns, opened, opening, without_messages, there}
 

@@ -15,19 +15,17 @@ use Rattle.log_core.specs.Replay.{no_replay}
 use Rattle.model_steps.specs.Limits.{coordinators, instances, messages}
 use Rattle.model_owners.specs.Owners.{owner}
 use Rattle.model_owners.proofs.Owners.{owner_is_coordinator}
-use Rattle.model_protocol.specs.declared.Batch.{Batch}
 use Rattle.model_protocol.specs.declared.AcceptorSlot.{AcceptorSlot}
 use Rattle.model_protocol.specs.declared.Coordinator.{Coordinator}
 use Rattle.model_protocol.specs.declared.Down.{Down}
 use Rattle.model_protocol.specs.declared.Follows.{Follows}
 use Rattle.model_protocol.specs.declared.Heard.{Heard}
 use Rattle.model_protocol.specs.declared.Process.{Process}
-use Rattle.model_protocol.specs.declared.Queue.{Queue}
 use Rattle.model_protocol.specs.declared.World.{World}
-use Rattle.model_protocol.specs.Batch.{entries_of, no_entry}
-use Rattle.model_protocol.specs.Coordinator.{learning}
+use Rattle.model_protocol.specs.Batch.{Batch, entries_of, no_entry}
+use Rattle.model_protocol.specs.Coordinator.{learning, proposal_of}
 use Rattle.model_protocol.specs.Limits.{slot_places, queue_places}
-use Rattle.model_protocol.specs.Queue.{is_full, joined, left_by, queue_of, queued, without}
+use Rattle.model_protocol.specs.Queue.{Queue, is_full, joined, left_by, queue_of, queued, without}
 use Rattle.model_protocol.specs.World.{coordinator_of, follows_of, fresh_coordinator, fresh_process, no_followed, no_follows, process_of, started_in}
 use Rattle.model_agreement.specs.Content.{Content}
 use Rattle.model_agreement.specs.History.{Event}
@@ -248,7 +246,7 @@ module _ {w : World} (s : Shape w) where
   shape_move (hears j i b a d v d' v' _ _ _ _) = co_changes (owner b) _ _ _ none_sent (s.queues (owner b))
   shape_move (passes_promise j i b a d v _) = s
   shape_move (counts j i b a _ _ _ _) = co_changes (owner b) _ _ _ none_sent (s.queues (owner b))
-  shape_move (learns j i b a _ _ _ _) = co_learns (owner b) _ (coordinator_of w (owner b)).round.proposal (left_ok _ _ (s.queues (owner b)))
+  shape_move (learns j i b a _ _ _ _) = co_learns (owner b) _ (proposal_of (coordinator_of w (owner b)).round) (left_ok _ _ (s.queues (owner b)))
   shape_move (passes_accepted j i b a _ _) = s
   shape_move (joins j k e _ f) = co_changes k _ _ _ none_sent (joins_ok k e f)
   shape_move (passes_request j k e _) = s

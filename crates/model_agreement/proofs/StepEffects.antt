@@ -27,7 +27,7 @@ use Rattle.model_steps.specs.Limits.{ballots, coordinators, instances, messages,
 use Rattle.model_owners.specs.Owners.{owner}
 use Rattle.model_paxos.specs.Majority.{majority}
 use Rattle.model_paxos.specs.Messages.{accept, accepted, prepare, promise}
-use Rattle.model_protocol.specs.declared.Batch.{Batch}
+use Rattle.model_protocol.specs.Batch.{Batch}
 use Rattle.model_protocol.specs.declared.AcceptorSlot.{AcceptorSlot}
 use Rattle.model_protocol.specs.declared.Change.{Change}
 use Rattle.model_protocol.specs.declared.Coordinator.{Coordinator}
@@ -37,19 +37,18 @@ use Rattle.model_protocol.specs.Kind as kind
 use Rattle.model_protocol.specs.declared.Message.{Message}
 use Rattle.model_protocol.specs.declared.Parts.{Parts}
 use Rattle.model_protocol.specs.declared.Places.{Places}
-use Rattle.model_protocol.specs.declared.Queue.{Queue}
 use Rattle.model_protocol.specs.declared.Round.{Round}
 use Rattle.model_protocol.specs.declared.World.{World}
 use Rattle.model_protocol.specs.Acceptor as acceptor
 use Rattle.model_protocol.specs.Acceptor.{accepting, promising}
-use Rattle.model_protocol.specs.Coordinator.{batch_to_propose, counting, hearing, is_current, is_heard, learning, promise_heard, proposing, with_queue, with_round}
+use Rattle.model_protocol.specs.Coordinator.{batch_to_propose, counting, hearing, is_current, is_heard, is_proposed, learning, promise_heard, proposal_of, proposing, with_queue, with_round}
 use Rattle.model_protocol.specs.Change.{coordinator_now, done}
 use Rattle.model_protocol.specs.Deliver.{delivery_change, no_place_for}
 use Rattle.model_protocol.specs.Limits.{slot_places}
 use Rattle.model_protocol.specs.Message.{accept_to, accepted_from, follow_to, prepare_to, promise_from, request_to, restore_to, said_accepted, said_acceptor, said_ballot, said_batch, said_entry, said_inst, said_kind, said_outcome, said_position, said_running, said_store, said_to, said_turn, said_tx, said_update, tell_to}
 use Rattle.model_protocol.specs.Places.{delivery_places, places_of}
 use Rattle.model_protocol.specs.Process.{following, hearing_outcome, taking, takes_follow, takes_restore}
-use Rattle.model_protocol.specs.Queue.{is_full, is_in, joined, joining, queued}
+use Rattle.model_protocol.specs.Queue.{Queue, is_full, is_in, joined, joining, queued}
 use Rattle.model_protocol.specs.Send.{lacks_numbers}
 use Rattle.model_protocol.specs.Step.{acceptors_counted, cannot_open, cannot_propose, changed, change_of, held_store, message_for, message_in, parts_at, parts_of, places_in, replay_in, step_checks, step_of, step_refusal, other_turn, update_of, voter_not_holder, voting_store}
 use Rattle.model_protocol.specs.World.{slot_of, coordinator_of, crashed, follows_of, log_of, message_of, new_round, process_of, replay_with, started_in, up_again}
@@ -81,7 +80,7 @@ pub data Move (w : World) (h : List Event) : World → List Event → Type 0 whe
       → i ≡ (coordinator_of w k).applied
       → b ≡ (coordinator_of w k).round.ballot
       → 0 < b
-      → (coordinator_of w k).round.proposed ≡ false
+      → is_proposed (coordinator_of w k).round ≡ false
       → T (majority w.acceptors (coordinator_of w k).round.promises)
       → T (not (eqb (coordinator_of w k).round.accepted 0 && eqb (coordinator_of w k).queue.count 0))
       → v ≡ batch_to_propose (coordinator_of w k)
@@ -148,7 +147,7 @@ pub data Move (w : World) (h : List Event) : World → List Event → Type 0 whe
       → i ≡ (coordinator_of w (owner b)).applied
       → b ≡ (coordinator_of w (owner b)).round.ballot
       → T (majority w.acceptors (counting (coordinator_of w (owner b)).round a).acceptances)
-      → Move w h (with_learned w (owner b) (learning (coordinator_of w (owner b))) (coordinator_of w (owner b)).round.proposal)
+      → Move w h (with_learned w (owner b) (learning (coordinator_of w (owner b))) (proposal_of (coordinator_of w (owner b)).round))
       (delivered j (paxos (accepted i b a)) ∷ h)
   passes_accepted : (j i b a : ℕ) → At (outbox_of w) w.sent j (paxos (accepted i b a))
       → (a < most_acceptors → i ≡ (coordinator_of w (owner b)).applied → b ≡ (coordinator_of w (owner b)).round.ballot → ⊥)
@@ -283,7 +282,7 @@ module _ (w : World) (h : List Event) (room : Roomy (outbox_of w)) (few : w.acce
         let e = eqb→eq i c.applied g.0 in
         let e' = eqb→eq b c.round.ballot g.1 in
         move_by (λ (ch : Change). changed w at y ch) (majority w.acceptors r.acceptances)
-        (λ q. to_world (coordinator_learns w at y m (learning c) c.round.proposal) (learns j i b a s e e' q))
+        (λ q. to_world (coordinator_learns w at y m (learning c) (proposal_of c.round)) (learns j i b a s e e' q))
         (λ q. to_world (coordinator_changed w at y m (with_round c r)) (counts j i b a s e e' q)))
         (λ f. to_world (nothing w at y m) (passes_accepted j i b a s (λ l d e. T_not (is_heard c i b a) f (current l d e))))
       where
@@ -424,7 +423,7 @@ module _ (w : World) (h : List Event) (room : Roomy (outbox_of w)) (few : w.acce
         (not (eqb i c.applied))
         (not (eqb b c.round.ballot))
         (not (majority w.acceptors c.round.promises))
-        c.round.proposed
+        (is_proposed c.round)
         (eqb c.round.accepted 0 && eqb c.queue.count 0)
         m.1 in
         let n = live m.0 in
@@ -437,7 +436,7 @@ module _ (w : World) (h : List Event) (room : Roomy (outbox_of w)) (few : w.acce
         (eqb→eq i c.applied (not_not (eqb i c.applied) q.0))
         (eqb→eq b c.round.ballot (not_not (eqb b c.round.ballot) q.1))
         (omega arith)
-        (is_false c.round.proposed q.3)
+        (is_false (is_proposed c.round) q.3)
         (not_not (majority w.acceptors c.round.promises) q.2)
         q.4
         refl

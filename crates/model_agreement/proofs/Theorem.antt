@@ -30,9 +30,8 @@ use Rattle.model_paxos.specs.Messages.{Paxos, accept}
 use Rattle.model_paxos.specs.Rules.{Chosen, Has}
 use Rattle.model_paxos.proofs.Sequence.{all_below, chosen_front, chosen_in, chosen_is, prefix, seq_chosen, seq_from}
 use Rattle.model_paxos.proofs.Sets.{has←, has→, meet}
-use Rattle.model_protocol.specs.declared.Batch.{Batch}
 use Rattle.model_protocol.specs.declared.World.{World}
-use Rattle.model_protocol.specs.Batch.{entries_of, no_batch}
+use Rattle.model_protocol.specs.Batch.{Batch, entries_of, no_batch}
 use Rattle.model_protocol.specs.Step.{run}
 use Rattle.model_protocol.specs.World.{coordinator_of, fresh_world, log_of}
 use Rattle.model_agreement.specs.Claim.{Demand3, IsSequence, RestoredWell, batch_at, kept_of}

@@ -5,7 +5,7 @@ use Rattle.log_entry.specs.Limits.{processes, stores, transactions}
 use Rattle.model_steps.specs.declared.Step.{Step}
 use Rattle.model_steps.specs.Limits.{ballots, coordinators, instances, messages, most_acceptors}
 use Rattle.model_paxos.specs.Messages.{accept, accepted, prepare, promise}
-use Rattle.model_protocol.specs.declared.Batch.{Batch}
+use Rattle.model_protocol.specs.Batch.{Batch}
 use Rattle.model_protocol.specs.declared.AcceptorSlot.{AcceptorSlot}
 use Rattle.model_protocol.specs.declared.Coordinator.{Coordinator}
 use Rattle.model_protocol.specs.declared.World.{World}

@@ -10,11 +10,10 @@ use Rattle.log_core.specs.Follow.{awaited_of}
 use Rattle.log_core.specs.Log.{holder_of, outcome_of, turn_of}
 use Rattle.log_core.specs.Replay.{replay_of}
 use Rattle.model_steps.specs.declared.Step.{Step}
-use Rattle.model_protocol.specs.declared.Batch.{Batch}
 use Rattle.model_protocol.specs.declared.Follows.{Follows}
 use Rattle.model_protocol.specs.declared.Process.{Process}
 use Rattle.model_protocol.specs.declared.World.{World}
-use Rattle.model_protocol.specs.Batch.{entries_of, no_batch}
+use Rattle.model_protocol.specs.Batch.{Batch, entries_of, no_batch}
 use Rattle.model_protocol.specs.Step.{run}
 use Rattle.model_protocol.specs.World.{coordinator_of, follows_of, fresh_world, log_of, no_followed, process_of, restored_to}
 use Rattle.model_agreement.specs.Content.{restore, tell}

@@ -4,7 +4,7 @@ use Rattle.log_entry.specs.declared.Entry.{Entry}
 use Rattle.log_votes.specs.declared.Outcome.{Outcome}
 use Rattle.log_core.specs.declared.Replay.{Replay}
 use Rattle.model_paxos.specs.Messages.{Paxos, accept, accepted, prepare, promise}
-use Rattle.model_protocol.specs.declared.Batch.{Batch}
+use Rattle.model_protocol.specs.Batch.{Batch}
 use Rattle.model_protocol.specs.Kind.{Kind, Request, Prepare, Accept, Promise, Accepted, Tell, Restore, Follow}
 use Rattle.model_protocol.specs.Message.{said_accepted, said_acceptor, said_ballot, said_batch, said_entry, said_inst, said_kind, said_outcome, said_position, said_running, said_store, said_to, said_turn, said_tx, said_update}
 use Rattle.model_protocol.specs.declared.Message.{Message}

@@ -13,7 +13,7 @@ use Rattle.model_steps.specs.declared.Step.TheVariants as step
 use Rattle.model_steps.specs.declared.Step.TheVariants.{Setup, Request, Open, Propose, Deliver, Tell, Restore, Crash, Back}
 use Rattle.model_paxos.specs.Majority.{Majority}
 use Rattle.model_paxos.specs.Messages.{accept, accepted, prepare}
-use Rattle.model_protocol.specs.declared.Batch.{Batch}
+use Rattle.model_protocol.specs.Batch.{Batch}
 use Rattle.model_protocol.specs.declared.World.{World}
 use Rattle.log_core.specs.Replay.{no_replay}
 use Rattle.model_protocol.specs.Step.{step_of}

@@ -4,8 +4,7 @@ use Rattle.log_entry.specs.declared.Entry.{Entry}
 use Rattle.log_core.specs.declared.Log.{Log}
 use Rattle.log_core.specs.Enter.{feed}
 use Rattle.log_core.specs.Log.{empty_log}
-use Rattle.model_protocol.specs.declared.Batch.{Batch}
-use Rattle.model_protocol.specs.Batch.{entries_of}
+use Rattle.model_protocol.specs.Batch.{Batch, entries_of}
 
 abbrev pub all_entries : List Batch → List Entry
 all_entries [] = []

@@ -12,7 +12,7 @@ use Rattle.log_core.specs.Log.{outcome_of, vote_at}
 use Rattle.log_laws.specs.Conditions.{Took}
 use Rattle.log_laws.specs.TakenOver.{CommittedUpdate, RowIn}
 use Rattle.log_laws.specs.Votes.{KeptCommit}
-use Rattle.model_protocol.specs.declared.Batch.{Batch}
+use Rattle.model_protocol.specs.Batch.{Batch}
 use Rattle.model_protocol.specs.Step.{update_of}
 use Rattle.model_agreement.specs.Content.{follow, restore}
 use Rattle.model_agreement.specs.History.{Event, Follow, Got, Restored, is_followed, restored_of}

@@ -15,14 +15,14 @@ use Rattle.model_steps.specs.Limits.{ballots, coordinators, instances, messages,
 use Rattle.model_owners.specs.Owners.{owner}
 use Rattle.model_paxos.specs.Majority.{majority}
 use Rattle.model_protocol.specs.declared.AcceptorSlot.{AcceptorSlot}
-use Rattle.model_protocol.specs.declared.Batch.{Batch}
+use Rattle.model_protocol.specs.Batch.{Batch}
 use Rattle.model_protocol.specs.declared.Coordinator.{Coordinator}
 use Rattle.model_protocol.specs.Kind.{Accept, Accepted, Prepare, Promise}
 use Rattle.model_protocol.specs.declared.Message.{Message}
 use Rattle.model_protocol.specs.declared.Parts.{Parts}
 use Rattle.model_protocol.specs.declared.World.{World}
 use Rattle.model_protocol.specs.Acceptor.{accepting, accepts, promises, promising}
-use Rattle.model_protocol.specs.Coordinator.{batch_to_propose, counting, is_heard, learning, promise_heard, proposing, with_round}
+use Rattle.model_protocol.specs.Coordinator.{batch_to_propose, counting, is_heard, is_proposed, learning, promise_heard, proposal_of, proposing, with_round}
 use Rattle.model_protocol.specs.Deliver.{delivery_change, no_place_for, receiver_down}
 use Rattle.model_protocol.specs.Limits.{slot_places}
 use Rattle.model_protocol.specs.Message.{accept_to, accepted_from, prepare_to, promise_from, said_kind}
@@ -75,7 +75,7 @@ open_passes p c i b r up live current own above room =
 
 propose_passes : (p : Parts) (c i b : ℕ) → InRange c i b → is_down p.down Coord c ≡ false → 0 < p.acceptors → p.coordinator.applied ≡ i
     → p.coordinator.round.ballot ≡ b → majority p.acceptors p.coordinator.round.promises ≡ true
-    → p.coordinator.round.proposed ≡ false → 0 < p.coordinator.queue.count → p.sent + p.acceptors ≤ messages
+    → is_proposed p.coordinator.round ≡ false → 0 < p.coordinator.queue.count → p.sent + p.acceptors ≤ messages
     → step_refusal p (Propose c i b) ≡ accepted
 unfolding step_refusal first_refusal step_checks outside_step
 propose_passes p c i b r up live current opened heard fresh queued room =
@@ -116,7 +116,7 @@ module _ (w : World) (c i b : ℕ) (r : InRange c i b) (up : is_down w.down Coor
       ∙ ap (λ (k : ℕ). send_to_all (with_coordinator w k (with_round (coordinator_of w k) (new_round b))) w.acceptors (prepare_to i b)) place)
 
   pub propose_goes : (coordinator_of w c).round.ballot ≡ b → majority w.acceptors (coordinator_of w c).round.promises ≡ true
-      → (coordinator_of w c).round.proposed ≡ false → 0 < (coordinator_of w c).queue.count
+      → is_proposed (coordinator_of w c).round ≡ false → 0 < (coordinator_of w c).queue.count
       → step_of w (Propose c i b)
       ≡ answered
       (send_to_all
@@ -222,9 +222,9 @@ module _ (w : World) (j : ℕ) (sent : j < w.sent) (most : w.sent ≤ messages) 
 
     learned : (r : Replay) → majority w.acceptors (counting its.round a).acceptances ≡ true
         → changed w (only_owner b) r (delivery_change (parts_at w (only_owner b) (accepted_from i b a)) Accepted)
-        ≡ with_learned w (owner b) (learning its) its.round.proposal
+        ≡ with_learned w (owner b) (learning its) (proposal_of its.round)
     unfolding delivery_change
-    learned r most' = rw (is_heard_lem, most') (coordinator_learns w (only_owner b) r (accepted_from i b a) (learning its) its.round.proposal)
+    learned r most' = rw (is_heard_lem, most') (coordinator_learns w (only_owner b) r (accepted_from i b a) (learning its) (proposal_of its.round))
 
     pub accepted_counts : message_of w j ≡ accepted_from i b a → majority w.acceptors (counting its.round a).acceptances ≡ false
         → step_of w (Deliver j) ≡ answered (with_coordinator w (owner b) (with_round its (counting its.round a))) accepted
@@ -232,6 +232,6 @@ module _ (w : World) (j : ℕ) (sent : j < w.sent) (most : w.sent ≤ messages) 
         deliver_goes (accepted_from i b a) e up refl ∙ ap (λ (u : World). answered u accepted) (counted (replay_with w (j % messages)) few)
 
     pub accepted_learns : message_of w j ≡ accepted_from i b a → majority w.acceptors (counting its.round a).acceptances ≡ true
-        → step_of w (Deliver j) ≡ answered (with_learned w (owner b) (learning its) its.round.proposal) accepted
+        → step_of w (Deliver j) ≡ answered (with_learned w (owner b) (learning its) (proposal_of its.round)) accepted
     accepted_learns e enough =
         deliver_goes (accepted_from i b a) e up refl ∙ ap (λ (u : World). answered u accepted) (learned (replay_with w (j % messages)) enough)

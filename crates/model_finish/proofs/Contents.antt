@@ -6,7 +6,7 @@ use mathlib.Core.Logic.{◌≢◌}
 use mathlib.Core.Path.{◌≡◌, refl, sym}
 use Rattle.model_paxos.specs.Messages as message
 use Rattle.model_paxos.specs.Messages.{accept, prepare, promise}
-use Rattle.model_protocol.specs.declared.Batch.{Batch}
+use Rattle.model_protocol.specs.Batch.{Batch}
 use Rattle.model_protocol.specs.declared.World.{World}
 use Rattle.model_agreement.specs.Content.{Content, paxos}
 use Rattle.model_agreement.specs.History.{Accepts, Event, delivered, first, later, opened}

@@ -11,7 +11,7 @@ use Rattle.log_entry.specs.Entry.{take_entry}
 use Rattle.model_steps.specs.declared.Step.{Step}
 use Rattle.model_steps.specs.declared.Step.TheVariants.{Deliver, Request}
 use Rattle.model_paxos.proofs.Sets.{has←, meet}
-use Rattle.model_protocol.specs.declared.Batch.{Batch}
+use Rattle.model_protocol.specs.Batch.{Batch}
 use Rattle.model_protocol.specs.declared.World.{World}
 use Rattle.model_protocol.specs.Step.{run}
 use Rattle.model_protocol.specs.World.{fresh_world}

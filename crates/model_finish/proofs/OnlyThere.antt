@@ -8,11 +8,10 @@ use Rattle.log_core.specs.Enter.{feed}
 use Rattle.log_core.specs.Log.{empty_log}
 use Rattle.model_steps.specs.Limits.{instances}
 use Rattle.model_protocol.specs.declared.AcceptorSlot.{AcceptorSlot}
-use Rattle.model_protocol.specs.declared.Batch.{Batch}
 use Rattle.model_protocol.specs.declared.Coordinator.{Coordinator}
 use Rattle.model_protocol.specs.declared.Message.{Message}
 use Rattle.model_protocol.specs.declared.World.{World}
-use Rattle.model_protocol.specs.Batch.{entries_of}
+use Rattle.model_protocol.specs.Batch.{Batch, entries_of}
 use Rattle.model_protocol.specs.Message.{no_message}
 use Rattle.model_protocol.specs.World.{empty_slot, fresh_coordinator, log_of, message_of, with_message}
 use Rattle.model_agreement.proofs.ChangedWorld.{with_coordinator, with_learned, with_slot}

@@ -18,15 +18,15 @@ use Rattle.model_steps.specs.Limits.{instances, messages, most_acceptors}
 use Rattle.model_owners.specs.Owners.{owner}
 use Rattle.model_paxos.specs.Majority.{majority}
 use Rattle.model_protocol.specs.declared.AcceptorSlot.{AcceptorSlot}
-use Rattle.model_protocol.specs.declared.Batch.{Batch}
+use Rattle.model_protocol.specs.Batch.{Batch}
 use Rattle.model_protocol.specs.declared.Coordinator.{Coordinator}
 use Rattle.model_protocol.specs.declared.Down.{Down}
 use Rattle.model_protocol.specs.declared.Message.{Message}
-use Rattle.model_protocol.specs.declared.Queue.{Queue}
+use Rattle.model_protocol.specs.Queue.{Queue}
 use Rattle.model_protocol.specs.declared.Round.{Round}
 use Rattle.model_protocol.specs.declared.World.{World}
 use Rattle.model_protocol.specs.Acceptor.{accepting, promising}
-use Rattle.model_protocol.specs.Coordinator.{batch_to_propose, counting, learning, promise_heard, proposing, with_round}
+use Rattle.model_protocol.specs.Coordinator.{batch_to_propose, counting, is_proposed, learning, promise_heard, proposal_of, proposing, with_round}
 use Rattle.model_protocol.specs.Message.{accept_to, accepted_from, no_message, prepare_to, promise_from}
 use Rattle.model_protocol.specs.Step.{answered}
 use Rattle.model_protocol.specs.World.{coordinator_of, empty_slot, fresh_coordinator, is_down, message_of, new_round, replay_with, slot_of, with_message}
@@ -112,7 +112,7 @@ module _ (w₀ : World) (h₀ : List Event) (b : ℕ) where
     pub at_ballot : AtBallot (coordinator_of w c)
     pub queue : (coordinator_of w c).queue ≡ (coordinator_of w₀ c).queue
     pub highest : HighestOf k (coordinator_of w c).round
-    pub not_proposed : (coordinator_of w c).round.proposed ≡ false
+    pub not_proposed : is_proposed (coordinator_of w c).round ≡ false
     pub none_counted : (coordinator_of w c).round.acceptances ≡ 0
     pub counted : Counted u n (coordinator_of w c).round.promises k
     pub promises : (j : ℕ) → j < m → message_of w (s + n + j) ≡ promise_of j
@@ -299,7 +299,7 @@ module _ (w₀ : World) (h₀ : List Event) (b : ℕ) where
       at_ballot = subst AtBallot (sym p.coordinator) (record { applied = refl; ballot = refl });
       queue = ap (λ (x : Coordinator). x.queue) p.coordinator;
       highest = subst (λ (x : Coordinator). HighestOf 0 x.round) (sym p.coordinator) (highest_none (new_round b) refl);
-      not_proposed = ap (λ (x : Coordinator). x.round.proposed) p.coordinator;
+      not_proposed = ap (λ (x : Coordinator). is_proposed x.round) p.coordinator;
       none_counted = ap (λ (x : Coordinator). x.round.acceptances) p.coordinator;
       counted = subst (λ (x : Coordinator). Counted u n x.round.promises 0) (sym p.coordinator) (none_yet u n);
       promises = p.promises;
@@ -320,7 +320,7 @@ module _ (w₀ : World) (h₀ : List Event) (b : ℕ) where
           highest =
               subst (λ (z : Coordinator). HighestOf (suc k) z.round) here
               (highest_on k its.round (u k) p.highest);
-          not_proposed = subst (λ (z : Coordinator). z.round.proposed ≡ false) here (a.proposed ∙ p.not_proposed);
+          not_proposed = subst (λ (z : Coordinator). is_proposed z.round ≡ false) here (a.proposed ∙ p.not_proposed);
           none_counted = subst (λ (z : Coordinator). z.round.acceptances ≡ 0) here (a.acceptances ∙ p.none_counted);
           counted =
               subst (λ (z : Coordinator). Counted u n z.round.promises (suc k)) here
@@ -507,11 +507,11 @@ module _ (w₀ : World) (h₀ : List Event) (b : ℕ) where
       -- it is, and the batch is applied
       learns_now : suc k ≡ m → Goes w h (Deliver (accepted_number w₀ k)) (Learning v (suc k))
       learns_now full =
-          goes_to (Learning v (suc k)) w h (Deliver (accepted_number w₀ k)) (with_learned w c (learning its) its.round.proposal) good_now
+          goes_to (Learning v (suc k)) w h (Deliver (accepted_number w₀ k)) (with_learned w c (learning its) (proposal_of its.round)) good_now
           (accepted_learns w (accepted_number w₀ k) earlier most (live_in p.frame) i b (u k) (is_acceptor k l) (co_up p.frame) at.applied at.ballot is
           (by_majority true (enough u n counts.round.acceptances all_counted)))
           (λ good. record {
-            frame = frame_on p.frame (only_learned c i w (learning its) its.round.proposal) good;
+            frame = frame_on p.frame (only_learned c i w (learning its) (proposal_of its.round)) good;
             told = more_told w (accepted_number w₀ k) (accepted_from i b (u k)) p.told is;
             sent = p.sent;
             acceptances = p.acceptances;

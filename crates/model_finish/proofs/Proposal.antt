@@ -7,11 +7,10 @@ use mathlib.Core.Path.{◌≡◌, refl, subst, sym}
 use borrow.Author.Tests.{eqb-false, eqb-true}
 use lib.Dec.{eqb}
 use Rattle.model_protocol.specs.declared.Coordinator.{Coordinator}
-use Rattle.model_protocol.specs.declared.Queue.{Queue}
 use Rattle.model_protocol.specs.declared.Round.{Round}
 use Rattle.model_protocol.specs.declared.World.{World}
 use Rattle.model_protocol.specs.Coordinator.{batch_to_propose}
-use Rattle.model_protocol.specs.Queue.{first_batch}
+use Rattle.model_protocol.specs.Queue.{Queue, first_batch}
 use Rattle.model_protocol.specs.World.{coordinator_of}
 use Rattle.model_finish.specs.Closing.{answering}
 use Rattle.model_finish.specs.Delivered.{Proposed, adopted, held_by, own}

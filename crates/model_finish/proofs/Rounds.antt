@@ -10,16 +10,16 @@ use borrow.Author.Tests.{ltb-false, ltb-true}
 use lib.Dec.{ltb}
 use Rattle.log_entry.specs.Bits.{with}
 use Rattle.model_steps.specs.Limits.{instances}
-use Rattle.model_protocol.specs.declared.Batch.{Batch}
+use Rattle.model_protocol.specs.Batch.{Batch}
 use Rattle.model_protocol.specs.declared.Coordinator.{Coordinator}
 use Rattle.model_protocol.specs.declared.Round.{Round}
-use Rattle.model_protocol.specs.Coordinator.{hearing, learning, promise_heard}
+use Rattle.model_protocol.specs.Coordinator.{hearing, is_proposed, learning, promise_heard}
 
 -- what a round keeps when a promise of a is heard
 pub record AfterPromise (r : Round) (a : ℕ) (q : Round) : Type 0 where
   pub ballot : q.ballot ≡ r.ballot
   pub promises : q.promises ≡ with r.promises a
-  pub proposed : q.proposed ≡ r.proposed
+  pub proposed : is_proposed q ≡ is_proposed r
   pub acceptances : q.acceptances ≡ r.acceptances
 
 pub after_promise : (r : Round) (a d : ℕ) (v : Batch) → AfterPromise r a (promise_heard r a d v)

@@ -12,9 +12,8 @@ use Rattle.model_paxos.proofs.Sets.{has→}
 use Rattle.model_steps.specs.declared.Step.{Step}
 use Rattle.model_steps.specs.declared.Step.TheVariants.{Deliver}
 use Rattle.model_owners.specs.Owners.{owner}
-use Rattle.model_protocol.specs.declared.Batch.{Batch}
 use Rattle.model_protocol.specs.declared.World.{World}
-use Rattle.model_protocol.specs.Batch.{no_batch}
+use Rattle.model_protocol.specs.Batch.{Batch, no_batch}
 use Rattle.model_protocol.specs.Step.{run, step_of}
 use Rattle.model_protocol.specs.World.{fresh_world}
 use Rattle.model_agreement.specs.Claim.{Claim, IsSequence, batch_at}

@@ -5,7 +5,7 @@ use Rattle.model_steps.specs.declared.Step.{Step}
 use Rattle.model_steps.specs.Limits.{ballots, instances}
 use Rattle.model_owners.specs.Owners.{owner}
 use Rattle.model_paxos.specs.Messages.{accept, prepare}
-use Rattle.model_protocol.specs.declared.Batch.{Batch}
+use Rattle.model_protocol.specs.Batch.{Batch}
 use Rattle.model_protocol.specs.Step.{run}
 use Rattle.model_protocol.specs.World.{fresh_world}
 use Rattle.model_agreement.specs.Content.{paxos}

@@ -4,7 +4,7 @@ use Rattle.log_entry.specs.Refusal.{accepted}
 use Rattle.model_steps.specs.declared.Role.TheVariants.{Acceptor}
 use Rattle.model_steps.specs.declared.Step.{Step}
 use Rattle.model_steps.specs.Limits.{instances}
-use Rattle.model_protocol.specs.declared.Batch.{Batch}
+use Rattle.model_protocol.specs.Batch.{Batch}
 use Rattle.model_protocol.specs.declared.World.{World}
 use Rattle.model_protocol.specs.Step.{run, step_of}
 use Rattle.model_protocol.specs.World.{coordinator_of, fresh_world, is_down, log_of, message_of, slot_of}

@@ -32,7 +32,7 @@ use Rattle.model_protocol.specs.declared.World.{World}
 use Rattle.model_paxos.specs.Majority.{majority}
 use Rattle.model_protocol.specs.Acceptor.{accepting, accepts, promises, promising}
 use Rattle.model_protocol.specs.Change.{coordinator_now, done, keeps_follow, learns, process_now, sending, slot_now, takes_replay}
-use Rattle.model_protocol.specs.Coordinator.{counting, is_heard, learning, promise_heard, with_round}
+use Rattle.model_protocol.specs.Coordinator.{counting, is_heard, learning, promise_heard, proposal_of, with_round}
 use Rattle.model_protocol.specs.Deliver.{delivery_change}
 use Rattle.model_protocol.specs.Message.{accepted_from, promise_from, said_accepted, said_acceptor, said_ballot, said_batch, said_inst, said_kind, said_position, said_running, said_store, said_turn, said_tx}
 use Rattle.model_protocol.specs.Process.{following, taking, takes_follow, takes_restore}
@@ -119,7 +119,7 @@ delivered_down p kind.Accepted =
     let m = p.message in
     let c = p.coordinator in
     let r = counting c.round (said_acceptor m) in
-    let l = learns (coordinator_now p (learning c)) c.round.proposal in
+    let l = learns (coordinator_now p (learning c)) (proposal_of c.round) in
     let n = done (coordinator_now p (with_round c r)) in
     same_down p (is_heard c (said_inst m) (said_ballot m) (said_acceptor m)) (cond (majority p.acceptors r.acceptances) l n) (done p)
     (same_down p (majority p.acceptors r.acceptances) l n refl refl) refl

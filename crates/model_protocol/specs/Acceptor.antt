@@ -1,6 +1,6 @@
 -- Document 01, "Acceptors".
 use Rattle.std.specs.Prelude.{ℕ, Bool, leb, ltb}
-use Rattle.model_protocol.specs.declared.Batch.{Batch}
+use Rattle.model_protocol.specs.Batch.{Batch}
 use Rattle.model_protocol.specs.declared.AcceptorSlot.{AcceptorSlot}
 
 -- "if b is above the promised ballot": whether a prepare of b does something

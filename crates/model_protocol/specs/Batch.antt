@@ -2,8 +2,11 @@
 use Rattle.std.specs.Prelude.{false, List, length, replicate, take}
 use Rattle.std.proofs.lemmas.List.Edits.{sets}
 use Rattle.log_entry.specs.declared.Entry.{Entry}
-use Rattle.model_protocol.specs.declared.Batch.{Batch}
+use Rattle.model_protocol.specs.declared.Entries.{Entries}
 use Rattle.model_protocol.specs.Limits.{batch_entries}
+
+abbrev pub Batch : Type 0
+Batch = Entries batch_entries
 
 -- the place of no entry
 abbrev pub no_entry : Entry

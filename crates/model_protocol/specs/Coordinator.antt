@@ -1,12 +1,12 @@
 -- Document 01, "Coordinators".
-use Rattle.std.specs.Prelude.{ℕ, ◌+◌, min, Bool, true, ◌&&◌, cond, eqb, ltb}
+use Rattle.std.specs.Prelude.{ℕ, ◌+◌, min, Bool, ◌&&◌, cond, Some, is_some, eqb, ltb}
+use Rattle.std.specs.Option.{unwrap_or}
 use Rattle.log_entry.specs.Bits.{with}
 use Rattle.model_steps.specs.Limits.{instances, most_acceptors}
-use Rattle.model_protocol.specs.declared.Batch.{Batch}
 use Rattle.model_protocol.specs.declared.Coordinator.{Coordinator}
-use Rattle.model_protocol.specs.declared.Queue.{Queue}
 use Rattle.model_protocol.specs.declared.Round.{Round}
-use Rattle.model_protocol.specs.Queue.{first_batch, left_by}
+use Rattle.model_protocol.specs.Batch.{Batch, no_batch}
+use Rattle.model_protocol.specs.Queue.{Queue, first_batch, left_by}
 use Rattle.model_protocol.specs.World.{new_round}
 
 -- ---- the coordinator with one part changed
@@ -35,7 +35,6 @@ hearing r a accepted batch = record {
   promises = with r.promises a;
   accepted = accepted;
   batch = batch;
-  proposed = r.proposed;
   proposal = r.proposal;
   acceptances = r.acceptances;
 }
@@ -45,6 +44,14 @@ unfoldable pub promise_heard : Round → ℕ → ℕ → Batch → Round
 promise_heard r a accepted batch = cond (ltb r.accepted accepted) (hearing r a accepted batch) (hearing r a r.accepted r.batch)
 
 -- ---- proposals
+
+-- "proposed already"
+abbrev pub is_proposed : Round → Bool
+is_proposed r = is_some r.proposal
+
+-- the batch proposed; one without entries if none was
+abbrev pub proposal_of : Round → Batch
+proposal_of r = unwrap_or r.proposal no_batch
 
 -- "The batch is the accepted one of highest ballot among the promises; if none, the first up to
 -- four queue entries."
@@ -57,8 +64,7 @@ proposing r v = record {
   promises = r.promises;
   accepted = r.accepted;
   batch = r.batch;
-  proposed = true;
-  proposal = v;
+  proposal = Some v;
   acceptances = r.acceptances;
 }
 
@@ -70,7 +76,6 @@ counting r a = record {
   promises = r.promises;
   accepted = r.accepted;
   batch = r.batch;
-  proposed = r.proposed;
   proposal = r.proposal;
   acceptances = with r.acceptances a;
 }
@@ -81,6 +86,6 @@ counting r a = record {
 unfoldable pub learning : Coordinator → Coordinator
 learning c = record {
   applied = min (c.applied + 1) instances;
-  queue = left_by c.queue c.round.proposal;
+  queue = left_by c.queue (proposal_of c.round);
   round = new_round 0;
 }

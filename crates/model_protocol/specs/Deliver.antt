@@ -10,7 +10,7 @@ use Rattle.model_protocol.specs.Acceptor.{accepting, accepts, promises, promisin
 use Rattle.model_owners.specs.Owners.{owner}
 use Rattle.model_paxos.specs.Majority.{majority}
 use Rattle.model_protocol.specs.Change.{slot_now, coordinator_now, done, keeps_follow, learns, process_now, sending, takes_replay}
-use Rattle.model_protocol.specs.Coordinator.{counting, is_heard, learning, promise_heard, with_queue, with_round}
+use Rattle.model_protocol.specs.Coordinator.{counting, is_heard, learning, promise_heard, proposal_of, with_queue, with_round}
 use Rattle.model_protocol.specs.Message.{accepted_from, promise_from, said_accepted, said_acceptor, said_ballot, said_batch, said_entry, said_inst, said_outcome, said_position, said_running, said_store, said_to, said_turn, said_tx}
 use Rattle.model_protocol.specs.Process.{following, hearing_outcome, taking, takes_follow, takes_restore}
 use Rattle.model_protocol.specs.Queue.{is_full, is_in, joining, queued}
@@ -79,7 +79,7 @@ delivery_change p Accepted =
     (is_heard c (said_inst m) (said_ballot m) (said_acceptor m))
     (cond
     (majority p.acceptors r.acceptances)
-    (learns (coordinator_now p (learning c)) c.round.proposal)
+    (learns (coordinator_now p (learning c)) (proposal_of c.round))
     (done (coordinator_now p (with_round c r))))
     (done p)
 -- "It hears outcomes only by `tell`."

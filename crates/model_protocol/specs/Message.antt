@@ -3,12 +3,11 @@ use Rattle.std.specs.Prelude.{ℕ}
 use Rattle.log_entry.specs.declared.Entry.{Entry}
 use Rattle.log_votes.specs.declared.Outcome.{Outcome}
 use Rattle.log_votes.specs.declared.Outcome.TheVariants.{Open}
-use Rattle.model_protocol.specs.declared.Batch.{Batch}
 use Rattle.model_protocol.specs.declared.Message.{Message}
 use Rattle.model_protocol.specs.declared.Message.TheVariants as said
 use Rattle.model_protocol.specs.Kind.{Kind}
 use Rattle.model_protocol.specs.Kind as kind
-use Rattle.model_protocol.specs.Batch.{no_batch, no_entry}
+use Rattle.model_protocol.specs.Batch.{Batch, no_batch, no_entry}
 
 -- ---- what a message says
 

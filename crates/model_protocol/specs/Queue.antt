@@ -3,10 +3,12 @@ use Rattle.std.specs.Prelude.{◌+◌, Bool, false, ◌||◌, cond, List, [], �
 use Rattle.std.proofs.lemmas.List.Edits.{sets}
 use Rattle.log_entry.specs.declared.Entry.{Entry}
 use Rattle.log_entry.specs.Entry.{same_entry}
-use Rattle.model_protocol.specs.declared.Batch.{Batch}
-use Rattle.model_protocol.specs.declared.Queue.{Queue}
-use Rattle.model_protocol.specs.Batch.{batch_of, entries_of, no_entry}
+use Rattle.model_protocol.specs.declared.Entries.{Entries}
+use Rattle.model_protocol.specs.Batch.{Batch, batch_of, entries_of, no_entry}
 use Rattle.model_protocol.specs.Limits.{batch_entries, queue_places}
+
+abbrev pub Queue : Type 0
+Queue = Entries queue_places
 
 -- the queue of these entries, at most eight
 unfoldable pub queue_of : List Entry → Queue

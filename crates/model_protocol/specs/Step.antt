@@ -27,8 +27,8 @@ use Rattle.model_protocol.specs.declared.World.{World}
 use Rattle.model_owners.specs.Owners.{owner}
 use Rattle.model_paxos.specs.Majority.{majority}
 use Rattle.model_protocol.specs.Batch.{entries_of}
-use Rattle.model_protocol.specs.Change.{acceptors_now, coordinator_now, done, down_now, gives_replay, parts, process_now, sending, starts_anew}
-use Rattle.model_protocol.specs.Coordinator.{batch_to_propose, proposing, with_round}
+use Rattle.model_protocol.specs.Change.{acceptors_now, coordinator_now, done, down_now, gives_replay, is_anew, is_given, is_kept, is_taken, learned_by, parts, process_now, sending, starts_anew}
+use Rattle.model_protocol.specs.Coordinator.{batch_to_propose, is_proposed, proposing, with_round}
 use Rattle.model_protocol.specs.Deliver.{delivery_change, no_place_for, receiver_down}
 use Rattle.model_protocol.specs.Message.{accept_to, follow_to, prepare_to, request_to, restore_to, said_kind, said_outcome, said_store, tell_to}
 use Rattle.model_protocol.specs.Places.{message_at, places_of}
@@ -81,7 +81,7 @@ cannot_propose n k i b =
     not (eqb i k.applied)
     || not (eqb b k.round.ballot)
     || not (majority n k.round.promises)
-    || k.round.proposed
+    || is_proposed k.round
     || eqb k.round.accepted 0 && eqb k.queue.count 0
 
 -- the refusals after 2, by the parts that the step touches. A message that was not sent has no
@@ -223,21 +223,21 @@ put_back w at r ch =
       acceptors = ch.parts.acceptors;
       slots = set w.slots at.slot ch.parts.slot;
       coordinators = set w.coordinators at.coordinator ch.parts.coordinator;
-      logs = set w.logs at.coordinator (feed log (entries_of ch.learned));
+      logs = set w.logs at.coordinator (feed log (entries_of (learned_by ch.beside)));
       processes = set w.processes at.process ch.parts.process;
       restored =
-          cond ch.anew
+          cond (is_anew ch.beside)
           (set w.restored at.process no_replay)
-          (cond ch.takes (set w.restored at.process r) w.restored);
+          (cond (is_taken ch.beside) (set w.restored at.process r) w.restored);
       follows =
-          cond ch.anew
+          cond (is_anew ch.beside)
           (set w.follows at.process no_follows)
-          (cond ch.follows
+          (cond (is_kept ch.beside)
           (set w.follows at.process (with_follow (follows_of w at.process) ch.parts.message))
           w.follows);
       down = ch.parts.down;
       messages = w.messages;
-      replays = cond ch.gives (set w.replays w.sent (replay_of log (said_store ch.message))) w.replays;
+      replays = cond (is_given ch.beside) (set w.replays w.sent (replay_of log (said_store ch.message))) w.replays;
       sent = w.sent;
     }
 

@@ -1,6 +1,6 @@
 -- The world's value: the fresh world, what stands where, the world with one message more, and who
 -- is down.
-use Rattle.std.specs.Prelude.{ℕ, ◌+◌, ◌*◌, Bool, true, false, [], get_or, replicate, set}
+use Rattle.std.specs.Prelude.{ℕ, ◌+◌, ◌*◌, Bool, true, false, None, [], get_or, replicate, set}
 use Rattle.log_entry.specs.Limits.{first_turn, process_places, transactions}
 use Rattle.log_core.specs.declared.Log.{Log}
 use Rattle.log_core.specs.declared.Replay.{Replay}
@@ -32,7 +32,7 @@ empty_slot = record { promised = 0; ballot = 0; batch = no_batch }
 
 -- the round of a ballot that was just opened; of ballot 0, where none was
 abbrev pub new_round : ℕ → Round
-new_round b = record { ballot = b; promises = 0; accepted = 0; batch = no_batch; proposed = false; proposal = no_batch; acceptances = 0 }
+new_round b = record { ballot = b; promises = 0; accepted = 0; batch = no_batch; proposal = None; acceptances = 0 }
 
 unfoldable pub fresh_coordinator : Coordinator
 fresh_coordinator = record { applied = 0; queue = queue_of []; round = new_round 0 }

@@ -2,6 +2,8 @@
 // joins them. These are the values; what each step does to them stands in specs/.
 #![tactic(auto)]
 
+ghost use Rattle.std.specs.Prelude.{◌≡◌, take};
+
 use limits::{
     ACCEPTOR_PLACES, BATCH_PLACES, COORDINATOR_PLACES, MESSAGE_PLACES, QUEUE_PLACES, SLOT_PLACES,
 };
@@ -13,12 +15,27 @@ pub mod limits;
 
 use log_votes::Outcome;
 
-// A batch: its first `count` entries. A count of one byte would have seven after it that nothing
+// The first `count` entries of a row. A count of one byte would have seven after it that nothing
 // uses, and they would be copied with every step.
 #[derive(Clone, Copy)]
-pub struct Batch {
-    pub entries: [Entry; BATCH_PLACES],
+pub struct Entries<const N: usize> {
+    pub entries: [Entry; N],
     pub count: usize,
+}
+
+// A batch.
+pub type Batch = Entries<BATCH_PLACES>;
+
+// The entries that a coordinator was sent, oldest first.
+pub type Queue = Entries<QUEUE_PLACES>;
+
+impl<const N: usize> Entries<N> {
+    // All of the row where the count is above it.
+    pub fn as_slice(&self) -> &[Entry]
+        ensures { result.now ≡ take self.now.count self.now.entries }
+    {
+        &self.entries[..self.count.min(N)]
+    }
 }
 
 // A message, by its kind.
@@ -91,13 +108,6 @@ pub struct AcceptorSlot {
     pub batch: Batch,
 }
 
-// The entries that a coordinator was sent: the first `count`, oldest first.
-#[derive(Clone, Copy)]
-pub struct Queue {
-    pub entries: [Entry; QUEUE_PLACES],
-    pub count: usize,
-}
-
 // The ballot that a coordinator opened last in its current instance, and what came of it. The small
 // fields stand together: bytes between them that nothing uses would be copied with every step.
 #[derive(Clone, Copy)]
@@ -108,12 +118,11 @@ pub struct Round {
     pub promises: u8,
     // The highest accepted ballot among the promises, 0 if none; `batch` is its batch.
     pub accepted: u8,
-    pub proposed: bool,
     // The acceptors whose acceptance was heard, bit a for acceptor a.
     pub acceptances: u8,
     pub batch: Batch,
-    // The batch proposed.
-    pub proposal: Batch,
+    // The batch proposed, if one was.
+    pub proposal: Option<Batch>,
 }
 
 #[derive(Clone, Copy)]
@@ -206,6 +215,22 @@ pub struct Parts {
     pub message: Message,
 }
 
+// What a step does to the logs, replays and follows, which stand beside the parts.
+#[derive(Clone, Copy)]
+pub enum Beside {
+    Nothing,
+    // The coordinator learned this batch, for its log.
+    Learns(Batch),
+    // By the coordinator's log its store's replay goes with the message sent.
+    GivesReplay,
+    // The process takes the replay of the message delivered.
+    TakesReplay,
+    // The process takes the follow that is the message delivered.
+    KeepsFollow,
+    // The process starts anew: what stands beside it is as in a fresh world.
+    StartsAnew,
+}
+
 // The answer to a step, the parts after it, and what it sends.
 #[derive(Clone, Copy)]
 pub struct Change {
@@ -214,16 +239,7 @@ pub struct Change {
     // So many messages: this one first, and then the same to acceptors 1, 2 and so on.
     pub count: u8,
     pub message: Message,
-    // The batch that the coordinator learned, for its log; one without entries if none.
-    pub learned: Batch,
-    // Whether its store's replay goes with the message, by the coordinator's log.
-    pub gives: bool,
-    // Whether the process takes the replay of the message delivered.
-    pub takes: bool,
-    // Whether the process takes the follow that is the message delivered.
-    pub follows: bool,
-    // Whether the process starts anew: what stands beside it is as in a fresh world.
-    pub anew: bool,
+    pub beside: Beside,
 }
 
 // Where in the world the parts of a step stand.
