@@ -68,7 +68,7 @@ fn proposal_barred(n: u8, k: Coordinator, inst: u8, ballot: u8) -> bool
         | ((inst != k.applied)
             | (ballot != k.round.ballot)
             | !round::is_majority(n, k.round.promises)
-            | k.round.proposed
+            | k.round.proposal.is_some()
             | ((k.round.accepted == 0) & (k.queue.count == 0)))
 }
 

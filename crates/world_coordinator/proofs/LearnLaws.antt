@@ -1,6 +1,5 @@
 -- One turn of the loop that feeds a log.
 use Rattle.std.proofs.Common.{◌≡◌, ◌+◌, ◌<◌, ◌≤◌, ℕ, List, add-one, drop, drop-cons, get_or, length}
-use Rattle.std.proofs.lemmas.List.{take_min}
 use lib.ListN.{drop_of_length-le}
 use Rattle.log_entry.specs.declared.Entry.{Entry}
 use Rattle.log_core.specs.declared.Log.{Log}
@@ -15,4 +14,4 @@ module _ (l : Log) (xs : List Entry) (i : ℕ) where
   unfolding feed
   feed_end h = rw (drop_of_length-le xs h)
 
-pub ruleset turns = (feed_step, feed_end, take_min)
+pub ruleset turns = (feed_step, feed_end)

@@ -1,4 +1,2 @@
-pub mod Good
 pub mod QueueLaws
-pub mod RoundLaws
 pub mod LearnLaws

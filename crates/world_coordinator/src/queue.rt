@@ -7,14 +7,13 @@ use log_entry::Entry;
 use model_protocol::limits::{BATCH_PLACES, QUEUE_PLACES};
 use model_protocol::{Batch, Queue};
 use world_fresh::no_entry;
-use world_queue::is_among_first;
+use world_queue::is_among;
 
 // Whether an equal entry is in the queue.
 pub fn is_queued(queue: Queue, e: Entry) -> bool
     ensures { result ≡ is_in e (queued queue) }
 {
-    let entries = queue.entries;
-    is_among_first(entries, queue.count, e)
+    is_among(queue.as_slice(), e)
 }
 
 pub fn is_full(queue: Queue) -> bool
@@ -24,13 +23,11 @@ pub fn is_full(queue: Queue) -> bool
 }
 
 // A delivered request joins the queue unless an equal entry is there; a full queue stays as it is.
+#[tactic(auto, unfolding(model_protocol::specs::Queue::joining))]
 pub fn join(mut queue: Queue, e: Entry) -> Queue
     ensures { result ≡ joining queue e }
 {
-    if is_queued(queue, e) {
-        return queue;
-    }
-    if is_full(queue) {
+    if is_queued(queue, e) || is_full(queue) {
         return queue;
     }
     queue.entries[queue.count] = e;
@@ -44,12 +41,10 @@ pub fn first_batch(queue: Queue) -> Batch
 {
     let blank = no_entry();
     let mut entries = [blank; BATCH_PLACES];
-    let count = queue.count.min(BATCH_PLACES);
-    entries[..count].copy_from_slice(&queue.entries[..count]);
-    Batch {
-        entries: entries,
-        count: count,
-    }
+    let waiting = queue.as_slice();
+    let count = waiting.len().min(BATCH_PLACES);
+    entries[..count].copy_from_slice(&waiting[..count]);
+    Batch { entries, count }
 }
 
 // Queue entries equal to an entry of the learned batch leave, the rest keep their order.
@@ -59,18 +54,15 @@ pub fn left_by(queue: Queue, batch: Batch) -> Queue
 {
     let blank = no_entry();
     let mut entries = [blank; QUEUE_PLACES];
-    let mut n: usize = 0;
-    'queue: for e in &queue.entries[..queue.count.min(QUEUE_PLACES)] {
-        for f in &batch.entries[..batch.count.min(BATCH_PLACES)] {
+    let mut count = 0;
+    'queue: for e in queue.as_slice() {
+        for f in batch.as_slice() {
             if e.same(*f) {
                 continue 'queue;
             }
         }
-        entries[n] = *e;
-        n += 1;
+        entries[count] = *e;
+        count += 1;
     }
-    Queue {
-        entries: entries,
-        count: n,
-    }
+    Queue { entries, count }
 }

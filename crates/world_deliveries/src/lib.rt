@@ -18,6 +18,7 @@ use log_votes::Outcome;
 use model_protocol::{Batch, Change, Coordinator, Message, Parts, Process, Queue};
 use model_steps::limits::MOST_ACCEPTORS;
 use world_coordinator::{learn, queue, round};
+use world_fresh::no_batch;
 use world_messages::{parties, send};
 use world_parts::refusal::Tests;
 use world_parts::{changes, refusal};
@@ -33,7 +34,7 @@ fn is_full_for(q: Queue, e: Entry) -> bool
 fn lacks_answer(answers: bool, sent: u8) -> bool
     ensures { result ≡ (answers && lacks_numbers sent 1) }
 {
-    answers & send::lacks_numbers(sent, 1)
+    answers && send::lacks_numbers(sent, 1)
 }
 
 fn no_room(p: Parts) -> bool
@@ -101,7 +102,7 @@ fn accept(mut p: Parts, inst: u8, ballot: u8, acceptor: u8, batch: Batch) -> Cha
 fn is_heard(c: Coordinator, inst: u8, ballot: u8, acceptor: u8) -> bool
     ensures { result ≡ is_heard c inst ballot acceptor }
 {
-    round::is_current(c, inst, ballot) & (acceptor < MOST_ACCEPTORS)
+    round::is_current(c, inst, ballot) && acceptor < MOST_ACCEPTORS
 }
 
 #[tactic(auto, unfolding(model_protocol::specs::Deliver::delivery_change))]
@@ -132,7 +133,7 @@ fn accepted(mut p: Parts, inst: u8, ballot: u8, acceptor: u8) -> Change
         return changes::without_messages(p, 0);
     }
     p.coordinator = learn::learning(c);
-    changes::learns(p, c.round.proposal)
+    changes::learns(p, c.round.proposal.unwrap_or(no_batch()))
 }
 
 #[tactic(auto, unfolding(model_protocol::specs::Deliver::delivery_change))]

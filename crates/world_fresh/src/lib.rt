@@ -61,14 +61,12 @@ pub fn empty_queue() -> Queue
 pub fn new_round(ballot: u8) -> Round
     ensures { result ≡ new_round ballot }
 {
-    let none = no_batch();
     Round {
         ballot,
         promises: 0,
         accepted: 0,
-        batch: none,
-        proposed: false,
-        proposal: none,
+        batch: no_batch(),
+        proposal: None,
         acceptances: 0,
     }
 }

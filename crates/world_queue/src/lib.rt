@@ -1,13 +1,12 @@
 // Document 01's queue, lent as a row of entries, at most eight.
 #![tactic(auto)]
 
-ghost use Rattle.std.specs.Prelude.{◌≡◌, take};
+ghost use Rattle.std.specs.Prelude.{◌≡◌};
 ghost use Rattle.std.specs.List.{list_any};
 ghost use Rattle.log_entry.specs.Entry.{same_entry};
 ghost use Rattle.model_protocol.specs.Queue.{is_in};
 
 use log_entry::Entry;
-use model_protocol::limits::QUEUE_PLACES;
 
 // Whether an entry of a lent row is equal, in std's words.
 fn any_equal(entries: &[Entry], e: Entry) -> bool
@@ -22,13 +21,4 @@ pub fn is_among(entries: &[Entry], e: Entry) -> bool
     ensures { result ≡ is_in e entries.now }
 {
     any_equal(entries, e)
-}
-
-// Whether an equal entry is among the first `count`, or among all if there are fewer. Its
-// parameters are plain: a caller lends nothing.
-#[tactic(auto, using(std::proofs::lemmas::List::take_min))]
-pub fn is_among_first(entries: [Entry; QUEUE_PLACES], count: usize, e: Entry) -> bool
-    ensures { result ≡ is_in e (take count entries) }
-{
-    is_among(&entries[..count.min(QUEUE_PLACES)], e)
 }

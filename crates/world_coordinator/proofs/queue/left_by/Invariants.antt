@@ -13,4 +13,4 @@ abbrev pub invariant-queue : goal.invariant-queue
 invariant-queue l =
     let left = without (drop l.e-index l.e-items) (entries_of l.fn.batch) in
     let all = without l.e-items (entries_of l.fn.batch) in
-    record { stored : sets l.entries l.n left ≡ sets l.initial.entries 0 all; counted : l.n + length left ≡ length all; room : l.n ≤ l.e-index }
+    record { stored : sets l.entries l.count left ≡ sets l.initial.entries 0 all; counted : l.count + length left ≡ length all; room : l.count ≤ l.e-index }
