@@ -1,4 +1,5 @@
-pub mod AdvanceLaws
-pub mod ChangeLaws
 pub mod Room
 pub mod Stepping
+pub mod PlaceLaws
+pub mod SendLaws
+pub mod StoreLaws

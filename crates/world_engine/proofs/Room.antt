@@ -14,13 +14,15 @@ use Rattle.model_steps.specs.declared.Role.TheVariants.{Coord, Proc}
 use Rattle.model_steps.specs.declared.Step.{Step}
 use Rattle.model_steps.specs.declared.Step.TheVariants.{Setup, Request, Open, Propose, Deliver, Tell, Restore, Follow, Crash, Back}
 use Rattle.model_steps.specs.Limits.{messages, outside_step}
-use Rattle.model_protocol.specs.declared.Kind.{Kind}
-use Rattle.model_protocol.specs.declared.Kind.TheVariants as kind
+use Rattle.model_protocol.specs.Kind.{Kind}
+use Rattle.model_protocol.specs.Kind as kind
 use Rattle.model_protocol.specs.Acceptor.{accepts, promises}
 use Rattle.model_paxos.specs.Majority.{majority}
+use Rattle.model_protocol.specs.Message.{said_acceptor, said_ballot, said_inst, said_kind, said_outcome, said_position, said_store, said_turn, said_tx}
 use Rattle.model_protocol.specs.Coordinator.{counting, is_heard}
 use Rattle.model_protocol.specs.declared.Change.{Change}
 use Rattle.model_protocol.specs.declared.Parts.{Parts}
+use Rattle.model_protocol.specs.Change.{is_given}
 use Rattle.model_protocol.specs.Deliver.{delivery_change, no_place_for, receiver_down}
 use Rattle.model_protocol.specs.Process.{takes_follow, takes_restore}
 use Rattle.model_protocol.specs.Send.{lacks_numbers}
@@ -52,20 +54,20 @@ delivery_change_fits : (p : Parts) (k : Kind) → no_place_for p k ≡ false →
 unfolding delivery_change
 delivery_change_fits p kind.Request room = omega arith
 delivery_change_fits p kind.Prepare room =
-    either_fits (promises p.slot p.message.ballot) _ _ (messages - p.sent) (answer_fits (promises p.slot p.message.ballot) p.sent room) (omega arith)
+    either_fits (promises p.slot (said_ballot p.message)) _ _ (messages - p.sent) (answer_fits (promises p.slot (said_ballot p.message)) p.sent room) (omega arith)
 delivery_change_fits p kind.Accept room =
-    either_fits (accepts p.slot p.message.ballot) _ _ (messages - p.sent) (answer_fits (accepts p.slot p.message.ballot) p.sent room) (omega arith)
+    either_fits (accepts p.slot (said_ballot p.message)) _ _ (messages - p.sent) (answer_fits (accepts p.slot (said_ballot p.message)) p.sent room) (omega arith)
 delivery_change_fits p kind.Promise room =
-    either_fits (is_heard p.coordinator p.message.inst p.message.ballot p.message.acceptor) _ _ (messages - p.sent) (λ _. omega arith) (omega arith)
+    either_fits (is_heard p.coordinator (said_inst p.message) (said_ballot p.message) (said_acceptor p.message)) _ _ (messages - p.sent) (λ _. omega arith) (omega arith)
 delivery_change_fits p kind.Accepted room =
-    either_fits (is_heard p.coordinator p.message.inst p.message.ballot p.message.acceptor) _ _ (messages - p.sent)
-    (λ _. either_fits (majority p.acceptors (counting p.coordinator.round p.message.acceptor).acceptances) _ _ (messages - p.sent) (λ _. omega arith) (omega arith))
+    either_fits (is_heard p.coordinator (said_inst p.message) (said_ballot p.message) (said_acceptor p.message)) _ _ (messages - p.sent)
+    (λ _. either_fits (majority p.acceptors (counting p.coordinator.round (said_acceptor p.message)).acceptances) _ _ (messages - p.sent) (λ _. omega arith) (omega arith))
     (omega arith)
 delivery_change_fits p kind.Tell room = omega arith
 delivery_change_fits p kind.Restore room =
-    either_fits (takes_restore p.process p.message.turn p.message.position) _ _ (messages - p.sent) (λ _. omega arith) (omega arith)
+    either_fits (takes_restore p.process (said_turn p.message) (said_position p.message)) _ _ (messages - p.sent) (λ _. omega arith) (omega arith)
 delivery_change_fits p kind.Follow room =
-    either_fits (takes_follow p.process p.message.store p.message.tx) _ _ (messages - p.sent) (λ _. omega arith) (omega arith)
+    either_fits (takes_follow p.process (said_store p.message) (said_tx p.message)) _ _ (messages - p.sent) (λ _. omega arith) (omega arith)
 
 change_fits : (p : Parts) (s : Step) → refusal_in p s ≡ 0 → (change_of p s).count ≤ messages - p.sent
 unfolding change_of step_checks first_refusal
@@ -80,17 +82,17 @@ change_fits p (Propose c i b) h =
     ltb-false (messages - p.sent) p.acceptors
     (first_roomy false (is_down p.down Coord c) (not_set_up p || cannot_propose p.acceptors p.coordinator i b) (lacks_numbers p.sent p.acceptors) false h)
 change_fits p (Deliver m) h =
-    let k = p.message.kind in
+    let k = (said_kind p.message) in
     delivery_change_fits p k (first_roomy (leb p.sent m) (receiver_down p.down p.message k) (not_set_up p) (no_place_for p k) false h)
 change_fits p (Tell c process tx) h =
     ltb-false (messages - p.sent) 1
-    (first_roomy false (is_down p.down Coord c || is_down p.down Proc process) (not_set_up p || is_open p.message.outcome) (lacks_numbers p.sent 1) false h)
+    (first_roomy false (is_down p.down Coord c || is_down p.down Proc process) (not_set_up p || is_open (said_outcome p.message)) (lacks_numbers p.sent 1) false h)
 change_fits p (Restore c process) h =
     ltb-false (messages - p.sent) 1
-    (first_roomy false (is_down p.down Coord c || is_down p.down Proc process) (not_set_up p || leb stores p.message.store) (lacks_numbers p.sent 1) false h)
+    (first_roomy false (is_down p.down Coord c || is_down p.down Proc process) (not_set_up p || leb stores (said_store p.message)) (lacks_numbers p.sent 1) false h)
 change_fits p (Follow c process tx) h =
     ltb-false (messages - p.sent) 1
-    (first_roomy false (is_down p.down Coord c || is_down p.down Proc process) (not_set_up p || is_open p.message.outcome || leb stores p.message.store) (lacks_numbers p.sent 1) false h)
+    (first_roomy false (is_down p.down Coord c || is_down p.down Proc process) (not_set_up p || is_open (said_outcome p.message) || leb stores (said_store p.message)) (lacks_numbers p.sent 1) false h)
 change_fits p (Crash role id) h = omega arith
 change_fits p (Back process turn) h = omega arith
 
@@ -114,7 +116,7 @@ command_fits o p =
 -- ---- the message with which a replay goes is sent
 
 abbrev pub Sends : Change → Type 0
-Sends ch = ch.gives ≡ true → 1 ≤ ch.count
+Sends ch = is_given ch.beside ≡ true → 1 ≤ ch.count
 
 either_sends : (t : Bool) (x y : Change) → Sends x → Sends y → Sends (cond t x y)
 either_sends true x y hx hy = hx
@@ -127,16 +129,16 @@ none h = absurd (true≢false (sym h))
 delivery_sends : (p : Parts) (k : Kind) → Sends (delivery_change p k)
 unfolding delivery_change
 delivery_sends p kind.Request = none
-delivery_sends p kind.Prepare = either_sends (promises p.slot p.message.ballot) _ _ none none
-delivery_sends p kind.Accept = either_sends (accepts p.slot p.message.ballot) _ _ none none
-delivery_sends p kind.Promise = either_sends (is_heard p.coordinator p.message.inst p.message.ballot p.message.acceptor) _ _ none none
+delivery_sends p kind.Prepare = either_sends (promises p.slot (said_ballot p.message)) _ _ none none
+delivery_sends p kind.Accept = either_sends (accepts p.slot (said_ballot p.message)) _ _ none none
+delivery_sends p kind.Promise = either_sends (is_heard p.coordinator (said_inst p.message) (said_ballot p.message) (said_acceptor p.message)) _ _ none none
 delivery_sends p kind.Accepted =
-    either_sends (is_heard p.coordinator p.message.inst p.message.ballot p.message.acceptor) _ _
-    (either_sends (majority p.acceptors (counting p.coordinator.round p.message.acceptor).acceptances) _ _ none none)
+    either_sends (is_heard p.coordinator (said_inst p.message) (said_ballot p.message) (said_acceptor p.message)) _ _
+    (either_sends (majority p.acceptors (counting p.coordinator.round (said_acceptor p.message)).acceptances) _ _ none none)
     none
 delivery_sends p kind.Tell = none
-delivery_sends p kind.Restore = either_sends (takes_restore p.process p.message.turn p.message.position) _ _ none none
-delivery_sends p kind.Follow = either_sends (takes_follow p.process p.message.store p.message.tx) _ _ none none
+delivery_sends p kind.Restore = either_sends (takes_restore p.process (said_turn p.message) (said_position p.message)) _ _ none none
+delivery_sends p kind.Follow = either_sends (takes_follow p.process (said_store p.message) (said_tx p.message)) _ _ none none
 
 change_sends : (p : Parts) (s : Step) → Sends (change_of p s)
 unfolding change_of
@@ -144,7 +146,7 @@ change_sends p (Setup n) = none
 change_sends p (Request e to) = none
 change_sends p (Open c i b) = none
 change_sends p (Propose c i b) = none
-change_sends p (Deliver m) = delivery_sends p p.message.kind
+change_sends p (Deliver m) = delivery_sends p (said_kind p.message)
 change_sends p (Tell c process tx) = none
 change_sends p (Restore c process) = λ _. omega arith
 change_sends p (Follow c process tx) = none

@@ -8,8 +8,8 @@ use Rattle.log_core.specs.declared.Replay.{Replay}
 use Rattle.model_steps.specs.declared.Step.{Step}
 use Rattle.model_steps.specs.declared.Step.TheVariants.{Setup, Request, Open, Propose, Deliver, Tell, Restore, Follow, Crash, Back}
 use Rattle.model_protocol.specs.declared.Change.{Change}
-use Rattle.model_protocol.specs.declared.Kind.{Kind}
-use Rattle.model_protocol.specs.declared.Kind.TheVariants as kind
+use Rattle.model_protocol.specs.Kind.{Kind}
+use Rattle.model_protocol.specs.Kind as kind
 use Rattle.model_protocol.specs.declared.Parts.{Parts}
 use Rattle.model_protocol.specs.declared.Places.{Places}
 use Rattle.model_protocol.specs.declared.Stepped.{Stepped}
@@ -17,6 +17,7 @@ use Rattle.model_protocol.specs.declared.World.{World}
 use Rattle.model_protocol.specs.Acceptor.{accepts, promises}
 use Rattle.model_protocol.specs.Change.{without_messages}
 use Rattle.model_paxos.specs.Majority.{majority}
+use Rattle.model_protocol.specs.Message.{said_acceptor, said_ballot, said_inst, said_kind, said_position, said_store, said_turn, said_tx}
 use Rattle.model_protocol.specs.Coordinator.{counting, is_heard}
 use Rattle.model_protocol.specs.Deliver.{delivery_change}
 use Rattle.model_protocol.specs.Process.{takes_follow, takes_restore}
@@ -36,16 +37,16 @@ either_accepted false x y hx hy = hy
 delivery_change_accepted : (p : Parts) (k : Kind) → (delivery_change p k).answer ≡ accepted
 unfolding delivery_change
 delivery_change_accepted p kind.Request = refl
-delivery_change_accepted p kind.Prepare = either_accepted (promises p.slot p.message.ballot) _ _ refl refl
-delivery_change_accepted p kind.Accept = either_accepted (accepts p.slot p.message.ballot) _ _ refl refl
-delivery_change_accepted p kind.Promise = either_accepted (is_heard p.coordinator p.message.inst p.message.ballot p.message.acceptor) _ _ refl refl
+delivery_change_accepted p kind.Prepare = either_accepted (promises p.slot (said_ballot p.message)) _ _ refl refl
+delivery_change_accepted p kind.Accept = either_accepted (accepts p.slot (said_ballot p.message)) _ _ refl refl
+delivery_change_accepted p kind.Promise = either_accepted (is_heard p.coordinator (said_inst p.message) (said_ballot p.message) (said_acceptor p.message)) _ _ refl refl
 delivery_change_accepted p kind.Accepted =
-    either_accepted (is_heard p.coordinator p.message.inst p.message.ballot p.message.acceptor) _ _
-    (either_accepted (majority p.acceptors (counting p.coordinator.round p.message.acceptor).acceptances) _ _ refl refl)
+    either_accepted (is_heard p.coordinator (said_inst p.message) (said_ballot p.message) (said_acceptor p.message)) _ _
+    (either_accepted (majority p.acceptors (counting p.coordinator.round (said_acceptor p.message)).acceptances) _ _ refl refl)
     refl
 delivery_change_accepted p kind.Tell = refl
-delivery_change_accepted p kind.Restore = either_accepted (takes_restore p.process p.message.turn p.message.position) _ _ refl refl
-delivery_change_accepted p kind.Follow = either_accepted (takes_follow p.process p.message.store p.message.tx) _ _ refl refl
+delivery_change_accepted p kind.Restore = either_accepted (takes_restore p.process (said_turn p.message) (said_position p.message)) _ _ refl refl
+delivery_change_accepted p kind.Follow = either_accepted (takes_follow p.process (said_store p.message) (said_tx p.message)) _ _ refl refl
 
 change_accepted : (p : Parts) (s : Step) → (change_of p s).answer ≡ accepted
 unfolding change_of
@@ -53,7 +54,7 @@ change_accepted p (Setup n) = refl
 change_accepted p (Request e to) = refl
 change_accepted p (Open c i b) = refl
 change_accepted p (Propose c i b) = refl
-change_accepted p (Deliver m) = delivery_change_accepted p p.message.kind
+change_accepted p (Deliver m) = delivery_change_accepted p (said_kind p.message)
 change_accepted p (Tell c process tx) = refl
 change_accepted p (Restore c process) = refl
 change_accepted p (Follow c process tx) = refl

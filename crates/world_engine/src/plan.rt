@@ -45,6 +45,7 @@ fn counted(acceptors: u8) -> u8
     acceptors
 }
 
+#[tactic(auto, unfolding(crate::specs::Changed::change_in, model_protocol::specs::Step::step_refusal, log_entry::specs::Refusal::first_refusal, world_parts::specs::Plan::plan_of))]
 pub fn change(o: Command, p: Parts) -> Change
     ensures { result ≡ change_in o p }
 {
