@@ -3,3 +3,4 @@ pub mod Stepping
 pub mod PlaceLaws
 pub mod SendLaws
 pub mod StoreLaws
+pub mod CommandLaws

@@ -4,6 +4,7 @@ use mathlib.Core.Bool.{false, true≢false}
 use mathlib.Core.Path.{◌≡◌, refl}
 use native.Mathlib.Nat.{mod-lt}
 use native.Mathlib.Omega.{arith}
+use Rattle.log_entry.specs.Limits.{process_places}
 use Rattle.log_core.specs.declared.Log.{Log}
 use Rattle.model_steps.specs.declared.Step.{Step}
 use Rattle.model_steps.specs.declared.Step.TheVariants.{Setup, Request, Open, Propose, Deliver, Tell, Restore, Follow, Crash, Back}
@@ -77,3 +78,6 @@ not_asked (Restore c p) d l n h = absurd (true≢false h)
 not_asked (Follow c p tx) d l n h = absurd (true≢false h)
 not_asked (Crash role id) d l n h = refl
 not_asked (Back p t) d l n h = refl
+
+pub message_small : (n : ℕ) (s : Step) → n ≡ message_at s → n < messages
+message_small n s e = let h = message_inside s in omega (arith, e, h)

@@ -1,5 +1,5 @@
 -- The places of a step that a world has.
-use Rattle.std.specs.Prelude.{◌×◌, ◌<◌}
+use Rattle.std.specs.Prelude.{◌<◌}
 use Rattle.log_entry.specs.Limits.{process_places}
 use Rattle.model_steps.specs.Limits.{coordinators}
 use Rattle.model_protocol.specs.declared.Places.{Places}

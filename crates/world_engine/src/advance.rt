@@ -32,7 +32,8 @@ pub fn advance(mut w: World, commands: Commands, answers: &mut [u8; COMMAND_PLAC
     ensures answers_after { answers.new ≡ answers_in answers.old w commands }
 {
     let count = usize::from(commands.count.min(COMMANDS));
-    for (k, o) in commands.commands[..count].iter().enumerate() {
+    let asked = &commands.commands[..count];
+    for (k, o) in asked.iter().enumerate() {
         answers[k] = carry_out(&mut w, *o);
     }
     w

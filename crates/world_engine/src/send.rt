@@ -50,7 +50,6 @@ fn addressed(m: Message, to: u8) -> Message
 
 // The i-th of the messages that go to all: the message itself, and then the same to acceptors 1, 2
 // and so on.
-#[tactic(auto, using(crate::proofs::SendLaws::copies))]
 fn copy_of(m: Message, i: u8) -> Message
     ensures { result ≡ copy_of m i }
 {
@@ -58,7 +57,7 @@ fn copy_of(m: Message, i: u8) -> Message
 }
 
 // So many messages go out.
-#[tactic(auto, using(crate::proofs::SendLaws::sent))]
+#[tactic(auto, using(crate::proofs::SendLaws::one_sent))]
 pub(crate) fn send(w: &mut World, count: u8, m: Message)
     requires { count ≤ messages - w.old.sent }
     ensures { w.new ≡ send_to_all w.old count (copy_of m) }

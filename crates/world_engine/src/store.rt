@@ -1,5 +1,5 @@
 // The parts of a step, taken from their places and put back.
-ghost use Rattle.std.specs.Prelude.{◌≡◌, ◌<◌, ◌→◌, true};
+ghost use Rattle.std.specs.Prelude.{◌≡◌, ◌<◌, true};
 ghost use Rattle.model_steps.specs.Limits.{messages};
 ghost use Rattle.model_protocol.specs.Change.{is_given};
 ghost use Rattle.model_protocol.specs.Message.{said_store};
@@ -56,7 +56,6 @@ fn store_of(m: Message) -> u8
 
 // The parts go to their places, and what the step does beside them is done. `from` is the number of
 // the message delivered.
-#[tactic(auto, using(crate::proofs::StoreLaws::stored))]
 pub(crate) fn put_back(w: &mut World, at: Places, from: usize, change: Change)
     requires there { There at }
     requires from_there { from < messages }
