@@ -1,16 +1,19 @@
 -- The log after an entry, by its effect.
+use Rattle.log_entry.specs.Entry.{is_take, tx_of}
 use Prim.Native.Nat.{ℕ, ◌%◌, ◌*◌, ◌-◌, ◌<◌, ◌^◌}
 use mathlib.Core.Bool.{Bool, cond, false, true}
 use mathlib.Core.Path.{◌≡◌, ap, ap₂, refl, sym, ◌∙◌}
 use native.Mathlib.Omega.{arith}
-use borrow.Author.Tests.{ne_eqb}
 use lib.Bits.{bit_or}
 use lib.Dec.{eqb}
+use Rattle.std.proofs.Common.{is_ok}
 use lib.ListN.{get_or, set}
 use Rattle.log_entry.specs.declared.Entry.{Entry}
 use Rattle.log_entry.specs.Entry.{outside}
 use Rattle.log_entry.specs.Limits.{transactions}
 use Rattle.log_entry.specs.Refusal.{accepted, first_refusal, outside_limits}
+use Rattle.log_entry.specs.Number.{Answer}
+use Rattle.log_entry.proofs.AnswerLaws.{err_ok, not_ok}
 use Rattle.log_entry.proofs.InsideLaws.{inside_vote}
 use Rattle.log_entry.proofs.SetLaws.{one_shifted}
 use Rattle.log_votes.specs.declared.Row.{Row}
@@ -25,7 +28,7 @@ use Rattle.log_core.specs.Log.{latest_of, row_of, with_group, with_holder, with_
 use Rattle.log_core.proofs.DecideLaws.{answer_outside}
 
 -- the answer to an entry
-abbrev pub refusal_of : Log → Entry → ℕ
+abbrev pub refusal_of : Log → Entry → Answer
 refusal_of l e = refusal (parts_of l e) e
 
 pub answer_is : (l : Log) (e : Entry) → (enter l e).answer ≡ refusal_of l e
@@ -39,26 +42,26 @@ pub accepted_inside : (l : Log) (e : Entry) → refusal_of l e ≡ accepted → 
 accepted_inside l e h = split (outside l.stores e) refl
   where
     split : (t : Bool) → outside l.stores e ≡ t → outside l.stores e ≡ false
-    split true k = absurd (let z : ◌≡◌ {A = ℕ} 2 0 = sym (outside_refused l e k) ∙ h in omega arith)
+    split true k = absurd (err_ok (sym (outside_refused l e k) ∙ h))
     split false k = k
 
 -- what is stored
 module _ (l : Log) (e : Entry) (f : Effect) where
-  pub stored_holder : e.take ≡ true → with_holder l e.process e.turn e.store ≡ stored l e f
+  pub stored_holder : is_take e ≡ true → with_holder l e.process e.turn e.store ≡ stored l e f
   unfolding stored
   stored_holder take = rw take
 
   -- r is the row with the vote kept
-  module _ (vote : e.take ≡ false) {r : Row} (is : r ≡ keeping (row_of l e.tx) e) where
-    pub stored_row : f.begins ≡ false → with_row l e.tx (in_group r f.group) ≡ stored l e f
+  module _ (vote : is_take e ≡ false) {tx : ℕ} (on : tx_of e ≡ tx) {r : Row} (is : r ≡ keeping (row_of l tx) e) where
+    pub stored_row : f.begins ≡ false → with_row l tx (in_group r f.group) ≡ stored l e f
     unfolding stored
-    stored_row h = ap (λ (r : Row). with_row l e.tx (in_group r f.group)) is ∙ rw (vote, h)
+    stored_row h = ap (λ (r : Row). with_row l tx (in_group r f.group)) is ∙ rw (vote, h, on)
 
     pub stored_group : f.begins ≡ true → (running : ℕ) → running ≡ running_set l.rows
-        → with_group (with_row l e.tx (in_group r f.group)) f.group running ≡ stored l e f
+        → with_group (with_row l tx (in_group r f.group)) f.group running ≡ stored l e f
     unfolding stored
     stored_group h running runs =
-        ap₂ (λ (r : Row) (n : ℕ). with_group (with_row l e.tx (in_group r f.group)) f.group n) is runs ∙ rw (vote, h)
+        ap₂ (λ (r : Row) (n : ℕ). with_group (with_row l tx (in_group r f.group)) f.group n) is runs ∙ rw (vote, h, on)
 
   entered_accepted : f.answer ≡ accepted → answered (stored l e f) accepted ≡ entered l e f
   unfolding entered
@@ -66,10 +69,10 @@ module _ (l : Log) (e : Entry) (f : Effect) where
 
   entered_refused : (f.answer ≡ accepted → ⊥) → answered l f.answer ≡ entered l e f
   unfolding entered
-  entered_refused wrong = rw (ne_eqb f.answer accepted wrong)
+  entered_refused wrong = rw (not_ok f.answer wrong)
 
 -- a new holder, who is past holder by a shifted one
-pub holder_stored : (l : Log) (e : Entry) (f : Effect) → e.take ≡ true → e.process < 16
+pub holder_stored : (l : Log) (e : Entry) (f : Effect) → is_take e ≡ true → e.process < 16
     → record {
       rows = l.rows;
       holders = set l.holders e.store e.process;
@@ -89,10 +92,10 @@ unfolding remembered
 remembered_last l h = h
 
 -- the place of the row that an entry is decided on is within the rows
-pub place_inside : (n : ℕ) (e : Entry) → outside n e ≡ false → {at : ℕ} → at ≡ cond e.take 0 e.tx → at < transactions
-place_inside n e inside h = split e.take refl h
+pub place_inside : (n : ℕ) (e : Entry) → outside n e ≡ false → {at : ℕ} → at ≡ cond (is_take e) 0 (tx_of e) → at < transactions
+place_inside n e inside h = split (is_take e) refl h
   where
-    split : (t : Bool) → e.take ≡ t → {at : ℕ} → at ≡ cond t 0 e.tx → at < transactions
+    split : (t : Bool) → is_take e ≡ t → {at : ℕ} → at ≡ cond t 0 (tx_of e) → at < transactions
     split true k h = omega arith
     split false k h = omega (arith, h, (inside_vote n e inside k).tx)
 
@@ -114,27 +117,27 @@ unfolding effect_of
 effect_answer p e = refl
 
 -- a take is answered whatever the row
-take_answer : (p q : Parts) (e : Entry) → e.take ≡ true → p.stores ≡ q.stores → p.holders ≡ q.holders → p.takers ≡ q.takers → p.latest ≡ q.latest → refusal p e ≡ refusal q e
+take_answer : (p q : Parts) (e : Entry) → is_take e ≡ true → p.stores ≡ q.stores → p.holders ≡ q.holders → p.takers ≡ q.takers → p.latest ≡ q.latest → refusal p e ≡ refusal q e
 unfolding refusal first_refusal
 take_answer p q e take n h k m = rw (take, n, h, k, m)
 
 -- an effect that was decided on those parts
-module _ (l : Log) (e : Entry) (at last : ℕ) (place : at ≡ cond e.take 0 e.tx) (remembers : last ≡ remembered l l.groups) (f : Effect) (is : f ≡ effect_of (parts_at l e at last) e) where
+module _ (l : Log) (e : Entry) (at last : ℕ) (place : at ≡ cond (is_take e) 0 (tx_of e)) (remembers : last ≡ remembered l l.groups) (f : Effect) (is : f ≡ effect_of (parts_at l e at last) e) where
   whole : Effect
   whole = effect_of (parts_of l e) e
 
   -- for a vote all parts are those of the entry
-  vote_same : e.take ≡ false → f ≡ whole
+  vote_same : is_take e ≡ false → f ≡ whole
   unfolding whole
   vote_same vote =
       is
-      ∙ ap₂ (λ (t m : ℕ). effect_of (parts_at l e t m) e) (place ∙ ap (λ (b : Bool). cond b 0 e.tx) vote) remembers
+      ∙ ap₂ (λ (t m : ℕ). effect_of (parts_at l e t m) e) (place ∙ ap (λ (b : Bool). cond b 0 (tx_of e)) vote) remembers
 
   answer_same : f.answer ≡ whole.answer
   unfolding whole
-  answer_same = by_kind e.take refl
+  answer_same = by_kind (is_take e) refl
     where
-      by_kind : (t : Bool) → e.take ≡ t → f.answer ≡ (effect_of (parts_of l e) e).answer
+      by_kind : (t : Bool) → is_take e ≡ t → f.answer ≡ (effect_of (parts_of l e) e).answer
       by_kind true take =
           ap (λ (f : Effect). f.answer) is
           ∙ effect_answer (parts_at l e at last) e
@@ -144,37 +147,37 @@ module _ (l : Log) (e : Entry) (at last : ℕ) (place : at ≡ cond e.take 0 e.t
 
   stored_same : stored l e f ≡ stored l e whole
   unfolding whole
-  stored_same = by_kind e.take refl
+  stored_same = by_kind (is_take e) refl
     where
-      by_kind : (t : Bool) → e.take ≡ t → stored l e f ≡ stored l e (effect_of (parts_of l e) e)
+      by_kind : (t : Bool) → is_take e ≡ t → stored l e f ≡ stored l e (effect_of (parts_of l e) e)
       by_kind true take = sym (stored_holder l e f take) ∙ stored_holder l e (effect_of (parts_of l e) e) take
       by_kind false vote = ap (λ (f : Effect). stored l e f) (vote_same vote)
 
   pub enter_refused : (f.answer ≡ accepted → ⊥) → answered l f.answer ≡ enter l e
   unfolding enter whole
-  enter_refused wrong = ap (λ (n : ℕ). answered l n) answer_same ∙ entered_refused l e whole (λ k. wrong (answer_same ∙ k))
+  enter_refused wrong = ap (λ (n : Answer). answered l n) answer_same ∙ entered_refused l e whole (λ k. wrong (answer_same ∙ k))
 
   pub enter_stored : f.answer ≡ accepted → {m : Log} → m ≡ stored l e f → answered m accepted ≡ enter l e
   unfolding enter whole
   enter_stored ok h = ap (λ (m : Log). answered m accepted) (h ∙ stored_same) ∙ entered_accepted l e whole (sym answer_same ∙ ok)
 
 -- a refused entry
-pub enter_answered : (l : Log) (e : Entry) {n : ℕ} → n ≡ refusal_of l e → (n ≡ accepted → ⊥) → answered l n ≡ enter l e
+pub enter_answered : (l : Log) (e : Entry) {n : Answer} → n ≡ refusal_of l e → (n ≡ accepted → ⊥) → answered l n ≡ enter l e
 unfolding enter
 enter_answered l e is wrong =
     let said = is ∙ sym (effect_answer (parts_of l e) e) in
-    ap (λ (n : ℕ). answered l n) said ∙ entered_refused l e (effect_of (parts_of l e) e) (λ k. wrong (said ∙ k))
+    ap (λ (n : Answer). answered l n) said ∙ entered_refused l e (effect_of (parts_of l e) e) (λ k. wrong (said ∙ k))
 
 -- refused 2 whatever the log
 pub enter_outside : (l : Log) (e : Entry) → outside l.stores e ≡ true → answered l outside_limits ≡ enter l e
-enter_outside l e h = enter_answered l e (sym (outside_refused l e h)) (λ k. omega (arith, k))
+enter_outside l e h = enter_answered l e (sym (outside_refused l e h)) err_ok
 
 -- an accepted entry
 pub enter_accepted : (l : Log) (e : Entry) → refusal_of l e ≡ accepted → answered (stored l e (effect_of (parts_of l e) e)) accepted ≡ enter l e
 unfolding enter
 enter_accepted l e ok = entered_accepted l e (effect_of (parts_of l e) e) (effect_answer (parts_of l e) e ∙ ok)
 
-pub take_entered : (l : Log) (e : Entry) → e.take ≡ true → refusal_of l e ≡ accepted → answered (with_holder l e.process e.turn e.store) accepted ≡ enter l e
+pub take_entered : (l : Log) (e : Entry) → is_take e ≡ true → refusal_of l e ≡ accepted → answered (with_holder l e.process e.turn e.store) accepted ≡ enter l e
 take_entered l e take ok =
     ap (λ (m : Log). answered m accepted) (stored_holder l e (effect_of (parts_of l e) e) take) ∙ enter_accepted l e ok
 
@@ -191,14 +194,14 @@ answer_parts l e at = record {
   stores = l.stores;
 }
 
-same_answer : (l : Log) (e : Entry) → refusal (answer_parts l e e.tx) e ≡ refusal_of l e
+same_answer : (l : Log) (e : Entry) → refusal (answer_parts l e (tx_of e)) e ≡ refusal_of l e
 unfolding refusal
 same_answer l e = refl
 
-pub answer_at : (l : Log) (e : Entry) {at : ℕ} → at ≡ cond e.take 0 e.tx → refusal (answer_parts l e at) e ≡ (enter l e).answer
-answer_at l e {at} place = by_kind e.take refl ∙ sym (answer_is l e)
+pub answer_at : (l : Log) (e : Entry) {at : ℕ} → at ≡ cond (is_take e) 0 (tx_of e) → refusal (answer_parts l e at) e ≡ (enter l e).answer
+answer_at l e {at} place = by_kind (is_take e) refl ∙ sym (answer_is l e)
   where
-    by_kind : (t : Bool) → e.take ≡ t → refusal (answer_parts l e at) e ≡ refusal_of l e
+    by_kind : (t : Bool) → is_take e ≡ t → refusal (answer_parts l e at) e ≡ refusal_of l e
     by_kind true take = take_answer (answer_parts l e at) (parts_of l e) e take refl refl refl refl
     by_kind false vote =
-        ap (λ (t : ℕ). refusal (answer_parts l e t) e) (place ∙ ap (λ (b : Bool). cond b 0 e.tx) vote) ∙ same_answer l e
+        ap (λ (t : ℕ). refusal (answer_parts l e t) e) (place ∙ ap (λ (b : Bool). cond b 0 (tx_of e)) vote) ∙ same_answer l e

@@ -1,10 +1,10 @@
 -- No entry changes the limit of a log.
+use Rattle.log_entry.specs.Entry.{is_take}
 use Prim.Native.Nat.{ℕ}
 use mathlib.Core.Path.{◌≡◌, refl, ◌∙◌}
 use mathlib.Core.List.{List, [], ◌∷◌}
-use lib.Dec.{eqb}
+use Rattle.std.proofs.Common.{is_ok}
 use Rattle.log_entry.specs.declared.Entry.{Entry}
-use Rattle.log_entry.specs.Refusal.{accepted}
 use Rattle.log_entry.proofs.Tests.{by_test}
 use Rattle.log_core.specs.declared.Effect.{Effect}
 use Rattle.log_core.specs.declared.Log.{Log}
@@ -16,7 +16,7 @@ use Rattle.log_core.specs.Log.{opened}
 stored_limit : (l : Log) (e : Entry) (f : Effect) → (stored l e f).stores ≡ l.stores
 unfolding stored
 stored_limit l e f =
-    by_test same e.take _ _ (λ h. refl)
+    by_test same (is_take e) _ _ (λ h. refl)
     (λ h. by_test same f.begins _ _ (λ k. refl) (λ k. refl))
   where
     same : Log → Type 0
@@ -26,7 +26,7 @@ pub enter_limit : (l : Log) (e : Entry) → (enter l e).log.stores ≡ l.stores
 unfolding enter entered
 enter_limit l e =
     let f = effect_of (parts_of l e) e in
-    by_test (λ (m : Log). m.stores ≡ l.stores) (eqb f.answer accepted) (stored l e f) l (λ h. stored_limit l e f) (λ h. refl)
+    by_test (λ (m : Log). m.stores ≡ l.stores) (is_ok f.answer) (stored l e f) l (λ h. stored_limit l e f) (λ h. refl)
 
 pub feed_limit : (l : Log) (es : List Entry) → (feed l es).stores ≡ l.stores
 unfolding feed

@@ -1,4 +1,5 @@
 -- A replay as it is filled: what stands in it by now, with what is left, is the whole.
+use Rattle.log_votes.specs.Vote.{vote_update}
 use Prim.Native.Nat.{ℕ, suc, ◌+◌, ◌-◌, ◌<◌, ◌≤◌}
 use mathlib.Core.Bool.{false, true}
 use mathlib.Core.List.{List, [], ◌++◌, ◌∷◌, map}
@@ -46,7 +47,7 @@ module _ (store : ℕ) (rows : List Row) where
 
     module _ (h : t < length rows) where
       pub left_hit : replays store g (get_or rows t no_row) ≡ true
-          → left store rows g n t ≡ record { group = g; tx = t; update = (vote_of_store store (get_or rows t no_row)).update } ∷ left store rows g n (t + 1)
+          → left store rows g n t ≡ record { group = g; tx = t; update = vote_update (vote_of_store store (get_or rows t no_row)) } ∷ left store rows g n (t + 1)
       unfolding left group_replay
       left_hit k = rw (drop-cons rows t no_row h, k, add-one t)
 

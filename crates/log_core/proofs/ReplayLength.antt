@@ -1,5 +1,6 @@
 -- A replay has no more rows than the log: each row of the log is of one group, so at most one
 -- group's part of the replay has it.
+use Rattle.log_votes.specs.Vote.{vote_update}
 use Prim.Native.Nat.{ℕ, suc, ◌+◌, ◌≤◌, ◌<◌}
 use mathlib.Core.Path.{◌≡◌, refl, ◌∙◌}
 use mathlib.Core.Bool.{Bool, true, false, ◌&&◌, cond}
@@ -30,7 +31,7 @@ group_length store g tx [] = refl
 group_length store g tx (r ∷ rs) = by (replays store g r) (group_length store g (suc tx) rs)
   where
     by : (b : Bool) → length (group_replay store g (suc tx) rs) ≡ count store g rs
-        → length (cond b (record { group = g; tx = tx; update = (vote_of_store store r).update } ∷ group_replay store g (suc tx) rs) (group_replay store g (suc tx) rs))
+        → length (cond b (record { group = g; tx = tx; update = vote_update (vote_of_store store r) } ∷ group_replay store g (suc tx) rs) (group_replay store g (suc tx) rs))
         ≡ cond b 1 0 + count store g rs
     by true h = omega (arith, h)
     by false h = omega (arith, h)

@@ -1,12 +1,13 @@
 -- An entry to the same log with another limit: it is outside both limits or inside both.
+use Rattle.log_entry.specs.Entry.{is_take}
 use Prim.Native.Nat.{ℕ}
 use mathlib.Core.Path.{◌≡◌, refl, sym, ap, ◌∙◌}
 use mathlib.Core.Bool.{Bool, true, false, cond}
-use lib.Dec.{eqb}
+use Rattle.std.proofs.Common.{is_ok}
 use Rattle.log_entry.specs.declared.Entry.{Entry}
 use Rattle.log_entry.specs.Entry.{outside}
 use Rattle.log_entry.specs.Limits.{stores}
-use Rattle.log_entry.specs.Refusal.{accepted, first_refusal}
+use Rattle.log_entry.specs.Refusal.{first_refusal}
 use Rattle.log_entry.proofs.Theorems.{inside_is_in_full}
 use Rattle.log_core.specs.declared.Effect.{Effect}
 use Rattle.log_core.specs.declared.Entered.{Entered}
@@ -35,15 +36,15 @@ module _ (n : ℕ) (l : Log) (e : Entry) where
   stored_same : (f : Effect) → stored (with_limit n l) e f ≡ with_limit n (stored l e f)
   unfolding stored
   stored_same f =
-      sym (in_arms n e.take _ _
-      ∙ ap (λ (m : Log). cond e.take (with_holder (with_limit n l) e.process e.turn e.store) m) (in_arms n f.begins _ _))
+      sym (in_arms n (is_take e) _ _
+      ∙ ap (λ (m : Log). cond (is_take e) (with_holder (with_limit n l) e.process e.turn e.store) m) (in_arms n f.begins _ _))
 
   entered_same : (f : Effect) → entered (with_limit n l) e f ≡ answered (with_limit n (entered l e f).log) f.answer
   unfolding entered
   entered_same f =
       ap (λ (m : Log). answered m f.answer)
-      (ap (λ (m : Log). cond (eqb f.answer accepted) m (with_limit n l)) (stored_same f)
-      ∙ sym (in_arms n (eqb f.answer accepted) (stored l e f) l))
+      (ap (λ (m : Log). cond (is_ok f.answer) m (with_limit n l)) (stored_same f)
+      ∙ sym (in_arms n (is_ok f.answer) (stored l e f) l))
 
   enter_same : outside n e ≡ outside l.stores e → enter (with_limit n l) e ≡ answered (with_limit n (enter l e).log) (enter l e).answer
   unfolding enter entered

@@ -1,6 +1,7 @@
 -- "Replay of a store: by group, then tx, the (tx, update) of each committed tx with a kept commit
 -- vote of that store. Update 0 is replayed too." A transaction has a group exactly if it is
 -- committed (`group_iff_committed` of log_laws).
+use Rattle.log_votes.specs.Vote.{vote_update}
 use Rattle.std.specs.Prelude.{ℕ, suc, cond, List, [], ◌∷◌, ◌++◌, map, get_or, length, replicate}
 use Rattle.std.proofs.lemmas.List.Edits.{sets}
 use Rattle.log_entry.specs.Limits.{transactions}
@@ -22,7 +23,7 @@ unfoldable pub group_replay : ℕ → ℕ → ℕ → List Row → List Replayed
 group_replay store g tx [] = []
 group_replay store g tx (r ∷ rs) =
     cond (replays store g r)
-    (record { group = g; tx = tx; update = (vote_of_store store r).update } ∷ group_replay store g (suc tx) rs)
+    (record { group = g; tx = tx; update = vote_update (vote_of_store store r) } ∷ group_replay store g (suc tx) rs)
     (group_replay store g (suc tx) rs)
 
 -- the replay of n groups from g on

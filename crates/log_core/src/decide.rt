@@ -1,6 +1,6 @@
 // An entry decided on the few parts of the log that it concerns.
 ghost use Rattle.std.specs.Prelude.{false, ◌≡◌, length};
-ghost use Rattle.log_entry.specs.Entry.{outside};
+ghost use Rattle.log_entry.specs.Entry.{is_take, outside};
 ghost use Rattle.log_entry.specs.Limits.{stores};
 ghost use Rattle.log_core.specs.declared.Parts.{Parts};
 ghost use Rattle.log_core.specs.Decide.{effect_of, refusal, vote_parts_of};
@@ -8,24 +8,24 @@ ghost use Rattle.log_core.specs.Decide.{effect_of, refusal, vote_parts_of};
 use crate::group::next_group;
 use crate::refusal::take_refusal;
 use crate::{Effect, Parts, VoteParts};
-use log_entry::refusal::{ACCEPTED, OUTSIDE_LIMITS};
-use log_entry::{Entry, sets};
+use log_entry::refusal::{Answer, Refusal};
+use log_entry::{Entry, Request, sets};
 
 impl Parts {
     // The answer to the entry.
-    pub fn refusal(self, e: Entry) -> u8
+    pub fn refusal(self, e: Entry) -> Answer
         ensures { result ≡ refusal self e }
     {
         if e.outside(self.stores) {
-            return OUTSIDE_LIMITS;
+            return Err(Refusal::OutsideLimits);
         }
-        let holders = self.holders;
-        if e.take {
-            return take_refusal(holders, self.takers, self.latest, e);
+        match e.request {
+            Request::Take => take_refusal(self.holders, self.takers, self.latest, e),
+            Request::Vote { by, .. } => {
+                let by = by as usize;
+                self.row.vote_refusal(self.holders[by], self.turns[by], e)
+            }
         }
-        let turns = self.turns;
-        let by = e.by as usize;
-        self.row.vote_refusal(holders[by], turns[by], e)
     }
 
     // What the entry is answered, and what it changes.
@@ -36,33 +36,33 @@ impl Parts {
         let group = row.group;
         if e.outside(self.stores) {
             return Effect {
-                answer: OUTSIDE_LIMITS,
-                group: group,
+                answer: Err(Refusal::OutsideLimits),
+                group,
                 begins: false,
                 runs: false,
             };
         }
-        let holders = self.holders;
-        if e.take {
-            return Effect {
-                answer: take_refusal(holders, self.takers, self.latest, e),
-                group: group,
+        match e.request {
+            Request::Take => Effect {
+                answer: take_refusal(self.holders, self.takers, self.latest, e),
+                group,
                 begins: false,
                 runs: false,
-            };
+            },
+            Request::Vote { by, .. } => {
+                let by = by as usize;
+                let p = VoteParts {
+                    tally: row.tally(),
+                    clash: row.any_clash(e),
+                    group,
+                    holder: self.holders[by],
+                    turn: self.turns[by],
+                    groups: self.groups,
+                    remembered: self.remembered,
+                };
+                p.decide(e)
+            }
         }
-        let turns = self.turns;
-        let by = e.by as usize;
-        let p = VoteParts {
-            tally: row.tally(),
-            clash: row.any_clash(e),
-            group: group,
-            holder: holders[by],
-            turn: turns[by],
-            groups: self.groups,
-            remembered: self.remembered,
-        };
-        p.decide(e)
     }
 }
 
@@ -70,15 +70,15 @@ impl VoteParts {
     // What a vote within its limits is answered, and what it changes: on all parts of which these
     // are.
     pub fn decide(self, e: Entry) -> Effect
-        ensures { (p : Parts) → self ≡ vote_parts_of p e → length p.row.votes ≡ stores → outside p.stores e ≡ false → e.take ≡ false → result ≡ effect_of p e }
+        ensures { (p : Parts) → self ≡ vote_parts_of p e → length p.row.votes ≡ stores → outside p.stores e ≡ false → is_take e ≡ false → result ≡ effect_of p e }
     {
         let tally = self.tally;
         let group = self.group;
         let answer = tally.refusal(self.clash, self.holder, self.turn, e);
-        if answer != ACCEPTED {
+        if answer.is_err() {
             return Effect {
-                answer: answer,
-                group: group,
+                answer,
+                group,
                 begins: false,
                 runs: false,
             };
@@ -86,15 +86,15 @@ impl VoteParts {
         let o = tally.outcome_with(e);
         if !o.is_commit() {
             return Effect {
-                answer: ACCEPTED,
-                group: group,
+                answer: Ok(()),
+                group,
                 begins: false,
                 runs: o.is_open(),
             };
         }
-        let joins = sets::has32(self.remembered, e.tx);
+        let joins = sets::has(self.remembered, e.tx());
         Effect {
-            answer: ACCEPTED,
+            answer: Ok(()),
             group: next_group(self.groups, joins),
             begins: !joins,
             runs: false,

@@ -1,4 +1,5 @@
 // Entries taken into the log.
+ghost use Rattle.log_entry.specs.Entry.{is_take, tx_of};
 ghost use Rattle.std.specs.Prelude.{◌≡◌, cond, false, true, ◌<◌, ◌≤◌};
 ghost use Rattle.log_entry.specs.Entry.{outside, take_entry, vote_entry};
 ghost use Rattle.log_entry.specs.Limits.{transactions};
@@ -6,18 +7,15 @@ ghost use Rattle.log_core.specs.Enter.{enter, stored};
 
 use crate::group::remembered_in;
 use crate::{Effect, Entered, Log, Parts};
-use log_entry::Entry;
 use log_entry::limits::Update;
-use log_entry::refusal::{ACCEPTED, OUTSIDE_LIMITS};
+use log_entry::refusal::{Answer, Refusal};
+use log_entry::{Entry, Request};
 
 // The place of the row that an entry is decided on: a vote's transaction, and for a take any.
 pub fn row_place(e: Entry) -> usize
-    ensures { result ≡ cond e.take 0 e.tx }
+    ensures { result ≡ cond (is_take e) 0 (tx_of e) }
 {
-    if e.take {
-        return 0;
-    }
-    e.tx as usize
+    e.tx() as usize
 }
 
 impl Log {
@@ -54,29 +52,31 @@ impl Log {
         requires group_nonzero { f.begins ≡ true → (0 < f.group) × (f.group ≤ transactions) }
         ensures { result ≡ stored self e f }
     {
-        let store = e.store as usize;
-        if e.take {
-            let process = e.process as usize;
-            self.holders[store] = e.process;
-            self.turns[store] = e.turn;
-            self.latest[process] = e.turn;
-            self.takers[store] = self.takers[store] | (1u16 << e.process);
-            return self;
+        match e.request {
+            Request::Take => {
+                let store = e.store as usize;
+                self.holders[store] = e.process;
+                self.turns[store] = e.turn;
+                self.latest[e.process as usize] = e.turn;
+                self.takers[store] |= 1u16 << e.process;
+                self
+            }
+            Request::Vote { tx, .. } => {
+                let tx = tx as usize;
+                let mut row = self.rows[tx].keeping(e);
+                row.group = f.group;
+                if !f.begins {
+                    self.rows[tx] = row;
+                    return self;
+                }
+                let running = self.running_set();
+                self.rows[tx] = row;
+                self.groups = f.group;
+                let i = f.group - 1;
+                self.remembered[i as usize] = running;
+                self
+            }
         }
-        let tx = e.tx as usize;
-        let old = self.rows[tx];
-        let mut row = old.keeping(e);
-        row.group = f.group;
-        if !f.begins {
-            self.rows[tx] = row;
-            return self;
-        }
-        let running = self.running_set();
-        self.rows[tx] = row;
-        self.groups = f.group;
-        let i = f.group - 1;
-        self.remembered[i as usize] = running;
-        self
     }
 
     // Any entry: decided on its parts, and the effect stored.
@@ -86,7 +86,7 @@ impl Log {
         if e.outside(self.stores) {
             return Entered {
                 log: self,
-                answer: OUTSIDE_LIMITS,
+                answer: Err(Refusal::OutsideLimits),
             };
         }
         let store = e.store as usize;
@@ -104,7 +104,7 @@ impl Log {
             stores: self.stores,
         };
         let f = p.decide(e);
-        if f.answer != ACCEPTED {
+        if f.answer.is_err() {
             return Entered {
                 log: self,
                 answer: f.answer,
@@ -112,16 +112,16 @@ impl Log {
         }
         Entered {
             log: self.stored(e, f),
-            answer: ACCEPTED,
+            answer: Ok(()),
         }
     }
 
     // The answer to an entry.
-    pub fn answer_to(self, e: Entry) -> u8
+    pub fn answer_to(self, e: Entry) -> Answer
         ensures { result ≡ (enter self e).answer }
     {
         if e.outside(self.stores) {
-            return OUTSIDE_LIMITS;
+            return Err(Refusal::OutsideLimits);
         }
         let store = e.store as usize;
         let process = e.process as usize;

@@ -34,7 +34,7 @@ impl Log {
         ensures { result ≡ vote_at self tx store }
     {
         if TRANSACTIONS <= tx {
-            return Vote::none();
+            return Vote::Absent;
         }
         let row = self.rows[tx as usize];
         row.vote_of(store)

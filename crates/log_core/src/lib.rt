@@ -8,6 +8,7 @@ ghost use Rattle.log_core.specs.Replay.{no_replay};
 
 use log_entry::Limit;
 use log_entry::limits::{PROCESS_PLACES, STORE_PLACES, TRANSACTION_PLACES, Update};
+use log_entry::refusal::Answer;
 use log_votes::{Row, Tally};
 
 pub mod decide;
@@ -78,7 +79,7 @@ pub struct VoteParts {
 // What an entry is answered, and what it changes.
 #[derive(Clone, Copy)]
 pub struct Effect {
-    pub answer: u8,
+    pub answer: Answer,
     // The transaction's group after it.
     pub group: u8,
     // The vote begins a group.
@@ -91,7 +92,7 @@ pub struct Effect {
 #[derive(Clone, Copy)]
 pub struct Entered {
     pub log: Log,
-    pub answer: u8,
+    pub answer: Answer,
 }
 
 // A row of a replay.

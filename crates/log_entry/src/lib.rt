@@ -2,7 +2,7 @@
 #![tactic(auto)]
 
 ghost use Rattle.std.specs.Prelude.{◌≡◌};
-ghost use Rattle.log_entry.specs.Entry.{ill_formed, no_process, no_turn, outside, same_entry, take_entry, vote_entry};
+ghost use Rattle.log_entry.specs.Entry.{ill_formed, no_process, no_turn, outside, same_entry, take_entry, vote_entry, is_take, list_of, says_commit, tx_of};
 ghost use Rattle.log_entry.specs.Limits.{stores_with};
 
 use limits::{PROCESSES, SMALL_STORES, STORES, Update, no_list, stores_of, transactions_of};
@@ -11,24 +11,39 @@ pub mod limits;
 pub mod refusal;
 pub mod sets;
 
+// Document 01's say.
+#[derive(Clone, Copy, Debug, PartialEq, Eq)]
+pub enum Say {
+    Abort,
+    Commit,
+}
+
+// What the process asks for.
+#[derive(Clone, Copy, Debug, PartialEq, Eq)]
+pub enum Request {
+    // To hold the store.
+    Take,
+    // To keep a vote for the store.
+    Vote {
+        // The store that the voting process holds.
+        by: u8,
+        tx: u8,
+        // Document 01's list: bit s for store s.
+        list: u8,
+        say: Say,
+        update: Update,
+    },
+}
+
 // Document 01's entries: `take` (process, store), or `vote` (process, by, store, tx, list, say,
-// update). Document 02: "Takes and votes gain `turn=`". What a take does not use is 0.
-#[derive(Clone, Copy)]
+// update). Document 02: "Takes and votes gain `turn=`".
+#[derive(Clone, Copy, Debug, PartialEq, Eq)]
 pub struct Entry {
-    // A take, and else a vote.
-    pub take: bool,
     pub process: u8,
     // The turn of the process: in which of its starts it is.
     pub turn: u8,
-    // The store that the voting process holds.
-    pub by: u8,
     pub store: u8,
-    pub tx: u8,
-    // Document 01's list: bit s for store s.
-    pub participants: u8,
-    // Document 01's say: commit, and else abort.
-    pub commit: bool,
-    pub update: Update,
+    pub request: Request,
 }
 
 // The two limits that a log may be opened with.
@@ -71,15 +86,10 @@ impl Entry {
         ensures { result ≡ take_entry process turn store }
     {
         Entry {
-            take: true,
-            process: process,
-            turn: turn,
-            by: 0,
-            store: store,
-            tx: 0,
-            participants: 0,
-            commit: false,
-            update: 0,
+            process,
+            turn,
+            store,
+            request: Request::Take,
         }
     }
 
@@ -95,56 +105,105 @@ impl Entry {
     ) -> Entry
         ensures { result ≡ vote_entry process turn by store tx list commit update }
     {
+        let say = if commit { Say::Commit } else { Say::Abort };
         Entry {
-            take: false,
-            process: process,
-            turn: turn,
-            by: by,
-            store: store,
-            tx: tx,
-            participants: list,
-            commit: commit,
-            update: update,
+            process,
+            turn,
+            store,
+            request: Request::Vote {
+                by,
+                tx,
+                list,
+                say,
+                update,
+            },
         }
     }
 
+    // Whether it is a take, and else a vote.
+    pub fn is_take(self) -> bool
+        ensures { result ≡ is_take self }
+    {
+        matches!(self.request, Request::Take)
+    }
+
+    // The transaction that a vote is on. A take is on none: 0.
+    pub fn tx(self) -> u8
+        ensures { result ≡ tx_of self }
+    {
+        match self.request {
+            Request::Take => 0,
+            Request::Vote { tx, .. } => tx,
+        }
+    }
+
+    // The list of a vote. A take has none: 0.
+    pub fn list(self) -> u8
+        ensures { result ≡ list_of self }
+    {
+        match self.request {
+            Request::Take => 0,
+            Request::Vote { list, .. } => list,
+        }
+    }
+
+    // Whether it is a vote that says commit.
+    pub fn says_commit(self) -> bool
+        ensures { result ≡ says_commit self }
+    {
+        matches!(
+            self.request,
+            Request::Vote {
+                say: Say::Commit,
+                ..
+            }
+        )
+    }
+
     // Refusal 2, by a log of limit n: a number outside its limits.
+    #[tactic(auto, unfolding(crate::specs::Entry::outside))]
     pub fn outside(self, n: u8) -> bool
         ensures { result ≡ outside n self }
     {
         let stores = stores_of(n);
-        let three = no_process(self.process) | no_turn(self.turn) | (stores <= self.store);
-        if self.take {
-            return three;
+        if no_process(self.process) || no_turn(self.turn) || stores <= self.store {
+            return true;
         }
-        let beyond = (stores <= self.by) | (transactions_of(n) <= self.tx);
-        three | beyond | no_list(n, self.participants)
+        match self.request {
+            Request::Take => false,
+            Request::Vote { by, tx, list, .. } => {
+                stores <= by || transactions_of(n) <= tx || no_list(n, list)
+            }
+        }
     }
 
-    // Refusal 7, of a vote.
+    // Refusal 7, of a vote. A take names no list, and so its store is not in it.
+    #[tactic(auto, unfolding(crate::specs::Entry::ill_formed))]
     pub fn ill_formed(self) -> bool
         ensures { result ≡ ill_formed self }
     {
-        let list = self.participants;
-        let lacks = !sets::has8(list, self.store) | !sets::has8(list, self.by);
-        if self.commit {
-            return lacks | (self.by != self.store);
+        let Request::Vote {
+            by,
+            list,
+            say,
+            update,
+            ..
+        } = self.request
+        else {
+            return true;
+        };
+        let lacks = !sets::has(list, self.store) || !sets::has(list, by);
+        match say {
+            Say::Commit => lacks || by != self.store,
+            Say::Abort => lacks || update != 0,
         }
-        lacks | (self.update != 0)
     }
 
     // Whether the two are equal in all values.
+    #[tactic(auto, unfolding(crate::specs::Entry::same_entry))]
     pub fn same(self, other: Entry) -> bool
         ensures { result ≡ same_entry self other }
     {
-        (self.take == other.take)
-            & (self.process == other.process)
-            & (self.turn == other.turn)
-            & (self.by == other.by)
-            & (self.store == other.store)
-            & (self.tx == other.tx)
-            & (self.participants == other.participants)
-            & (self.commit == other.commit)
-            & (self.update == other.update)
+        self == other
     }
 }

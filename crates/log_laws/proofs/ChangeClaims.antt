@@ -7,14 +7,15 @@ use lib.ListN.{get_or}
 use lib.Seq.{get_or-set_other}
 use Rattle.log_entry.specs.declared.Entry.{Entry}
 use Rattle.log_entry.specs.Bits.{has}
+use Rattle.log_entry.specs.Entry.{tx_of}
 use Rattle.log_votes.specs.declared.Row.{Row}
-use Rattle.log_votes.specs.Row.{keeping, no_row, no_vote, vote_of_store}
+use Rattle.log_votes.specs.Row.{no_row, no_vote, vote_of_store}
 use Rattle.log_core.specs.declared.Log.{Log}
 use Rattle.log_core.specs.Log.{row_of}
 use Rattle.log_laws.specs.Changes.{OnlyHolderChanges, OnlyVoteChanges, TakeChangesOnly, VoteChangesOnly}
 use Rattle.log_laws.specs.Reached.{reached}
 use Rattle.log_laws.proofs.Places.{set_either}
-use Rattle.log_laws.proofs.Steps.{Holders, answer_cases, holders_of, voted, voted_holders, voted_limit, voted_rows}
+use Rattle.log_laws.proofs.Steps.{Holders, answer_cases, holders_of, row_with, voted, voted_holders, voted_limit, voted_rows}
 use Rattle.log_entry.proofs.Tests.{opposed}
 
 pub only_holder : TakeChangesOnly
@@ -47,28 +48,28 @@ only_holder es e t =
 
 module _ (l : Log) (e : Entry) where
   r : Row
-  r = keeping (row_of l e.tx) e
+  r = row_with l e
 
   -- another row is as it was
-  other_row : (t : ℕ) → t ≢ e.tx → row_of (voted l e.tx r) t ≡ row_of l t
+  other_row : (t : ℕ) → t ≢ tx_of e → row_of (voted l (tx_of e) r) t ≡ row_of l t
   unfolding r
   other_row t n =
-      ap (λ (rows : List Row). get_or rows t no_row) (voted_rows l e.tx r)
-      ∙ get_or-set_other l.rows e.tx t _ no_row n
+      ap (λ (rows : List Row). get_or rows t no_row) (voted_rows l (tx_of e) r)
+      ∙ get_or-set_other l.rows (tx_of e) t _ no_row n
 
   -- and so is another store's vote
-  other_vote : (s : ℕ) → s ≢ e.store → vote_of_store s (row_of (voted l e.tx r) e.tx) ≡ vote_of_store s (row_of l e.tx)
+  other_vote : (s : ℕ) → s ≢ e.store → vote_of_store s (row_of (voted l (tx_of e) r) (tx_of e)) ≡ vote_of_store s (row_of l (tx_of e))
   unfolding r
   other_vote s n =
-      ap (λ (rows : List Row). vote_of_store s (get_or rows e.tx no_row)) (voted_rows l e.tx r)
-      ∙ set_either (λ (x : Row). vote_of_store s x ≡ vote_of_store s (row_of l e.tx)) l.rows e.tx e.tx _ no_row
-      (λ k. get_or-set_other (row_of l e.tx).votes e.store s _ no_vote n)
+      ap (λ (rows : List Row). vote_of_store s (get_or rows (tx_of e) no_row)) (voted_rows l (tx_of e) r)
+      ∙ set_either (λ (x : Row). vote_of_store s x ≡ vote_of_store s (row_of l (tx_of e))) l.rows (tx_of e) (tx_of e) _ no_row
+      (λ k. get_or-set_other (row_of l (tx_of e)).votes e.store s _ no_vote n)
       refl
 
 pub only_vote : VoteChangesOnly
 unfolding r
 only_vote es e t =
-    answer_cases (λ (m : Log). OnlyVoteChanges l m e.tx e.store) l e
+    answer_cases (λ (m : Log). OnlyVoteChanges l m (tx_of e) e.store) l e
     (record {
       holders = refl;
       turns = refl;
@@ -85,7 +86,7 @@ only_vote es e t =
       turns = ap (λ (x : Holders). x.turns) same;
       takers = ap (λ (x : Holders). x.takers) same;
       latest = ap (λ (x : Holders). x.latest) same;
-      limit = voted_limit l e.tx (keeping (row_of l e.tx) e);
+      limit = voted_limit l (tx_of e) (row_with l e);
       other_stores = λ s n. other_vote l e s n;
       other_votes = λ t s n. ap (λ (x : Row). vote_of_store s x) (other_row l e t n);
       other_groups = λ t n. ap (λ (x : Row). x.group) (other_row l e t n);
@@ -94,5 +95,5 @@ only_vote es e t =
     l : Log
     l = reached es
 
-    same : holders_of (voted l e.tx (keeping (row_of l e.tx) e)) ≡ holders_of l
-    same = voted_holders l e.tx (keeping (row_of l e.tx) e)
+    same : holders_of (voted l (tx_of e) (row_with l e)) ≡ holders_of l
+    same = voted_holders l (tx_of e) (row_with l e)

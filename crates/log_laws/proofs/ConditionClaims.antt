@@ -8,10 +8,11 @@ use lib.Dec.{eqb, ltb}
 use borrow.Author.Tests.{eq-eqb, eqb-true, lt-ltb, ltb-true, not-false, not-true}
 use Rattle.log_entry.specs.declared.Entry.{Entry}
 use Rattle.log_entry.specs.Bits.{has, within}
-use Rattle.log_entry.specs.Entry.{ill_formed}
+use Rattle.log_entry.specs.Entry.{by_of, ill_formed, list_of, says_commit, tx_of, update_in}
 use Rattle.log_votes.specs.Outcome.{is_commit}
 use Rattle.log_votes.specs.Refusal.{clashes, is_clash}
 use Rattle.log_votes.specs.Row.{no_vote}
+use Rattle.log_votes.specs.Vote.{vote_list}
 use Rattle.log_core.specs.declared.Log.{Log}
 use Rattle.log_core.specs.Log.{held_before, holder_of, latest_of, row_of, turn_of, vote_at}
 use Rattle.log_core.specs.Refusal.{is_other, wrong_turn}
@@ -20,7 +21,7 @@ use Rattle.log_laws.specs.Reached.{reached}
 use Rattle.log_laws.proofs.Feed.{wf_reached}
 use Rattle.log_laws.proofs.Holding.{holds_only}
 use Rattle.log_laws.proofs.LastTakes.{latest_exactly}
-use Rattle.log_laws.proofs.Outcomes.{kept_in}
+use Rattle.log_laws.proofs.Outcomes.{commit_from, commit_parts, kept_in}
 use Rattle.log_laws.proofs.Scans.{none_found, none_here}
 use Rattle.log_laws.proofs.Sets.{within_by, within_has}
 use Rattle.log_laws.proofs.TakenBefore.{held_exactly}
@@ -33,20 +34,20 @@ unfolding ill_formed
 ill_formed_by_values e = (well, ill_not)
   where
     a : Bool
-    a = not (has e.participants e.store)
+    a = not (has (list_of e) e.store)
 
     b : Bool
-    b = not (has e.participants e.by)
+    b = not (has (list_of e) (by_of e))
 
-    own : e.commit ≡ true → cond e.commit (not (eqb e.by e.store)) (not (eqb e.update 0)) ≡ false → e.by ≡ e.store
+    own : says_commit e ≡ true → cond (says_commit e) (not (eqb (by_of e) e.store)) (not (eqb (update_in e) 0)) ≡ false → by_of e ≡ e.store
     own c h =
-        eqb-true e.by e.store
-        (not-false _ (ap (λ (x : Bool). cond x (not (eqb e.by e.store)) (not (eqb e.update 0))) (sym c) ∙ h))
+        eqb-true (by_of e) e.store
+        (not-false _ (ap (λ (x : Bool). cond x (not (eqb (by_of e) e.store)) (not (eqb (update_in e) 0))) (sym c) ∙ h))
 
-    zero : e.commit ≡ false → cond e.commit (not (eqb e.by e.store)) (not (eqb e.update 0)) ≡ false → e.update ≡ 0
+    zero : says_commit e ≡ false → cond (says_commit e) (not (eqb (by_of e) e.store)) (not (eqb (update_in e) 0)) ≡ false → update_in e ≡ 0
     zero c h =
-        eqb-true e.update 0
-        (not-false _ (ap (λ (x : Bool). cond x (not (eqb e.by e.store)) (not (eqb e.update 0))) (sym c) ∙ h))
+        eqb-true (update_in e) 0
+        (not-false _ (ap (λ (x : Bool). cond x (not (eqb (by_of e) e.store)) (not (eqb (update_in e) 0))) (sym c) ∙ h))
 
     well : ill_formed e ≡ false → WellFormed e
     well h =
@@ -58,12 +59,12 @@ ill_formed_by_values e = (well, ill_not)
           abort_zero = λ c. zero c (neither_right (a || b) _ h);
         }
 
-    last : (t : Bool) → e.commit ≡ t → WellFormed e → cond t (not (eqb e.by e.store)) (not (eqb e.update 0)) ≡ false
-    last true c w = ap not (eq-eqb e.by e.store (w.commit_own c))
-    last false c w = ap not (eq-eqb e.update 0 (w.abort_zero c))
+    last : (t : Bool) → says_commit e ≡ t → WellFormed e → cond t (not (eqb (by_of e) e.store)) (not (eqb (update_in e) 0)) ≡ false
+    last true c w = ap not (eq-eqb (by_of e) e.store (w.commit_own c))
+    last false c w = ap not (eq-eqb (update_in e) 0 (w.abort_zero c))
 
     ill_not : WellFormed e → ill_formed e ≡ false
-    ill_not w = neither (a || b) _ (neither a b (ap not w.lists_store) (ap not w.lists_by)) (last e.commit refl w)
+    ill_not w = neither (a || b) _ (neither a b (ap not w.lists_store) (ap not w.lists_by)) (last (says_commit e) refl w)
 
 -- ---- 8
 
@@ -72,39 +73,39 @@ differs_exactly : (m n : ℕ) → (not (eqb m n) ≡ false) ↔ (m ≡ n)
 differs_exactly m n = (λ h. eqb-true m n (not-false (eqb m n) h), λ h. ap not (eq-eqb m n h))
 
 pub holds_not_by_holder : HoldsNotExactly
-holds_not_by_holder l e = differs_exactly (holder_of l e.by) e.process
+holds_not_by_holder l e = differs_exactly (holder_of l (by_of e)) e.process
 
 -- ---- 9
 
 fits : (e : Entry) (list : ℕ) → clashes e list ≡ false → Fits e list
 fits e list h = record {
-  same_list = λ c. sym (eqb-true list e.participants (not-false _ (at true c)));
-  within_list = λ c t m. within_has e.participants list t (not-false _ (at false c)) m;
+  same_list = λ c. sym (eqb-true list (list_of e) (not-false _ (at true c)));
+  within_list = λ c t m. within_has (list_of e) list t (not-false _ (at false c)) m;
 }
   where
-    at : (t : Bool) → e.commit ≡ t → cond t (not (eqb list e.participants)) (not (within e.participants list)) ≡ false
-    at t c = ap (λ (x : Bool). cond x (not (eqb list e.participants)) (not (within e.participants list))) (sym c) ∙ h
+    at : (t : Bool) → says_commit e ≡ t → cond t (not (eqb list (list_of e))) (not (within (list_of e) list)) ≡ false
+    at t c = ap (λ (x : Bool). cond x (not (eqb list (list_of e))) (not (within (list_of e) list))) (sym c) ∙ h
 
 fits_not : (e : Entry) (list : ℕ) → Fits e list → clashes e list ≡ false
-fits_not e list f = go e.commit refl
+fits_not e list f = go (says_commit e) refl
   where
-    go : (t : Bool) → e.commit ≡ t → cond t (not (eqb list e.participants)) (not (within e.participants list)) ≡ false
-    go true c = ap not (eq-eqb list e.participants (sym (f.same_list c)))
-    go false c = ap not (within_by e.participants list (f.within_list c))
+    go : (t : Bool) → says_commit e ≡ t → cond t (not (eqb list (list_of e))) (not (within (list_of e) list)) ≡ false
+    go true c = ap not (eq-eqb list (list_of e) (sym (f.same_list c)))
+    go false c = ap not (within_by (list_of e) list (f.within_list c))
 
 pub clash_by_lists : ClashExactly
 clash_by_lists l e = (
   λ h s k.
-      let v = vote_at l e.tx s in
-      fits e v.participants
-      (and_false (is_commit s v) (clashes e v.participants)
-      (none_here (is_clash e) no_vote (row_of l e.tx).votes h s (kept_in (row_of l e.tx).votes s k.0))
-      (both v.kept v.commit k.0 k.1)),
-  λ f. none_found (is_clash e) no_vote (row_of l e.tx).votes (λ s b m.
-      let v = vote_at l e.tx s in
-      let c = and_left (is_commit s v) (clashes e v.participants) m in
-      opposed (and_right (is_commit s v) (clashes e v.participants) m)
-      (fits_not e v.participants (f s (and_left v.kept v.commit c, and_right v.kept v.commit c)))),
+      let v = vote_at l (tx_of e) s in
+      fits e (vote_list v)
+      (and_false (is_commit s v) (clashes e (vote_list v))
+      (none_here (is_clash e) no_vote (row_of l (tx_of e)).votes h s (kept_in (row_of l (tx_of e)).votes s k.0))
+      (commit_from v k)),
+  λ f. none_found (is_clash e) no_vote (row_of l (tx_of e)).votes (λ s b m.
+      let v = vote_at l (tx_of e) s in
+      let c = and_left (is_commit s v) (clashes e (vote_list v)) m in
+      opposed (and_right (is_commit s v) (clashes e (vote_list v)) m)
+      (fits_not e (vote_list v) (f s (commit_parts v c)))),
 )
 
 -- ---- 11
@@ -156,4 +157,4 @@ stale_by_takes es e = (
         )
 
 pub other_turn_by_turn : OtherTurnExactly
-other_turn_by_turn l e = differs_exactly (turn_of l e.by) e.turn
+other_turn_by_turn l e = differs_exactly (turn_of l (by_of e)) e.turn

@@ -9,6 +9,7 @@ use Rattle.log_votes.specs.declared.Row.{Row}
 use Rattle.log_votes.specs.declared.Vote.{Vote}
 use Rattle.log_core.specs.Log.{empty_log, opened, row_of}
 use Rattle.log_votes.specs.Row.{no_row, no_vote, vote_of_store}
+use Rattle.log_votes.specs.Vote.{vote_kept}
 use Rattle.log_entry.proofs.Tests.{below_or_not}
 
 abbrev pub blank : Row
@@ -22,8 +23,8 @@ replicate_cases P n i a d p q =
     (λ h. subst P (sym (get_or-eq_default (replicate n a) d {n = i} (rw (length-replicate n a) h))) q)
     (below_or_not i n)
 
-pub blank_kept : (s : ℕ) → (vote_of_store s blank).kept ≡ false
-blank_kept s = replicate_cases (λ (v : Vote). v.kept ≡ false) stores s no_vote no_vote refl refl
+pub blank_kept : (s : ℕ) → vote_kept (vote_of_store s blank) ≡ false
+blank_kept s = replicate_cases (λ (v : Vote). vote_kept v ≡ false) stores s no_vote no_vote refl refl
 
 pub empty_rows : (P : Row → Type 0) (tx : ℕ) → P blank → P no_row → P (row_of empty_log tx)
 unfolding opened

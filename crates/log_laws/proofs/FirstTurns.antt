@@ -10,9 +10,10 @@ use lib.Dec.{eqb, leb, ltb}
 use lib.ListN.{get_or, length}
 use borrow.Author.Tests.{eq-eqb, eqb-true, le-ltb, ne_eqb, not-false}
 use Rattle.log_entry.specs.declared.Entry.{Entry}
-use Rattle.log_entry.specs.Entry.{ill_formed, no_process, no_turn, outside}
+use Rattle.log_entry.specs.Entry.{by_of, ill_formed, is_take, no_process, no_turn, outside, tx_of}
 use Rattle.log_entry.specs.Limits.{stores}
-use Rattle.log_entry.specs.Refusal.{Check, accepted, check, first_refusal, wrong_turn}
+use Rattle.log_entry.specs.Number.{Answer}
+use Rattle.log_entry.specs.Refusal.{Check, accepted, check, first_refusal, holds_another, ill_formed_vote, kept_already, not_holder, other_list, outside_limits, wrong_turn}
 use Rattle.log_core.specs.declared.Log.{Log}
 use Rattle.log_core.proofs.EnterLaws.{refusal_of}
 use Rattle.log_core.specs.Log.{held_before, holder_of, latest_of, row_of, turn_of}
@@ -45,23 +46,23 @@ last_idle [] c h = rw (h tt)
 last_idle (b ∷ cs) c h = go b.applies refl (last_idle cs c)
   where
     go : (t : Bool) → b.applies ≡ t → ((None (conditions cs) → c.applies ≡ false) → first_refusal (cs ++ c ∷ []) ≡ first_refusal cs)
-        → cond t b.number (first_refusal (cs ++ c ∷ [])) ≡ cond t b.number (first_refusal cs)
+        → cond t b.answer (first_refusal (cs ++ c ∷ [])) ≡ cond t b.answer (first_refusal cs)
     go true k rest = refl
     go false k rest = rest (λ n. h (k, n))
 
 -- 11 of the base is 11 or 12
-agrees_same : (n : ℕ) → n ≢ 12 → TakeAgrees n n
+agrees_same : (n : Answer) → n ≢ wrong_turn → TakeAgrees n n
 agrees_same n h = record { is_0 = (λ k. k, λ k. k); is_2 = (λ k. k, λ k. k); is_11 = (⊎_elim (λ k. k) (λ k. absurd (h k)), λ k. inl k) }
 
-take_agrees : (o a s : Bool) → TakeAgrees (cond o 2 (cond a 11 (cond s 12 0))) (cond o 2 (cond (a || s) 11 0))
-take_agrees true a s = agrees_same 2 (omega arith)
-take_agrees false true s = agrees_same 11 (omega arith)
+take_agrees : (o a s : Bool) → TakeAgrees (cond o outside_limits (cond a holds_another (cond s wrong_turn accepted))) (cond o outside_limits (cond (a || s) holds_another accepted))
+take_agrees true a s = agrees_same outside_limits (grind arith)
+take_agrees false true s = agrees_same holds_another (grind arith)
 take_agrees false false true = record {
-  is_0 = (λ h. absurd (omega (arith, h)), λ h. absurd (omega (arith, h)));
-  is_2 = (λ h. absurd (omega (arith, h)), λ h. absurd (omega (arith, h)));
+  is_0 = (λ h. absurd (grind (arith, h)), λ h. absurd (grind (arith, h)));
+  is_2 = (λ h. absurd (grind (arith, h)), λ h. absurd (grind (arith, h)));
   is_11 = (λ h. refl, λ h. inr refl);
 }
-take_agrees false false false = agrees_same 0 (omega arith)
+take_agrees false false false = agrees_same accepted (grind arith)
 
 -- ---- an entry of turn 1, to a log whose last turns are 1
 
@@ -73,12 +74,12 @@ outside_same : (e : Entry) → e.turn ≡ 1 → outside stores e ≡ base_outsid
 unfolding outside base_outside
 outside_same e t = without_false (no_process e.process) (no_turn e.turn) (leb stores e.store) _ (ap no_turn t)
 
-by_kind : Log → Entry → Bool → Bool → ℕ
+by_kind : Log → Entry → Bool → Bool → Answer
 by_kind l e o t =
-    first_refusal (check 2 o ∷ cond t (base_take_checks l.holders (get_or l.takers e.store 0) e) (base_vote_checks l.holders (row_of l e.tx) e))
+    first_refusal (check outside_limits o ∷ cond t (base_take_checks l.holders (get_or l.takers e.store 0) e) (base_vote_checks l.holders (row_of l (tx_of e)) e))
 
 -- the base's answer, by the kind of entry
-base_answer_lem : (l : Log) (e : Entry) (t : Bool) → l.stores ≡ stores → e.turn ≡ 1 → e.take ≡ t → base_answer l e ≡ by_kind l e (outside l.stores e) t
+base_answer_lem : (l : Log) (e : Entry) (t : Bool) → l.stores ≡ stores → e.turn ≡ 1 → is_take e ≡ t → base_answer l e ≡ by_kind l e (outside l.stores e) t
 unfolding base_refusal by_kind
 base_answer_lem l e t full first k = ap₂ (by_kind l e) (sym (ap (λ (n : ℕ). outside n e) full ∙ outside_same e first)) k
 
@@ -90,16 +91,16 @@ module _ (l : Log) (e : Entry) (full : l.stores ≡ stores) (w : Wf l) (early : 
   -- who holds a store holds it in turn 1, so a vote of the holder has the holder's turn
   pub in_turn : outside l.stores e ≡ false → holds_not l e ≡ false → other_turn l e ≡ false
   in_turn o h =
-      let holds : holder_of l e.by ≡ e.process = eqb-true (holder_of l e.by) e.process (not-false _ h) in
+      let holds : holder_of l (by_of e) ≡ e.process = eqb-true (holder_of l (by_of e)) e.process (not-false _ h) in
       let n = process_from_1 l.stores e o in
-      ap not (eq-eqb (turn_of l e.by) e.turn
-      (w.holding.last_turn e.process e.by n holds ∙ took_first e.process e.by (w.holding.in_past e.process e.by n holds) ∙ sym first))
+      ap not (eq-eqb (turn_of l (by_of e)) e.turn
+      (w.holding.last_turn e.process (by_of e) n holds ∙ took_first e.process (by_of e) (w.holding.in_past e.process (by_of e) n holds) ∙ sym first))
 
-  pub votes_same : e.take ≡ false → refusal_of l e ≡ base_answer l e
+  pub votes_same : is_take e ≡ false → refusal_of l e ≡ base_answer l e
   unfolding by_kind
   votes_same k =
       vote_refusal_lem l e k
-      ∙ last_idle (check 2 (outside l.stores e) ∷ check 7 (ill_formed e) ∷ check 8 (holds_not l e) ∷ check 9 (clash l e) ∷ check 10 (kept l e) ∷ [])
+      ∙ last_idle (check outside_limits (outside l.stores e) ∷ check ill_formed_vote (ill_formed e) ∷ check not_holder (holds_not l e) ∷ check other_list (clash l e) ∷ check kept_already (kept l e) ∷ [])
       (check wrong_turn (other_turn l e)) (λ n. in_turn n.0 n.1.1.0)
       ∙ sym (base_answer_lem l e false full first k)
 
@@ -158,22 +159,22 @@ module _ (l : Log) (e : Entry) (full : l.stores ≡ stores) (w : Wf l) (early : 
           (both (eqb (holder_of l r.0) e.process) (not (eqb r.0 e.store)) r.2 (ap not (ne_eqb r.0 e.store k)))))
           (same_number r.0 e.store)
 
-  pub takes_agree : e.take ≡ true → TakeAgrees (refusal_of l e) (base_answer l e)
+  pub takes_agree : is_take e ≡ true → TakeAgrees (refusal_of l e) (base_answer l e)
   unfolding by_kind first_refusal
   takes_agree k =
       subst₂ TakeAgrees (sym (take_refusal l e k)) (sym (base_answer_lem l e true full first k)) (go (outside l.stores e) refl)
     where
       go : (o : Bool) → outside l.stores e ≡ o
-          → TakeAgrees (cond o 2 (cond (another l e) 11 (cond (stale l e) 12 0)))
-          (cond o 2 (cond (holds_some l.holders e.process || held_before l e.process e.store) 11 0))
+          → TakeAgrees (cond o outside_limits (cond (another l e) holds_another (cond (stale l e) wrong_turn accepted)))
+          (cond o outside_limits (cond (holds_some l.holders e.process || held_before l e.process e.store) holds_another accepted))
       go true o = take_agrees true (another l e) (stale l e)
       go false o =
-          subst (λ (b : Bool). TakeAgrees (cond (another l e) 11 (cond (stale l e) 12 0)) (cond b 11 0)) (sym (held_same o))
+          subst (λ (b : Bool). TakeAgrees (cond (another l e) holds_another (cond (stale l e) wrong_turn accepted)) (cond b holds_another accepted)) (sym (held_same o))
           (take_agrees false (another l e) (stale l e))
 
   pub accepts_same : (refusal_of l e ≡ accepted) ↔ (base_answer l e ≡ accepted)
-  accepts_same = go e.take refl
+  accepts_same = go (is_take e) refl
     where
-      go : (t : Bool) → e.take ≡ t → (refusal_of l e ≡ accepted) ↔ (base_answer l e ≡ accepted)
+      go : (t : Bool) → is_take e ≡ t → (refusal_of l e ≡ accepted) ↔ (base_answer l e ≡ accepted)
       go true k = (takes_agree k).is_0
       go false k = (λ h. sym (votes_same k) ∙ h, λ h. votes_same k ∙ h)

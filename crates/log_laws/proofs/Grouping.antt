@@ -45,7 +45,7 @@ grouped_le (r ∷ rs) = omega (arith, mark_le r, grouped_le rs)
 
 grouped_set : (rows : List Row) (tx : ℕ) (r : Row) → tx < length rows → grouped (set rows tx r) + mark (get_or rows tx no_row) ≡ grouped rows + mark r
 unfolding grouped
-grouped_set [] tx r h = absurd (let z : ⊥ = omega arith in z)
+grouped_set [] tx r h = absurd (omega arith)
 grouped_set (x ∷ xs) zero r h = omega arith
 grouped_set (x ∷ xs) (suc tx) r h = omega (arith, grouped_set xs tx r (omega arith))
 
@@ -96,6 +96,6 @@ grouping_set rows groups tx r more w h z f = record {
 
     new_group : (g : ℕ) → g ≤ more → groups < g → ((more ≡ groups) × (r.group ≤ groups)) ⊎ ((more ≡ groups + 1) × (r.group ≡ groups + 1))
         → (t : ℕ) × ((get_or (set rows tx r) t no_row).group ≡ g)
-    new_group g b k (inl a) = absurd (let y : ⊥ = omega (arith, a.0) in y)
+    new_group g b k (inl a) = absurd (omega (arith, a.0))
     new_group g b k (inr a) =
         (tx, set_cases (λ (x : Row). x.group ≡ g) rows tx tx r no_row h (λ m. omega (arith, a.0, a.1)) (λ m. absurd (m refl)))

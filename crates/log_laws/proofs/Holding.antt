@@ -12,6 +12,7 @@ use borrow.Author.Tests.{eq-eqb, eqb-true, eqb-false, ltb-false, not-false}
 use Rattle.log_entry.proofs.InsideLaws.{inside_process, inside_store, inside_turn}
 use Rattle.log_entry.specs.declared.Entry.{Entry}
 use Rattle.log_entry.specs.Bits.{has, with}
+use Rattle.log_entry.specs.Entry.{is_take}
 use Rattle.log_entry.specs.Limits.{stores}
 use Rattle.log_entry.specs.Refusal.{accepted}
 use Rattle.log_core.proofs.EnterLaws.{refusal_of, take_entered}
@@ -159,10 +160,10 @@ HadIn p t s l = (held_before l p s ≡ true) × (t ≤ latest_of l p)
 abbrev pub LostIn : ℕ → ℕ → ℕ → Log → Type 0
 LostIn p t s l = HadIn p t s l × (HoldsIn l p t s → ⊥)
 
-pub held_by : (l : Log) (e : Entry) → Sized l → e.take ≡ true → refusal_of l e ≡ accepted → HeldBy (enter l e).log e
+pub held_by : (l : Log) (e : Entry) → Sized l → is_take e ≡ true → refusal_of l e ≡ accepted → HeldBy (enter l e).log e
 held_by l e z t ok = subst (λ (x : Entered). HeldBy x.log e) (take_entered l e t ok) (taken_by l e z (take_ok l e t ok))
 
-pub taker_held : (l : Log) (e : Entry) → Sized l → e.take ≡ true → refusal_of l e ≡ accepted → held_before (enter l e).log e.process e.store ≡ true
+pub taker_held : (l : Log) (e : Entry) → Sized l → is_take e ≡ true → refusal_of l e ≡ accepted → held_before (enter l e).log e.process e.store ≡ true
 taker_held l e z t ok =
     subst (λ (x : Entered). held_before x.log e.process e.store ≡ true) (take_entered l e t ok) (taker_in_past l e z (take_ok l e t ok))
 

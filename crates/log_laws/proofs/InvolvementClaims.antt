@@ -4,6 +4,7 @@ use mathlib.Core.Path.{◌≡◌, refl, sym, ap, ap₂, ◌∙◌}
 use mathlib.Core.Bool.{Bool, true, false, cond, true≢false, false≢true}
 use mathlib.Core.List.{List, ◌++◌}
 use mathlib.Core.Logic.{◌⊎◌, ◌≢◌, inl, inr, ⊎_elim}
+use Rattle.std.proofs.lemmas.Bool.{and_parts, and_from}
 use Rattle.log_entry.specs.declared.Entry.{Entry}
 use Rattle.log_entry.specs.Bits.{has}
 use Rattle.log_votes.specs.declared.Involvement.{Involvement}
@@ -14,14 +15,15 @@ use Rattle.log_votes.specs.Involvement.{any_listing, commit_vote, involvement_of
 use Rattle.log_votes.specs.Outcome.{is_commit, is_commit_vote}
 use Rattle.log_votes.specs.Row.{no_vote}
 use Rattle.log_votes.specs.Scan.{any_from}
+use Rattle.log_votes.specs.Vote.{vote_commit, vote_kept, vote_list}
 use Rattle.log_core.specs.Log.{involvement_of, row_of, vote_at}
 use Rattle.log_laws.specs.Involvement.{AbortLists, InvolvementExactly, InvolvementStays, Involved, SomeCommitKept}
 use Rattle.log_laws.specs.Reached.{reached}
 use Rattle.log_laws.specs.Votes.{KeptCommit, Listed}
-use Rattle.log_laws.proofs.Outcomes.{kept_in}
+use Rattle.log_laws.proofs.Outcomes.{commit_from, commit_parts, kept_in}
 use Rattle.log_laws.proofs.Scans.{any_here, first_missing, first_passes, found}
 use Rattle.log_laws.proofs.Stays.{commit_stays, one_list_named, vote_stays}
-use Rattle.log_entry.proofs.Tests.{and_left, and_right, both, either, is_false, opposed}
+use Rattle.log_entry.proofs.Tests.{either, is_false, opposed}
 
 -- ---- the scans, by the kept votes
 
@@ -30,54 +32,51 @@ module _ (l : Log) (tx : ℕ) where
   lists store h =
       let r = found (is_listing store) no_vote (row_of l tx).votes h in
       let v = vote_at l tx r.0 in
-      (r.0, (and_left v.kept (has v.participants store) r.2, and_right v.kept (has v.participants store) r.2))
+      (r.0, and_parts (vote_kept v) (has (vote_list v) store) r.2)
 
   pub listed : (store s : ℕ) → Listed l tx s store → any_listing store (row_of l tx).votes ≡ true
   listed store s t =
       let v = vote_at l tx s in
-      any_here (is_listing store) no_vote (row_of l tx).votes s (kept_in (row_of l tx).votes s t.0) (both v.kept (has v.participants store) t.0 t.1)
-
-  commits_at : (s : ℕ) → is_commit s (vote_at l tx s) ≡ true → KeptCommit l tx s
-  commits_at s h = let v = vote_at l tx s in (and_left v.kept v.commit h, and_right v.kept v.commit h)
+      any_here (is_listing store) no_vote (row_of l tx).votes s (kept_in (row_of l tx).votes s t.0) (and_from (vote_kept v) (has (vote_list v) store) t.0 t.1)
 
   pub commits : any_from is_commit 0 (row_of l tx).votes ≡ true → SomeCommitKept l tx
-  commits h = let r = found is_commit no_vote (row_of l tx).votes h in (r.0, commits_at r.0 r.2)
+  commits h = let r = found is_commit no_vote (row_of l tx).votes h in (r.0, commit_parts (vote_at l tx r.0) r.2)
 
   pub committed : SomeCommitKept l tx → any_from is_commit 0 (row_of l tx).votes ≡ true
   committed t =
       let v = vote_at l tx t.0 in
-      any_here is_commit no_vote (row_of l tx).votes t.0 (kept_in (row_of l tx).votes t.0 t.1.0) (both v.kept v.commit t.1.0 t.1.1)
+      any_here is_commit no_vote (row_of l tx).votes t.0 (kept_in (row_of l tx).votes t.0 t.1.0) (commit_from v t.1)
 
   pub commit_or_none : SomeCommitKept l tx ⊎ (SomeCommitKept l tx → ⊥)
   commit_or_none = ⊎_elim (λ h. inl (commits h)) (λ h. inr (λ t. opposed (committed t) h)) (either (any_from is_commit 0 (row_of l tx).votes))
 
   -- a kept vote that is no commit is an abort
   pub abort_lists : (store s : ℕ) → (KeptCommit l tx s → ⊥) → Listed l tx s store → AbortLists l tx store
-  abort_lists store s none t = (s, (t.0, is_false (vote_at l tx s).commit (λ c. none (t.0, c))), t.1)
+  abort_lists store s none t = (s, (t.0, is_false (vote_commit (vote_at l tx s)) (λ c. none (t.0, c))), t.1)
 
   -- ---- the answer, by the commit vote
 
   by_vote : ℕ → Bool → ℕ → Involvement
   by_vote store kept list = cond kept (cond (has list store) Yes No) (cond (any_listing store (row_of l tx).votes) Yes Unknown)
 
-  by_first : (store : ℕ) (v : Vote) → commit_vote (row_of l tx).votes ≡ v → involvement_of l tx store ≡ by_vote store v.kept v.participants
+  by_first : (store : ℕ) (v : Vote) → commit_vote (row_of l tx).votes ≡ v → involvement_of l tx store ≡ by_vote store (vote_kept v) (vote_list v)
   unfolding involvement_of_votes by_vote
-  by_first store v is = ap (λ (x : Vote). by_vote store x.kept x.participants) is
+  by_first store v is = ap (λ (x : Vote). by_vote store (vote_kept x) (vote_list x)) is
 
   pub without_commit : (store : ℕ) → (SomeCommitKept l tx → ⊥) → involvement_of l tx store ≡ cond (any_listing store (row_of l tx).votes) Yes Unknown
   unfolding by_vote
-  without_commit store none = by_first store no_vote (first_missing is_commit_vote no_vote (row_of l tx).votes (λ s b h. none (s, commits_at s h)))
+  without_commit store none = by_first store no_vote (first_missing is_commit_vote no_vote (row_of l tx).votes (λ s b h. none (s, commit_parts (vote_at l tx s) h)))
 
 -- each kept commit vote decides, since all have one list
 pub by_commit : (es : List Entry) (tx store s : ℕ) → KeptCommit (reached es) tx s
-    → involvement_of (reached es) tx store ≡ cond (has (vote_at (reached es) tx s).participants store) Yes No
+    → involvement_of (reached es) tx store ≡ cond (has (vote_list (vote_at (reached es) tx s)) store) Yes No
 unfolding by_vote
 by_commit es tx store s k =
     let l = reached es in
     let votes = (row_of l tx).votes in
     let v = vote_at l tx s in
-    let first = first_passes is_commit_vote no_vote votes s (kept_in votes s k.0) (both v.kept v.commit k.0 k.1) in
-    let c : KeptCommit l tx first.0 = commits_at l tx first.0 first.2 in
+    let first = first_passes is_commit_vote no_vote votes s (kept_in votes s k.0) (commit_from v k) in
+    let c : KeptCommit l tx first.0 = commit_parts (vote_at l tx first.0) first.2 in
     by_first l tx store (vote_at l tx first.0) first.1 ∙ ap₂ (by_vote l tx store) c.0 (one_list_named es tx first.0 s c k)
 
 -- ---- which of the three
@@ -122,7 +121,7 @@ module _ (es : List Entry) (tx store : ℕ) where
   }
     where
       list : ℕ
-      list = (vote_at (reached es) tx c.0).participants
+      list = vote_list (vote_at (reached es) tx c.0)
 
       answer : involvement_of (reached es) tx store ≡ cond (has list store) Yes No
       answer = by_commit es tx store c.0 c.1
@@ -162,5 +161,5 @@ involvement_by_votes es tx store = ⊎_elim (with_commit es tx store) (with_none
 pub answer_stays : InvolvementStays
 answer_stays es more tx store c =
     by_commit (es ++ more) tx store c.0 (commit_stays es more tx c.0 c.1)
-    ∙ ap (λ (v : Vote). cond (has v.participants store) Yes No) (vote_stays es more tx c.0 c.1.0)
+    ∙ ap (λ (v : Vote). cond (has (vote_list v) store) Yes No) (vote_stays es more tx c.0 c.1.0)
     ∙ sym (by_commit es tx store c.0 c.1)

@@ -8,6 +8,7 @@ use native.Mathlib.Omega.{arith}
 use lib.ListN.{get_or}
 use Rattle.log_entry.proofs.InsideLaws.{inside_turn}
 use Rattle.log_entry.specs.declared.Entry.{Entry}
+use Rattle.log_entry.specs.Entry.{is_take}
 use Rattle.log_entry.specs.Limits.{process_places}
 use Rattle.log_entry.specs.Refusal.{accepted}
 use Rattle.log_core.proofs.EnterLaws.{accepted_inside, answer_is}
@@ -17,6 +18,7 @@ use Rattle.log_core.specs.Log.{empty_log, latest_of, opened}
 use Rattle.log_laws.specs.Conditions.{LastTake, LastTakeFrom, LatestExactly, TookFrom}
 use Rattle.log_laws.specs.Reached.{reached}
 use Rattle.log_laws.proofs.Accepted.{ok_accepted}
+use Rattle.log_laws.proofs.Answers.{accepts_or_not}
 use Rattle.log_laws.proofs.EmptyRows.{replicate_cases}
 use Rattle.log_laws.proofs.Feed.{feed_append, wf_reached}
 use Rattle.log_laws.proofs.Holding.{held_by}
@@ -37,15 +39,15 @@ TookNone l es p = (t s : ℕ) → TookFrom l es p t s → ⊥
 takes_or_none : (l : Log) (e : Entry) (p : ℕ) → Takes l e p e.turn e.store ⊎ TakesNone l e p
 takes_or_none l e p =
     ⊎_elim
-    (λ (t : e.take ≡ true). ⊎_elim
+    (λ (t : is_take e ≡ true). ⊎_elim
     (λ (q : e.process ≡ p). ⊎_elim
     (λ (a : (enter l e).answer ≡ accepted). inl (record { is_take = t; taker = q; in_turn = refl; taken = refl; is_accepted = a }))
     (λ (a : (enter l e).answer ≢ accepted). inr (λ _ _ k. a k.is_accepted))
-    (same_number (enter l e).answer accepted))
+    (accepts_or_not (enter l e).answer))
     (λ (q : e.process ≢ p). inr (λ _ _ k. q k.taker))
     (same_number e.process p))
-    (λ (t : e.take ≡ false). inr (λ _ _ k. opposed k.is_take t))
-    (either e.take)
+    (λ (t : is_take e ≡ false). inr (λ _ _ k. opposed k.is_take t))
+    (either (is_take e))
 
 -- ---- the last turn after an entry
 
@@ -146,7 +148,7 @@ latest_exactly es p t = (
   λ h. ⊎_elim
       (λ (k : LastTake es p (latest_of (reached es) p)). subst (λ (n : ℕ). LastTake es p n) h.1 k)
       (λ none. let z : latest_of (reached es) p ≡ 0 = latest_since empty_log es p none ∙ no_turn_at_first p in
-      absurd (let y : ⊥ = omega (arith, h.0, h.1, z) in y))
+      absurd (omega (arith, h.0, h.1, z)))
       (found_last empty_log es p wf_empty),
   turn_of_last es p t,
 )

@@ -15,6 +15,7 @@ pub mod Grouping
 pub mod Holding
 pub mod InvolvementChanges
 pub mod InvolvementClaims
+pub mod KeptVotes
 pub mod LastGroup
 pub mod LastTakes
 pub mod Limited

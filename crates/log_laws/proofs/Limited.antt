@@ -5,8 +5,9 @@ use mathlib.Core.Bool.{Bool, true, false, cond}
 use mathlib.Core.List.{List, [], ◌∷◌}
 use mathlib.Core.Logic.{◌↔◌}
 use Rattle.log_entry.specs.declared.Entry.{Entry}
-use Rattle.log_entry.specs.Entry.{outside}
+use Rattle.log_entry.specs.Entry.{is_take, outside}
 use Rattle.log_entry.specs.Limits.{stores}
+use Rattle.log_entry.specs.Number.{answer_number}
 use Rattle.log_entry.specs.Refusal.{outside_limits}
 use Rattle.log_entry.proofs.Tests.{by_test}
 use Rattle.log_core.specs.declared.Entered.{Entered}
@@ -37,8 +38,8 @@ answers_same : (n : ℕ) (l : Log) (es : List Entry) → l.stores ≡ stores →
 unfolding answers_to
 answers_same n l [] full h = refl
 answers_same n l (e ∷ es) full h =
-    ap (λ (x : Entered). x.answer ∷ answers_to x.log es) (inside_same n l e full h.0)
-    ∙ ap (λ (answers : List ℕ). (enter l e).answer ∷ answers) (answers_same n (enter l e).log es (full_after n l e full) h.1)
+    ap (λ (x : Entered). answer_number x.answer ∷ answers_to x.log es) (inside_same n l e full h.0)
+    ∙ ap (λ (answers : List ℕ). answer_number (enter l e).answer ∷ answers) (answers_same n (enter l e).log es (full_after n l e full) h.1)
 
 all_inside : (n : ℕ) (es : List Entry) → AllInside n es → inside n es ≡ es
 unfolding inside
@@ -53,7 +54,7 @@ pub limited_is_full : LimitedIsFull
 unfolding opened
 limited_is_full n es = fed_same n empty_log es (opened_limit stores)
 
-full_reached : (es : List Entry) → (reached es).stores ≡ stores
+pub full_reached : (es : List Entry) → (reached es).stores ≡ stores
 full_reached es = keeps_limit stores es
 
 pub every_limit_as_full : EveryLimitAsFull
@@ -87,8 +88,8 @@ outside_is_refused n es e = record {
     kept_limit = ap (λ (m : ℕ). outside m e) (keeps_limit n es)
 
     exactly : ((enter (limited n es) e).answer ≡ outside_limits) ↔ (outside (limited n es).stores e ≡ true)
-    exactly = go e.take refl
+    exactly = go (is_take e) refl
       where
-        go : (t : Bool) → e.take ≡ t → ((enter (limited n es) e).answer ≡ outside_limits) ↔ (outside (limited n es).stores e ≡ true)
+        go : (t : Bool) → is_take e ≡ t → ((enter (limited n es) e).answer ≡ outside_limits) ↔ (outside (limited n es).stores e ≡ true)
         go true k = (take_exactly (limited n es) e k).is_2
         go false k = (vote_exactly (limited n es) e k).is_2

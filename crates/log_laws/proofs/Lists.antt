@@ -26,7 +26,7 @@ module _ {A : Type 0} where
   in_either x (y ∷ xs) ys (inr h) = ⊎_elim (λ (k : In x xs). inl (inr k)) (λ k. inr k) (in_either x xs ys h)
 
   pub at_in : (d : A) (xs : List A) (i : ℕ) → i < length xs → In (get_or xs i d) xs
-  at_in d [] i h = absurd (let z : ⊥ = omega arith in z)
+  at_in d [] i h = absurd (omega arith)
   at_in d (x ∷ xs) zero h = inl refl
   at_in d (x ∷ xs) (suc i) h = inr (at_in d xs i (omega arith))
 
@@ -49,7 +49,7 @@ module _ {A : Type 0} where
     )
 
     pub sorted_at : (d : A) (xs : List A) → Sorted xs → (i j : ℕ) → i < j → j < length xs → Before (get_or xs i d) (get_or xs j d)
-    sorted_at d [] s i j h k = absurd (let z : ⊥ = omega arith in z)
-    sorted_at d (x ∷ xs) s i zero h k = absurd (let z : ⊥ = omega arith in z)
+    sorted_at d [] s i j h k = absurd (omega arith)
+    sorted_at d (x ∷ xs) s i zero h k = absurd (omega arith)
     sorted_at d (x ∷ xs) s zero (suc j) h k = s.0 (get_or xs j d) (at_in d xs j (omega arith))
     sorted_at d (x ∷ xs) s (suc i) (suc j) h k = sorted_at d xs s.1 i j (omega arith) (omega arith)

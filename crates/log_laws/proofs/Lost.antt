@@ -5,6 +5,7 @@ use mathlib.Core.Path.{◌≡◌, sym, ap, subst, ◌∙◌}
 use mathlib.Core.List.{◌∷◌, ◌++◌}
 use mathlib.Core.Logic.{◌≢◌}
 use native.Mathlib.Omega.{arith}
+use Rattle.log_entry.specs.Entry.{by_of}
 use Rattle.log_core.proofs.EnterLaws.{answer_is}
 use Rattle.log_core.specs.declared.Log.{Log}
 use Rattle.log_core.specs.Enter.{enter, feed}
@@ -44,7 +45,7 @@ no_earlier es more t v take ok vote same below answer =
     let l = reached (es ++ t ∷ more) in
     let fine = vote_ok l v vote (sym (answer_is l v) ∙ answer) in
     let turn : v.turn ≡ latest_of l v.process =
-    sym (voter_turn _ l v fine) ∙ (wf_reached (es ++ t ∷ more)).holding.last_turn v.process v.by (process_from_1 l.stores v fine.in_limits) (voter_holds _ l v fine) in
+    sym (voter_turn _ l v fine) ∙ (wf_reached (es ++ t ∷ more)).holding.last_turn v.process (by_of v) (process_from_1 l.stores v fine.in_limits) (voter_holds _ l v fine) in
     omega (arith, below, turn, ap (latest_of l) same, since)
   where
     before : Log

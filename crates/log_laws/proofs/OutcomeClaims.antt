@@ -1,7 +1,6 @@
 -- Abort and running, by the kept votes.
 use mathlib.Core.Path.{◌≡◌, refl, ap}
-use mathlib.Core.Bool.{Bool, true, not, false≢true}
-use borrow.Author.Tests.{not-true}
+use mathlib.Core.Bool.{Bool, true, false≢true}
 use Rattle.log_votes.specs.declared.Outcome.{Outcome}
 use Rattle.log_votes.specs.declared.Outcome.TheVariants.{Abort, Commit, Open}
 use Rattle.log_votes.specs.Outcome.{is_kept, is_open, running}
@@ -9,7 +8,7 @@ use Rattle.log_votes.specs.Row.{no_vote}
 use Rattle.log_votes.specs.Scan.{any_from}
 use Rattle.log_core.specs.Log.{outcome_of, row_of, vote_at}
 use Rattle.log_laws.specs.Votes.{OutcomeAbortIff, RunningExactly}
-use Rattle.log_laws.proofs.Outcomes.{aborted_by, aborted_of, kept_in}
+use Rattle.log_laws.proofs.Outcomes.{abort_from, abort_parts, aborted_by, aborted_of, kept_in}
 use Rattle.log_laws.proofs.Scans.{any_here, found}
 use Rattle.log_entry.proofs.Tests.{and_left, and_right, both}
 
@@ -18,10 +17,10 @@ abort_iff l tx = (
   λ h.
       let a = aborted_of (row_of l tx).votes h in
       let v = vote_at l tx a.0 in
-      (a.0, (and_left v.kept (not v.commit) a.2, not-true v.commit (and_right v.kept (not v.commit) a.2))),
+      (a.0, abort_parts a.0 v a.2),
   λ a.
       let v = vote_at l tx a.0 in
-      aborted_by (row_of l tx).votes a.0 (both v.kept (not v.commit) a.1.0 (ap not a.1.1)),
+      aborted_by (row_of l tx).votes a.0 (abort_from a.0 v a.1),
 )
 
 pub is_open_lem : (o : Outcome) → is_open o ≡ true → o ≡ Open

@@ -18,12 +18,13 @@ use Rattle.log_votes.specs.declared.Row.{Row}
 use Rattle.log_core.specs.Log.{group_of, row_of, vote_at, outcome_of}
 use Rattle.log_votes.specs.Row.{no_row, replays}
 use Rattle.log_votes.specs.Outcome.{is_commit, is_committed}
+use Rattle.log_votes.specs.Vote.{vote_update}
 use Rattle.log_core.specs.Replay.{group_replay, no_replayed, replay_of, replay_rows}
 use Rattle.log_laws.specs.Reached.{reached}
 use Rattle.log_laws.specs.Replays.{Before, ReplayListsExactly, ReplayListsOnce, ReplayOrdered, Replays, replayed}
 use Rattle.log_laws.proofs.Feed.{wf_reached}
 use Rattle.log_laws.proofs.Lists.{In, at_in, in_at, sorted_at}
-use Rattle.log_laws.proofs.Outcomes.{is_commit_lem}
+use Rattle.log_laws.proofs.Outcomes.{commit_from, commit_parts, is_commit_lem}
 use Rattle.log_laws.proofs.ReplayRows.{From, from_group, from_sorted, group_has, group_in, replayed_of}
 use Rattle.log_laws.proofs.Replicated.{rows_length}
 use Rattle.log_entry.proofs.Tests.{and_left, and_right, below_or_not, both, same_number}
@@ -33,8 +34,8 @@ module _ (l : Log) (w : Wf l) (store : ℕ) where
   replays_row : (x : Replayed) → In x (replay_rows l store) → Replays l store x
   replays_row x h = record {
     committed = is_commit_lem (outcome_of l x.tx) ((w.row x.tx).in_group (λ z. omega (arith, g, grp, z)));
-    kept_commit = (and_left (vote_at l x.tx store).kept (vote_at l x.tx store).commit vote, and_right (vote_at l x.tx store).kept (vote_at l x.tx store).commit vote);
-    update = ap (λ (t : ℕ). (vote_at l t store).update) tx ∙ sym (ap (λ (y : Replayed). y.update) f.is);
+    kept_commit = commit_parts (vote_at l x.tx store) vote;
+    update = ap (λ (t : ℕ). vote_update (vote_at l t store)) tx ∙ sym (ap (λ (y : Replayed). y.update) f.is);
     group = grp;
   }
     where
@@ -62,7 +63,7 @@ module _ (l : Log) (w : Wf l) (store : ℕ) where
       (subst (λ (y : Replayed). In y (group_replay store x.group 0 l.rows)) same
       (group_has store x.group 0 l.rows x.tx in_rows
       (both (eqb (group_of l x.tx) x.group) _ (eq-eqb (group_of l x.tx) x.group r.group)
-      (both (vote_at l x.tx store).kept (vote_at l x.tx store).commit r.kept_commit.0 r.kept_commit.1))))
+      (commit_from (vote_at l x.tx store) r.kept_commit))))
     where
       some : x.group ≢ 0
       some z = (w.row x.tx).has_group (ap is_committed r.committed) (r.group ∙ z)

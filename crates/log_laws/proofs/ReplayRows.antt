@@ -9,6 +9,7 @@ use lib.ListN.{get_or, length}
 use Rattle.log_core.specs.declared.Replayed.{Replayed}
 use Rattle.log_votes.specs.declared.Row.{Row}
 use Rattle.log_votes.specs.Row.{no_row, replays, vote_of_store}
+use Rattle.log_votes.specs.Vote.{vote_update}
 use Rattle.log_core.specs.Replay.{group_replay, replay_from}
 use Rattle.log_laws.specs.Replays.{Before}
 use Rattle.log_laws.proofs.Lists.{In, Sorted, in_either, in_left, in_right, sorted_append}
@@ -16,7 +17,7 @@ use Rattle.log_entry.proofs.Tests.{by_test, opposed, same_number}
 
 -- what group g replays of a row, which is that of tx
 abbrev pub replayed_of : ℕ → ℕ → ℕ → Row → Replayed
-replayed_of store g tx r = record { group = g; tx = tx; update = (vote_of_store store r).update }
+replayed_of store g tx r = record { group = g; tx = tx; update = vote_update (vote_of_store store r) }
 
 -- row k of the rows is replayed as x; the first of the rows is that of tx
 pub record From (store g tx : ℕ) (rows : List Row) (x : Replayed) : Type 0 where
@@ -49,7 +50,7 @@ module _ (store g : ℕ) where
   pub group_has : (tx : ℕ) (rows : List Row) (k : ℕ) → k < length rows → replays store g (get_or rows k no_row) ≡ true
       → In (replayed_of store g (tx + k) (get_or rows k no_row)) (group_replay store g tx rows)
   unfolding group_replay
-  group_has tx [] k h p = absurd (let z : ⊥ = omega arith in z)
+  group_has tx [] k h p = absurd (omega arith)
   group_has tx (r ∷ rs) zero h p =
       by_test (λ (xs : List Replayed). In (replayed_of store g (tx + 0) r) xs) (replays store g r) _ _
       (λ b. inl (ap (λ (n : ℕ). replayed_of store g n r) (omega arith)))
@@ -88,7 +89,7 @@ module _ (store : ℕ) (rows : List Row) where
 
   pub group_in : (g n h : ℕ) (x : Replayed) → g ≤ h → h < g + n → In x (group_replay store h 0 rows) → In x (replay_from store rows g n)
   unfolding replay_from
-  group_in g zero h x a b m = absurd (let z : ⊥ = omega arith in z)
+  group_in g zero h x a b m = absurd (omega arith)
   group_in g (suc n) h x a b m =
       ⊎_elim
       (λ (e : h ≡ g). in_left x (group_replay store g 0 rows) (replay_from store rows (suc g) n) (subst (λ (k : ℕ). In x (group_replay store k 0 rows)) e m))

@@ -4,14 +4,15 @@ use mathlib.Core.Path.{◌≡◌, refl, ap, ◌∙◌}
 use mathlib.Core.List.{List}
 use lib.ListN.{get_or-replicate, length, length-set, replicate}
 use Rattle.log_entry.specs.declared.Entry.{Entry}
+use Rattle.log_entry.specs.Entry.{tx_of}
 use Rattle.log_entry.specs.Limits.{process_places, stores, transactions}
 use Rattle.log_core.specs.declared.Log.{Log}
 use Rattle.log_votes.specs.declared.Row.{Row}
 use Rattle.log_core.specs.Enter.{enter}
 use Rattle.log_core.specs.Log.{empty_log, opened, row_of}
-use Rattle.log_votes.specs.Row.{keeping, no_row, no_vote, vote_of_entry}
+use Rattle.log_votes.specs.Row.{no_row, no_vote, vote_of_entry}
 use Rattle.log_laws.proofs.Rows.{committed}
-use Rattle.log_laws.proofs.Steps.{Holders, enter_cases, holder_cases, joins, row_cases, voted_remembered, voted_rows}
+use Rattle.log_laws.proofs.Steps.{Holders, enter_cases, holder_cases, joins, row_cases, row_with, voted_remembered, voted_rows}
 use Rattle.log_entry.proofs.Tests.{by_test}
 
 pub record Sized (l : Log) : Type 0 where
@@ -39,7 +40,7 @@ pub sized_enter : (l : Log) (e : Entry) → Sized l → Sized (enter l e).log
 sized_enter l e w = record {
   rows_size =
       enter_cases (λ (x : Log). length x.rows ≡ transactions) l e w.rows_size (λ ok. w.rows_size)
-      (λ ok. ap length (voted_rows l e.tx after) ∙ length-set l.rows e.tx _ ∙ w.rows_size);
+      (λ ok. ap length (voted_rows l (tx_of e) after) ∙ length-set l.rows (tx_of e) _ ∙ w.rows_size);
   votes_size = λ tx h.
       row_cases (λ (r : Row). length r.votes ≡ stores) l e tx (w.votes_size tx h)
       (λ ok k. length-set (row_of l tx).votes e.store (vote_of_entry e) ∙ w.votes_size tx h);
@@ -57,12 +58,12 @@ sized_enter l e w = record {
       (λ ok. length-set l.latest e.process _ ∙ w.latest_size);
   remembered_size =
       enter_cases (λ (x : Log). length x.remembered ≡ transactions) l e w.remembered_size (λ ok. w.remembered_size)
-      (λ ok. ap length (voted_remembered l e.tx after)
+      (λ ok. ap length (voted_remembered l (tx_of e) after)
       ∙ by_test (λ (xs : List ℕ). length xs ≡ transactions) (committed after) _ _
-      (λ c. by_test (λ (xs : List ℕ). length xs ≡ transactions) (joins l e.tx after) _ _ (λ j. w.remembered_size)
+      (λ c. by_test (λ (xs : List ℕ). length xs ≡ transactions) (joins l (tx_of e) after) _ _ (λ j. w.remembered_size)
       (λ j. length-set l.remembered _ _ ∙ w.remembered_size))
       (λ c. w.remembered_size));
 }
   where
     after : Row
-    after = keeping (row_of l e.tx) e
+    after = row_with l e

@@ -9,6 +9,7 @@ use lib.ListN.{get_or}
 use Rattle.log_entry.proofs.InsideLaws.{inside_turn}
 use Rattle.log_entry.specs.declared.Entry.{Entry}
 use Rattle.log_entry.specs.Bits.{has}
+use Rattle.log_entry.specs.Entry.{is_take}
 use Rattle.log_entry.specs.Limits.{stores}
 use Rattle.log_entry.specs.Refusal.{accepted}
 use Rattle.log_core.proofs.EnterLaws.{accepted_inside, answer_is}
@@ -29,7 +30,7 @@ use Rattle.log_laws.proofs.WellFormed.{Wf, feed_keeps, wf_enter}
 
 -- the entry is an accepted take of s by p, in turn t
 pub record Takes (l : Log) (e : Entry) (p t s : ℕ) : Type 0 where
-  pub is_take : e.take ≡ true
+  pub is_take : is_take e ≡ true
   pub taker : e.process ≡ p
   pub in_turn : e.turn ≡ t
   pub taken : e.store ≡ s

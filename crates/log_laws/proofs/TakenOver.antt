@@ -1,5 +1,7 @@
 -- A store that is taken over: the commit votes of its earlier holders are rows of the replay, or
 -- their transactions run.
+use Rattle.std.proofs.lemmas.Bool.{and_parts, and_from}
+use Rattle.log_entry.specs.Entry.{by_of, says_commit}
 use Prim.Native.Nat.{ℕ}
 use mathlib.Core.Path.{◌≡◌, refl, sym, ap, subst, subst₂, ◌∙◌}
 use mathlib.Core.Bool.{true, false}
@@ -17,6 +19,7 @@ use Rattle.log_votes.specs.declared.Vote.{Vote}
 use Rattle.log_votes.specs.Outcome.{is_commit, outcome_of_votes, running}
 use Rattle.log_votes.specs.Row.{no_row, vote_of_store}
 use Rattle.log_votes.specs.Scan.{any_from}
+use Rattle.log_votes.specs.Vote.{vote_commit, vote_kept, vote_process, vote_turn, vote_update}
 use Rattle.log_votes.proofs.SetLaws.{set_has}
 use Rattle.log_core.proofs.EnterLaws.{answer_is}
 use Rattle.log_core.specs.Enter.{enter}
@@ -32,14 +35,15 @@ use Rattle.log_laws.proofs.Accepted.{VoteOk, voter_holds, voter_turn}
 use Rattle.log_laws.proofs.ConditionClaims.{ill_formed_by_values}
 use Rattle.log_laws.proofs.Feed.{later}
 use Rattle.log_laws.proofs.Holding.{HadIn, LostIn, had_enter, held_by, lost_enter, taker_held}
+use Rattle.log_laws.proofs.KeptVotes.{kept_as}
 use Rattle.log_laws.proofs.OutcomeClaims.{running_by_votes}
+use Rattle.log_laws.proofs.Outcomes.{commit_from, commit_parts}
 use Rattle.log_laws.proofs.ReplayClaims.{lists_exactly}
 use Rattle.log_laws.proofs.Rows.{kept_cases}
 use Rattle.log_laws.proofs.Stays.{outcome_stays, row_stays}
 use Rattle.log_laws.proofs.Steps.{row_cases}
 use Rattle.log_laws.proofs.TakenBefore.{took_since}
 use Rattle.log_laws.proofs.WellFormed.{Wf}
-use Rattle.log_entry.proofs.Tests.{and_left, and_right, both}
 
 -- ---- the transactions that are listed
 
@@ -52,9 +56,9 @@ unfolding awaited_of
 awaited_exactly l tx store = (
   λ h.
       let a = sym is ∙ h in
-      let k = and_right (running (row_of l tx)) (is_commit store v) a in
-      (and_left (running (row_of l tx)) (is_commit store v) a, (and_left v.kept v.commit k, and_right v.kept v.commit k)),
-  λ h. is ∙ both (running (row_of l tx)) (is_commit store v) h.0 (both v.kept v.commit h.1.0 h.1.1),
+      let k = and_parts (running (row_of l tx)) (is_commit store v) a in
+      (k.0, commit_parts v k.1),
+  λ h. is ∙ and_from (running (row_of l tx)) (is_commit store v) h.0 (commit_from v h.1),
 )
   where
     v : Vote
@@ -68,23 +72,26 @@ awaited_exactly l tx store = (
 -- the process lost the store in this turn, and a commit vote of the store on tx that it cast then,
 -- if any is kept, was kept in the log before
 abbrev CastsNoMore : Log → ℕ → ℕ → ℕ → ℕ → Log → Type 0
-CastsNoMore before p t s tx l = LostIn p t s l × (KeptCommit l tx s → (vote_at l tx s).process ≡ p → (vote_at l tx s).turn ≡ t → Kept before tx s)
+CastsNoMore before p t s tx l = LostIn p t s l × (KeptCommit l tx s → vote_process (vote_at l tx s) ≡ p → vote_turn (vote_at l tx s) ≡ t → Kept before tx s)
 
 casts_no_more : (before : Log) (p t s tx : ℕ) (l : Log) (e : Entry) → Wf l → CastsNoMore before p t s tx l → CastsNoMore before p t s tx (enter l e).log
 casts_no_more before p t s tx l e w h = (
   lost_enter l e p t s w.sized h.0,
   row_cases (λ (r : Row). Old (vote_of_store s r)) l e tx h.1
       (λ ok k. kept_cases Old (row_of l tx) e s
-      (λ m c q i. let own = at_by ok m c.1 in
-      absurd (h.0.1 (ap (holder_of l) own ∙ voter_holds (row_of l tx) l e ok ∙ q, ap (turn_of l) own ∙ voter_turn (row_of l tx) l e ok ∙ i)))
+      (λ m c q i. let own = at_by ok m (sym (kept_as e).commit ∙ c.1) in
+      absurd (h.0.1 (
+        ap (holder_of l) own ∙ voter_holds (row_of l tx) l e ok ∙ sym (kept_as e).process ∙ q,
+        ap (turn_of l) own ∙ voter_turn (row_of l tx) l e ok ∙ sym (kept_as e).turn ∙ i,
+      )))
       h.1),
 )
   where
     Old : Vote → Type 0
-    Old v = (v.kept ≡ true) × (v.commit ≡ true) → v.process ≡ p → v.turn ≡ t → Kept before tx s
+    Old v = (vote_kept v ≡ true) × (vote_commit v ≡ true) → vote_process v ≡ p → vote_turn v ≡ t → Kept before tx s
 
     -- a commit vote is the store's own
-    at_by : VoteOk (row_of l tx) l e → s ≡ e.store → e.commit ≡ true → s ≡ e.by
+    at_by : VoteOk (row_of l tx) l e → s ≡ e.store → says_commit e ≡ true → s ≡ by_of e
     at_by ok m c = m ∙ sym (((ill_formed_by_values e).0 ok.well_formed).commit_own c)
 
 -- who took the store in a turn had it in that turn
@@ -115,13 +122,13 @@ replayed_or_awaited es more tx s k c = go (outcome_of l tx) refl
     l = reached es
 
     row : Replayed
-    row = record { group = group_of l tx; tx = tx; update = (vote_at l tx s).update }
+    row = record { group = group_of l tx; tx = tx; update = vote_update (vote_at l tx s) }
 
-    go : (o : Outcome) → outcome_of l tx ≡ o → RowIn (replay_of l s) tx (vote_at l tx s).update ⊎ (has (awaited_of l s) tx ≡ true)
+    go : (o : Outcome) → outcome_of l tx ≡ o → RowIn (replay_of l s) tx (vote_update (vote_at l tx s)) ⊎ (has (awaited_of l s) tx ≡ true)
     go Open h = inr (open_runs l tx s k h)
     go Commit h = inl (at ((lists_exactly es s row).1 (record { committed = h; kept_commit = k; update = refl; group = refl })))
       where
-        at : InReplay l s row → RowIn (replay_of l s) tx (vote_at l tx s).update
+        at : InReplay l s row → RowIn (replay_of l s) tx (vote_update (vote_at l tx s))
         at r = (r.0, r.1, ap (λ (x : Replayed). x.tx) r.2, ap (λ (x : Replayed). x.update) r.2)
     go Abort h = absurd (let e : Abort ≡ Commit = sym h ∙ sym (outcome_stays es more tx (λ o. aborts (sym h ∙ o))) ∙ c in aborts' e)
       where
@@ -134,8 +141,8 @@ replayed_or_awaited es more tx s k c = go (outcome_of l tx) refl
 pub row_stays_committed : RowStaysCommitted
 row_stays_committed es more tx s u h = record {
   committed = ap (λ (r : Row). outcome_of_votes r.votes) same ∙ there;
-  kept_commit = subst (λ (r : Row). ((vote_of_store s r).kept ≡ true) × ((vote_of_store s r).commit ≡ true)) (sym same) kept;
-  is = ap (λ (r : Row). (vote_of_store s r).update) same ∙ update;
+  kept_commit = subst (λ (r : Row). (vote_kept (vote_of_store s r) ≡ true) × (vote_commit (vote_of_store s r) ≡ true)) (sym same) kept;
+  is = ap (λ (r : Row). vote_update (vote_of_store s r)) same ∙ update;
 }
   where
     l : Log
@@ -150,8 +157,8 @@ row_stays_committed es more tx s u h = record {
     kept : KeptCommit l tx s
     kept = subst (λ (t : ℕ). KeptCommit l t s) h.2 row.kept_commit
 
-    update : (vote_at l tx s).update ≡ u
-    update = ap (λ (t : ℕ). (vote_at l t s).update) (sym h.2) ∙ row.update ∙ h.3
+    update : vote_update (vote_at l tx s) ≡ u
+    update = ap (λ (t : ℕ). vote_update (vote_at l t s)) (sym h.2) ∙ row.update ∙ h.3
 
     same : row_of (reached (es ++ more)) tx ≡ row_of l tx
     same = row_stays es more tx there

@@ -2,13 +2,14 @@
 -- unchanged." They hold of every log.
 use Rattle.std.specs.Prelude.{◌≡◌, Bool, true, false, not, List, [], ◌∷◌, ◌↔◌, ◌≢◌, eqb, get_or}
 use Rattle.log_entry.specs.declared.Entry.{Entry}
-use Rattle.log_entry.specs.Entry.{ill_formed, outside}
+use Rattle.log_entry.specs.Entry.{by_of, ill_formed, is_take, outside, tx_of}
 use Rattle.log_entry.specs.Refusal.{accepted, ill_formed_vote, kept_already, not_holder, other_list, outside_limits}
 use Rattle.log_entry.specs.Refusal as refusal
 use Rattle.log_core.specs.declared.Log.{Log}
 use Rattle.log_core.specs.Enter.{enter}
 use Rattle.log_core.specs.Log.{holder_of, latest_of, row_of, turn_of, vote_at}
 use Rattle.log_votes.specs.Refusal.{any_clash}
+use Rattle.log_votes.specs.Vote.{vote_kept}
 use Rattle.log_core.specs.Refusal.{holds_another, wrong_turn}
 
 -- no condition holds
@@ -23,20 +24,20 @@ First (b ∷ bs) this = (b ≡ false) × First bs this
 
 -- 8: process does not hold `by`
 abbrev pub holds_not : Log → Entry → Bool
-holds_not l e = not (eqb (holder_of l e.by) e.process)
+holds_not l e = not (eqb (holder_of l (by_of e)) e.process)
 
 -- 9: a commit vote with list L is kept, and this is a commit with another list or an abort whose
 -- list is not within L
 abbrev pub clash : Log → Entry → Bool
-clash l e = any_clash e (row_of l e.tx).votes
+clash l e = any_clash e (row_of l (tx_of e)).votes
 
 -- 10: this store's vote is kept already
 abbrev pub kept : Log → Entry → Bool
-kept l e = (vote_at l e.tx e.store).kept
+kept l e = vote_kept (vote_at l (tx_of e) e.store)
 
 -- 12, of a vote: its turn is not the holder's
 abbrev pub other_turn : Log → Entry → Bool
-other_turn l e = not (eqb (turn_of l e.by) e.turn)
+other_turn l e = not (eqb (turn_of l (by_of e)) e.turn)
 
 -- 11: "it holds another store now"
 abbrev pub another : Log → Entry → Bool
@@ -66,10 +67,10 @@ pub record TakeAnswers (l : Log) (e : Entry) : Type 0 where
   pub is_0 : ((enter l e).answer ≡ accepted) ↔ None (outside l.stores e ∷ another l e ∷ stale l e ∷ [])
 
 abbrev pub VoteAnswerExactly : Type 0
-VoteAnswerExactly = (l : Log) (e : Entry) → e.take ≡ false → VoteAnswers l e
+VoteAnswerExactly = (l : Log) (e : Entry) → is_take e ≡ false → VoteAnswers l e
 
 abbrev pub TakeAnswerExactly : Type 0
-TakeAnswerExactly = (l : Log) (e : Entry) → e.take ≡ true → TakeAnswers l e
+TakeAnswerExactly = (l : Log) (e : Entry) → is_take e ≡ true → TakeAnswers l e
 
 -- a refused entry leaves the log as it was
 abbrev pub RefusedEntryChangesNothing : Type 0

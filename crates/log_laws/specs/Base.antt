@@ -1,11 +1,12 @@
 -- The log of document 01, for comparison. Its refusals, and who is involved, are written from that
 -- document; no turn is read. What is accepted is stored as `log_core` does it.
-use Rattle.std.specs.Prelude.{ℕ, ◌≡◌, Bool, ◌&&◌, ◌||◌, not, cond, List, [], ◌∷◌, map, eqb, leb, get_or}
+use Rattle.std.specs.Prelude.{ℕ, ◌≡◌, Bool, ◌&&◌, ◌||◌, not, cond, List, [], ◌∷◌, map, eqb, leb, get_or, is_ok}
 use Rattle.log_entry.specs.declared.Entry.{Entry}
 use Rattle.log_entry.specs.Bits.{has}
-use Rattle.log_entry.specs.Entry.{ill_formed, no_process}
+use Rattle.log_entry.specs.Entry.{by_of, ill_formed, is_take, list_of, no_process, tx_of, update_in}
 use Rattle.log_entry.specs.Limits.{lists, stores, transactions, updates}
-use Rattle.log_entry.specs.Refusal.{Check, accepted, check, first_refusal}
+use Rattle.log_entry.specs.Number.{Answer, answer_number}
+use Rattle.log_entry.specs.Refusal.{Check, check, first_refusal, holds_another, ill_formed_vote, kept_already, not_holder, other_list, outside_limits}
 use Rattle.log_votes.specs.declared.Involvement.{Involvement}
 use Rattle.log_votes.specs.declared.Involvement.TheVariants.{No, Unknown, Yes}
 use Rattle.log_votes.specs.declared.Row.{Row}
@@ -14,6 +15,7 @@ use Rattle.log_votes.specs.Outcome.{is_commit}
 use Rattle.log_votes.specs.Refusal.{any_clash}
 use Rattle.log_votes.specs.Row.{vote_of_store}
 use Rattle.log_votes.specs.Scan.{any_from}
+use Rattle.log_votes.specs.Vote.{vote_kept}
 use Rattle.log_core.specs.declared.Effect.{Effect}
 use Rattle.log_core.specs.declared.Entered.{Entered}
 use Rattle.log_core.specs.declared.Log.{Log}
@@ -29,7 +31,7 @@ unfoldable pub base_outside : Entry → Bool
 base_outside e =
     no_process e.process
     || leb stores e.store
-    || not e.take && (leb stores e.by || leb transactions e.tx || leb lists e.participants || leb updates e.update)
+    || not (is_take e) && (leb stores (by_of e) || leb transactions (tx_of e) || leb lists (list_of e) || leb updates (update_in e))
 
 abbrev pub is_holder : ℕ → ℕ → ℕ → Bool
 is_holder process s holder = eqb holder process
@@ -40,46 +42,36 @@ holds_some holders process = any_from (is_holder process) 0 holders
 
 -- 11: "it holds some store, or held this one before"; the set has those that took the store
 abbrev pub base_take_checks : List ℕ → ℕ → Entry → List Check
-base_take_checks holders takers e = check 11 (holds_some holders e.process || has takers e.process) ∷ []
+base_take_checks holders takers e = check holds_another (holds_some holders e.process || has takers e.process) ∷ []
 
 -- 7 to 10
 abbrev pub base_vote_checks : List ℕ → Row → Entry → List Check
 base_vote_checks holders r e =
-    check 7 (ill_formed e)
-    ∷ check 8 (not (eqb (get_or holders e.by 0) e.process))
-    ∷ check 9 (any_clash e r.votes)
-    ∷ check 10 (vote_of_store e.store r).kept
+    check ill_formed_vote (ill_formed e)
+    ∷ check not_holder (not (eqb (get_or holders (by_of e) 0) e.process))
+    ∷ check other_list (any_clash e r.votes)
+    ∷ check kept_already (vote_kept (vote_of_store e.store r))
     ∷ []
 
 -- by the holders, the set of those that took the entry's store, and the row of its transaction
-unfoldable pub base_refusal : List ℕ → ℕ → Row → Entry → ℕ
+unfoldable pub base_refusal : List ℕ → ℕ → Row → Entry → Answer
 base_refusal holders takers r e =
-    first_refusal (check 2 (base_outside e) ∷ cond e.take (base_take_checks holders takers e) (base_vote_checks holders r e))
+    first_refusal (check outside_limits (base_outside e) ∷ cond (is_take e) (base_take_checks holders takers e) (base_vote_checks holders r e))
 
-abbrev pub base_answer : Log → Entry → ℕ
-base_answer l e = base_refusal l.holders (get_or l.takers e.store 0) (row_of l e.tx) e
+abbrev pub base_answer : Log → Entry → Answer
+base_answer l e = base_refusal l.holders (get_or l.takers e.store 0) (row_of l (tx_of e)) e
 
 -- the entry in another turn: it gets the same answer, so no turn is read
 abbrev pub in_turn : ℕ → Entry → Entry
-in_turn turn e = record {
-  take = e.take;
-  process = e.process;
-  turn = turn;
-  by = e.by;
-  store = e.store;
-  tx = e.tx;
-  participants = e.participants;
-  commit = e.commit;
-  update = e.update;
-}
+in_turn turn e = record { process = e.process; turn = turn; store = e.store; request = e.request }
 
 abbrev pub BaseReadsNoTurn : Type 0
 BaseReadsNoTurn = (l : Log) (e : Entry) (turn : ℕ) → base_answer l (in_turn turn e) ≡ base_answer l e
 
 -- what an entry with this answer changes
-abbrev pub effect_by : ℕ → Parts → Entry → Effect
+abbrev pub effect_by : Answer → Parts → Entry → Effect
 effect_by answer p e =
-    let keeps = eqb answer accepted && not e.take in
+    let keeps = is_ok answer && not (is_take e) in
     record {
       answer = answer;
       group = cond keeps (group_after p e) p.row.group;
@@ -104,7 +96,7 @@ base_reached es = base_feed empty_log es
 -- the answers to the entries, one after the other
 unfoldable pub base_answers_to : Log → List Entry → List ℕ
 base_answers_to l [] = []
-base_answers_to l (e ∷ es) = (base_enter l e).answer ∷ base_answers_to (base_enter l e).log es
+base_answers_to l (e ∷ es) = answer_number (base_enter l e).answer ∷ base_answers_to (base_enter l e).log es
 
 -- "Involvement: yes if the store is in the list of any kept vote of that tx; else no if a commit
 -- vote is kept; else unknown."

@@ -1,6 +1,7 @@
 -- What an accepted entry changes, and nothing else. A refused one changes nothing (`Answers`).
 use Rattle.std.specs.Prelude.{ℕ, ◌≡◌, true, false, List, ◌≢◌}
 use Rattle.log_entry.specs.declared.Entry.{Entry}
+use Rattle.log_entry.specs.Entry.{is_take, tx_of}
 use Rattle.log_core.specs.declared.Log.{Log}
 use Rattle.log_core.specs.Enter.{enter}
 use Rattle.log_core.specs.Log.{group_of, held_before, holder_of, latest_of, turn_of, vote_at}
@@ -20,7 +21,7 @@ pub record OnlyHolderChanges (l m : Log) (process store : ℕ) : Type 0 where
 
 abbrev pub TakeChangesOnly : Type 0
 TakeChangesOnly =
-    (es : List Entry) (e : Entry) → e.take ≡ true → OnlyHolderChanges (reached es) (enter (reached es) e).log e.process e.store
+    (es : List Entry) (e : Entry) → is_take e ≡ true → OnlyHolderChanges (reached es) (enter (reached es) e).log e.process e.store
 
 -- a vote: the store's vote on that tx, and its group; `Groups` says what becomes of the groups
 pub record OnlyVoteChanges (l m : Log) (tx store : ℕ) : Type 0 where
@@ -34,4 +35,4 @@ pub record OnlyVoteChanges (l m : Log) (tx store : ℕ) : Type 0 where
   pub other_groups : (t : ℕ) → t ≢ tx → group_of m t ≡ group_of l t
 
 abbrev pub VoteChangesOnly : Type 0
-VoteChangesOnly = (es : List Entry) (e : Entry) → e.take ≡ false → OnlyVoteChanges (reached es) (enter (reached es) e).log e.tx e.store
+VoteChangesOnly = (es : List Entry) (e : Entry) → is_take e ≡ false → OnlyVoteChanges (reached es) (enter (reached es) e).log (tx_of e) e.store

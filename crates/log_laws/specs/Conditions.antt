@@ -4,8 +4,9 @@
 use Rattle.std.specs.Prelude.{ℕ, ◌≤◌, ◌<◌, ◌≡◌, true, false, List, [], ◌∷◌, ◌++◌, ◌↔◌, ◌⊎◌}
 use Rattle.log_entry.specs.declared.Entry.{Entry}
 use Rattle.log_entry.specs.Bits.{has}
-use Rattle.log_entry.specs.Entry.{ill_formed}
+use Rattle.log_entry.specs.Entry.{by_of, ill_formed, is_take, list_of, says_commit, tx_of, update_in}
 use Rattle.log_entry.specs.Refusal.{accepted}
+use Rattle.log_votes.specs.Vote.{vote_list}
 use Rattle.log_core.specs.declared.Log.{Log}
 use Rattle.log_core.specs.Enter.{enter, feed}
 use Rattle.log_core.specs.Log.{empty_log, held_before, holder_of, latest_of, turn_of, vote_at}
@@ -16,10 +17,10 @@ use Rattle.log_laws.specs.Votes.{KeptCommit}
 -- ---- 7: "list without `store` or `by`; commit on behalf; abort with an update other than 0"
 
 pub record WellFormed (e : Entry) : Type 0 where
-  pub lists_store : has e.participants e.store ≡ true
-  pub lists_by : has e.participants e.by ≡ true
-  pub commit_own : e.commit ≡ true → e.by ≡ e.store
-  pub abort_zero : e.commit ≡ false → e.update ≡ 0
+  pub lists_store : has (list_of e) e.store ≡ true
+  pub lists_by : has (list_of e) (by_of e) ≡ true
+  pub commit_own : says_commit e ≡ true → by_of e ≡ e.store
+  pub abort_zero : says_commit e ≡ false → update_in e ≡ 0
 
 abbrev pub IllFormedExactly : Type 0
 IllFormedExactly = (e : Entry) → (ill_formed e ≡ false) ↔ WellFormed e
@@ -27,19 +28,19 @@ IllFormedExactly = (e : Entry) → (ill_formed e ≡ false) ↔ WellFormed e
 -- ---- 8: "process does not hold `by`"
 
 abbrev pub HoldsNotExactly : Type 0
-HoldsNotExactly = (l : Log) (e : Entry) → (holds_not l e ≡ false) ↔ (holder_of l e.by ≡ e.process)
+HoldsNotExactly = (l : Log) (e : Entry) → (holds_not l e ≡ false) ↔ (holder_of l (by_of e) ≡ e.process)
 
 -- ---- 9: "a commit vote with list L is kept, and this is a commit with another list or an abort
 -- whose list is not within L"
 
 pub record Fits (e : Entry) (list : ℕ) : Type 0 where
-  pub same_list : e.commit ≡ true → e.participants ≡ list
-  pub within_list : e.commit ≡ false → (t : ℕ) → has e.participants t ≡ true → has list t ≡ true
+  pub same_list : says_commit e ≡ true → list_of e ≡ list
+  pub within_list : says_commit e ≡ false → (t : ℕ) → has (list_of e) t ≡ true → has list t ≡ true
 
 abbrev pub ClashExactly : Type 0
 ClashExactly =
     (l : Log) (e : Entry)
-    → (clash l e ≡ false) ↔ ((s : ℕ) → KeptCommit l e.tx s → Fits e (vote_at l e.tx s).participants)
+    → (clash l e ≡ false) ↔ ((s : ℕ) → KeptCommit l (tx_of e) s → Fits e (vote_list (vote_at l (tx_of e) s)))
 
 -- ---- 11: "it holds another store now"
 
@@ -57,7 +58,7 @@ pub record TookFrom (l : Log) (es : List Entry) (process turn store : ℕ) : Typ
   pub entry : Entry
   pub after : List Entry
   pub split : es ≡ before ++ entry ∷ after
-  pub is_take : entry.take ≡ true
+  pub is_take : is_take entry ≡ true
   pub taker : entry.process ≡ process
   pub in_turn : entry.turn ≡ turn
   pub taken : entry.store ≡ store
@@ -94,4 +95,4 @@ StaleExactly = (es : List Entry) (e : Entry) → (stale (reached es) e ≡ true)
 -- ---- 12: "a vote whose turn is not the holder's"
 
 abbrev pub OtherTurnExactly : Type 0
-OtherTurnExactly = (l : Log) (e : Entry) → (other_turn l e ≡ false) ↔ (turn_of l e.by ≡ e.turn)
+OtherTurnExactly = (l : Log) (e : Entry) → (other_turn l e ≡ false) ↔ (turn_of l (by_of e) ≡ e.turn)

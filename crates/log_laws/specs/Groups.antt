@@ -4,6 +4,7 @@
 use Rattle.std.specs.Prelude.{ℕ, ◌+◌, ◌≤◌, ◌≡◌, Bool, false, cond, List, [], ◌∷◌, ◌++◌, ◌↔◌, ◌≢◌, ◌⊎◌}
 use Rattle.log_entry.specs.declared.Entry.{Entry}
 use Rattle.log_entry.specs.Bits.{has}
+use Rattle.log_entry.specs.Entry.{is_take, tx_of}
 use Rattle.log_entry.specs.Limits.{transactions}
 use Rattle.log_entry.specs.Refusal.{accepted}
 use Rattle.log_core.specs.declared.Log.{Log}
@@ -29,9 +30,9 @@ GroupsWithoutGaps = (es : List Entry) → NoGaps (reached es)
 
 -- the entry is a vote that is accepted, and with it the outcome is commit
 pub record Commits (l : Log) (e : Entry) : Type 0 where
-  pub vote : e.take ≡ false
+  pub vote : is_take e ≡ false
   pub is_accepted : (enter l e).answer ≡ accepted
-  pub commit : outcome_of (enter l e).log e.tx ≡ Commit
+  pub commit : outcome_of (enter l e).log (tx_of e) ≡ Commit
 
 -- the entry begins a group
 abbrev pub Begins : Log → Entry → Type 0
@@ -40,13 +41,13 @@ Begins l e = (enter l e).log.groups ≡ l.groups + 1
 -- at a commit the transaction joins the last group if that remembers it, else it begins the next
 -- one
 pub record Grouped (l : Log) (e : Entry) (joins : Bool) : Type 0 where
-  pub group : group_of (enter l e).log e.tx ≡ cond joins l.groups (l.groups + 1)
+  pub group : group_of (enter l e).log (tx_of e) ≡ cond joins l.groups (l.groups + 1)
   pub groups : (enter l e).log.groups ≡ cond joins l.groups (l.groups + 1)
 
 abbrev pub GroupAtCommit : Type 0
 GroupAtCommit =
     (es : List Entry) (e : Entry) → Commits (reached es) e
-    → Grouped (reached es) e (has (remembered (reached es) (reached es).groups) e.tx)
+    → Grouped (reached es) e (has (remembered (reached es) (reached es).groups) (tx_of e))
 
 -- The same from the history alone: `first` begins a group, the entries `more` begin none, and `e`
 -- commits. Its transaction joins that group exactly if it was running just before `first`.
@@ -56,7 +57,7 @@ JoinsIfRunningWhenBegun =
     → Begins (reached es) first
     → (reached (es ++ first ∷ more)).groups ≡ (reached (es ++ first ∷ [])).groups
     → Commits (reached (es ++ first ∷ more)) e
-    → Grouped (reached (es ++ first ∷ more)) e (running (row_of (reached es) e.tx))
+    → Grouped (reached (es ++ first ∷ more)) e (running (row_of (reached es) (tx_of e)))
 
 -- an entry began the last group of the log, and none since
 pub record LastBegun (es : List Entry) : Type 0 where
@@ -73,13 +74,13 @@ LastGroupWasBegun = (es : List Entry) → ((reached es).groups ≡ 0) ⊎ LastBe
 
 -- the first commit of all begins group 1
 abbrev pub FirstCommitBegins : Type 0
-FirstCommitBegins = (es : List Entry) (e : Entry) → (reached es).groups ≡ 0 → Commits (reached es) e → group_of (enter (reached es) e).log e.tx ≡ 1
+FirstCommitBegins = (es : List Entry) (e : Entry) → (reached es).groups ≡ 0 → Commits (reached es) e → group_of (enter (reached es) e).log (tx_of e) ≡ 1
 
 -- a group is begun by its first commit, and only so
 abbrev pub BegunByCommit : Type 0
 BegunByCommit =
     (es : List Entry) (e : Entry) → Begins (reached es) e
-    → Commits (reached es) e × (group_of (enter (reached es) e).log e.tx ≡ (enter (reached es) e).log.groups)
+    → Commits (reached es) e × (group_of (enter (reached es) e).log (tx_of e) ≡ (enter (reached es) e).log.groups)
 
 -- what a group remembers: the transactions running just before the entry that begins it
 abbrev pub GroupRemembersRunning : Type 0

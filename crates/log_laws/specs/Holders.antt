@@ -1,6 +1,7 @@
 -- The claims on holders and their turns. Processes and turns are numbered from 1; 0 means none.
 use Rattle.std.specs.Prelude.{ℕ, ◌≤◌, ◌<◌, ◌≡◌, true, false, List, ◌∷◌, ◌++◌, ◌≢◌}
 use Rattle.log_entry.specs.declared.Entry.{Entry}
+use Rattle.log_entry.specs.Entry.{is_take}
 use Rattle.log_entry.specs.Refusal.{accepted}
 use Rattle.log_core.specs.declared.Log.{Log}
 use Rattle.log_core.specs.Enter.{enter}
@@ -20,7 +21,7 @@ pub record HeldBy (l : Log) (e : Entry) : Type 0 where
 
 abbrev pub AcceptedTakeHolds : Type 0
 AcceptedTakeHolds =
-    (es : List Entry) (e : Entry) → e.take ≡ true → (enter (reached es) e).answer ≡ accepted → HeldBy (enter (reached es) e).log e
+    (es : List Entry) (e : Entry) → is_take e ≡ true → (enter (reached es) e).answer ≡ accepted → HeldBy (enter (reached es) e).log e
 
 -- a process holds at most one store
 abbrev pub HoldsAtMostOneStore : Type 0
@@ -51,9 +52,9 @@ LostStoreNeverAgain =
 abbrev pub NoEarlierTurnKept : Type 0
 NoEarlierTurnKept =
     (es more : List Entry) (t v : Entry)
-    → t.take ≡ true
+    → is_take t ≡ true
     → (enter (reached es) t).answer ≡ accepted
-    → v.take ≡ false
+    → is_take v ≡ false
     → v.process ≡ t.process
     → v.turn < t.turn
     → (enter (reached (es ++ t ∷ more)) v).answer ≢ accepted

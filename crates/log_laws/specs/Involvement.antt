@@ -6,6 +6,7 @@ use Rattle.log_entry.specs.Bits.{has}
 use Rattle.log_votes.specs.declared.Involvement.{Involvement}
 use Rattle.log_votes.specs.declared.Involvement.TheVariants.{No, Unknown, Yes}
 use Rattle.log_votes.specs.declared.Outcome.TheVariants.{Abort}
+use Rattle.log_votes.specs.Vote.{vote_list}
 use Rattle.log_core.specs.declared.Log.{Log}
 use Rattle.log_core.specs.Log.{involvement_of, outcome_of, vote_at}
 use Rattle.log_laws.specs.Base.{base_involvement_of}
@@ -18,20 +19,20 @@ SomeCommitKept l tx = (s : ℕ) × KeptCommit l tx s
 
 -- a commit vote of tx is kept, and the store is in its list
 abbrev pub CommitLists : Log → ℕ → ℕ → Type 0
-CommitLists l tx store = (s : ℕ) × KeptCommit l tx s × (has (vote_at l tx s).participants store ≡ true)
+CommitLists l tx store = (s : ℕ) × KeptCommit l tx s × (has (vote_list (vote_at l tx s)) store ≡ true)
 
 -- a commit vote of tx is kept, and the store is not in its list
 abbrev pub CommitOmits : Log → ℕ → ℕ → Type 0
-CommitOmits l tx store = (s : ℕ) × KeptCommit l tx s × (has (vote_at l tx s).participants store ≡ false)
+CommitOmits l tx store = (s : ℕ) × KeptCommit l tx s × (has (vote_list (vote_at l tx s)) store ≡ false)
 
 -- an abort vote of tx is kept, and the store is in its list
 abbrev pub AbortLists : Log → ℕ → ℕ → Type 0
-AbortLists l tx store = (s : ℕ) × KeptAbort l tx s × (has (vote_at l tx s).participants store ≡ true)
+AbortLists l tx store = (s : ℕ) × KeptAbort l tx s × (has (vote_list (vote_at l tx s)) store ≡ true)
 
 -- The answer, and when it is which. "No" needs a kept commit vote, and "unknown" that none is kept.
 pub record Involved (l : Log) (tx store : ℕ) : Type 0 where
   -- "where a commit vote is kept, its list alone says yes or no"
-  pub by_list : (s : ℕ) → KeptCommit l tx s → involvement_of l tx store ≡ cond (has (vote_at l tx s).participants store) Yes No
+  pub by_list : (s : ℕ) → KeptCommit l tx s → involvement_of l tx store ≡ cond (has (vote_list (vote_at l tx s)) store) Yes No
   pub is_yes : (involvement_of l tx store ≡ Yes) ↔ (CommitLists l tx store ⊎ ((SomeCommitKept l tx → ⊥) × AbortLists l tx store))
   pub is_no : (involvement_of l tx store ≡ No) ↔ CommitOmits l tx store
   pub is_unknown : (involvement_of l tx store ≡ Unknown) ↔ ((SomeCommitKept l tx → ⊥) × (AbortLists l tx store → ⊥))

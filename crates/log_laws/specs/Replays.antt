@@ -4,6 +4,7 @@ use Rattle.std.specs.Prelude.{ℕ, ◌<◌, ◌≡◌, List, ◌↔◌, ◌⊎�
 use Rattle.log_entry.specs.declared.Entry.{Entry}
 use Rattle.log_core.specs.declared.Log.{Log}
 use Rattle.log_votes.specs.declared.Outcome.TheVariants.{Commit}
+use Rattle.log_votes.specs.Vote.{vote_update}
 use Rattle.log_core.specs.declared.Replayed.{Replayed}
 use Rattle.log_core.specs.Log.{group_of, vote_at, outcome_of}
 use Rattle.log_core.specs.Replay.{replay_of, row_at}
@@ -22,7 +23,7 @@ InReplay l store r = (i : ℕ) × (i < (replay_of l store).count) × (replayed l
 pub record Replays (l : Log) (store : ℕ) (r : Replayed) : Type 0 where
   pub committed : outcome_of l r.tx ≡ Commit
   pub kept_commit : KeptCommit l r.tx store
-  pub update : (vote_at l r.tx store).update ≡ r.update
+  pub update : vote_update (vote_at l r.tx store) ≡ r.update
   pub group : group_of l r.tx ≡ r.group
 
 abbrev pub ReplayListsExactly : Type 0

@@ -7,6 +7,7 @@ use Rattle.log_core.specs.declared.Log.{Log}
 use Rattle.log_core.specs.declared.Replay.{Replay}
 use Rattle.log_votes.specs.declared.Outcome.TheVariants.{Commit}
 use Rattle.log_votes.specs.Outcome.{running}
+use Rattle.log_votes.specs.Vote.{vote_process, vote_turn, vote_update}
 use Rattle.log_core.specs.Follow.{awaited_of}
 use Rattle.log_core.specs.Log.{outcome_of, row_of, vote_at}
 use Rattle.log_core.specs.Replay.{replay_of, row_at}
@@ -27,8 +28,8 @@ LostStoreVotesNoMore =
     → Took es process turn store
     → (HoldsIn (reached es) process turn store → ⊥)
     → KeptCommit (reached (es ++ more)) tx store
-    → (vote_at (reached (es ++ more)) tx store).process ≡ process
-    → (vote_at (reached (es ++ more)) tx store).turn ≡ turn
+    → vote_process (vote_at (reached (es ++ more)) tx store) ≡ process
+    → vote_turn (vote_at (reached (es ++ more)) tx store) ≡ turn
     → Kept (reached es) tx store
 
 -- the replay has a row of the transaction with this update
@@ -42,13 +43,13 @@ ReplayedOrAwaited =
     (es more : List Entry) (tx store : ℕ)
     → KeptCommit (reached es) tx store
     → outcome_of (reached (es ++ more)) tx ≡ Commit
-    → RowIn (replay_of (reached es) store) tx (vote_at (reached es) tx store).update ⊎ (has (awaited_of (reached es) store) tx ≡ true)
+    → RowIn (replay_of (reached es) store) tx (vote_update (vote_at (reached es) tx store)) ⊎ (has (awaited_of (reached es) store) tx ≡ true)
 
 -- a row of the replay by then is an update that is committed for good
 pub record CommittedUpdate (l : Log) (tx store update : ℕ) : Type 0 where
   pub committed : outcome_of l tx ≡ Commit
   pub kept_commit : KeptCommit l tx store
-  pub is : (vote_at l tx store).update ≡ update
+  pub is : vote_update (vote_at l tx store) ≡ update
 
 abbrev pub RowStaysCommitted : Type 0
 RowStaysCommitted =

@@ -3,9 +3,10 @@
 use Rattle.std.specs.Prelude.{ℕ, ◌≡◌, true, false, List, [], ◌∷◌, ◌↔◌, ◌⊎◌, ◌≢◌}
 use Rattle.log_entry.specs.declared.Entry.{Entry}
 use Rattle.log_entry.specs.Claims.{InLimits}
-use Rattle.log_entry.specs.Entry.{ill_formed, outside}
+use Rattle.log_entry.specs.Entry.{ill_formed, is_take, outside}
 use Rattle.log_entry.specs.Limits.{stores}
-use Rattle.log_entry.specs.Refusal.{accepted}
+use Rattle.log_entry.specs.Number.{Answer}
+use Rattle.log_entry.specs.Refusal.{accepted, holds_another, outside_limits, wrong_turn}
 use Rattle.log_core.specs.Enter.{enter}
 use Rattle.log_core.specs.Log.{group_of, holder_of, involvement_of, outcome_of}
 use Rattle.log_core.specs.Replay.{replay_of}
@@ -21,10 +22,10 @@ AllFirst [] = Unit {0}
 AllFirst (e ∷ es) = (e.turn ≡ 1) × AllFirst es
 
 -- a take is accepted by both, or refused 2 by both, or refused 11 by the base and 11 or 12 now
-pub record TakeAgrees (now base : ℕ) : Type 0 where
-  pub is_0 : (now ≡ 0) ↔ (base ≡ 0)
-  pub is_2 : (now ≡ 2) ↔ (base ≡ 2)
-  pub is_11 : ((now ≡ 11) ⊎ (now ≡ 12)) ↔ (base ≡ 11)
+pub record TakeAgrees (now base : Answer) : Type 0 where
+  pub is_0 : (now ≡ accepted) ↔ (base ≡ accepted)
+  pub is_2 : (now ≡ outside_limits) ↔ (base ≡ outside_limits)
+  pub is_11 : ((now ≡ holds_another) ⊎ (now ≡ wrong_turn)) ↔ (base ≡ holds_another)
 
 -- After these entries the log is that of the base. So is all that it says, but for who is involved
 -- where an abort and a commit vote say otherwise. A further entry is accepted by both or by
@@ -37,8 +38,8 @@ pub record AsInBase (es : List Entry) : Type 0 where
   pub holder : (store : ℕ) → holder_of (reached es) store ≡ holder_of (base_reached es) store
   pub replay : (store : ℕ) → replay_of (reached es) store ≡ replay_of (base_reached es) store
   pub accepts : (e : Entry) → e.turn ≡ 1 → ((enter (reached es) e).answer ≡ accepted) ↔ ((base_enter (base_reached es) e).answer ≡ accepted)
-  pub votes : (e : Entry) → e.turn ≡ 1 → e.take ≡ false → (enter (reached es) e).answer ≡ (base_enter (base_reached es) e).answer
-  pub takes : (e : Entry) → e.turn ≡ 1 → e.take ≡ true → TakeAgrees (enter (reached es) e).answer (base_enter (base_reached es) e).answer
+  pub votes : (e : Entry) → e.turn ≡ 1 → is_take e ≡ false → (enter (reached es) e).answer ≡ (base_enter (base_reached es) e).answer
+  pub takes : (e : Entry) → e.turn ≡ 1 → is_take e ≡ true → TakeAgrees (enter (reached es) e).answer (base_enter (base_reached es) e).answer
 
 -- "A log without turns accepts just what it did."
 abbrev pub WithoutTurns : Type 0
@@ -48,12 +49,12 @@ WithoutTurns = (es : List Entry) → AllFirst es → AsInBase es
 -- and never took this one.
 abbrev pub TakesWithoutTurns : Type 0
 TakesWithoutTurns =
-    (es : List Entry) (e : Entry) → AllFirst es → e.take ≡ true → e.turn ≡ 1 → InLimits 8 32 e
+    (es : List Entry) (e : Entry) → AllFirst es → is_take e ≡ true → e.turn ≡ 1 → InLimits 8 32 e
     → ((enter (reached es) e).answer ≡ accepted)
     ↔ (((s : ℕ) → holder_of (reached es) s ≢ e.process) × ((t : ℕ) → Took es e.process t e.store → ⊥))
 
 -- And of a vote: it is accepted exactly if 2 and 7 to 10 do not apply. So 12 refuses none.
 abbrev pub VotesWithoutTurns : Type 0
 VotesWithoutTurns =
-    (es : List Entry) (e : Entry) → AllFirst es → e.take ≡ false → e.turn ≡ 1
+    (es : List Entry) (e : Entry) → AllFirst es → is_take e ≡ false → e.turn ≡ 1
     → let l = reached es in ((enter l e).answer ≡ accepted) ↔ None (outside stores e ∷ ill_formed e ∷ holds_not l e ∷ clash l e ∷ kept l e ∷ [])

@@ -2,6 +2,7 @@
 use Prim.Native.Nat.{ℕ, suc, ◌+◌, ◌*◌}
 use mathlib.Core.Path.{◌≡◌, ap, refl, ◌∙◌}
 use lib.ListN.{set}
+use Rattle.log_entry.specs.Refusal.{accepted}
 use Rattle.log_core.specs.declared.Replay.{Replay}
 use Rattle.log_core.specs.Enter.{feed}
 use Rattle.log_core.specs.Replay.{no_replay, replay_of}
@@ -205,13 +206,13 @@ module _ (w : World) (at : Places) (r : Replay) (d : Message) where
   }
 
   pub nothing : changed w at r (done (parts_at w at d)) ≡ w
-  nothing = nothing_changed w at d r 0
+  nothing = nothing_changed w at d r accepted
 
   pub acceptors_changed : (n : ℕ) → changed w at r (done (acceptors_now (parts_at w at d) n)) ≡ with_acceptors w n
-  acceptors_changed n = none_sent _ _ ∙ ap (λ (v : World). with_acceptors v n) (all_back w at d r 0)
+  acceptors_changed n = none_sent _ _ ∙ ap (λ (v : World). with_acceptors v n) (all_back w at d r accepted)
 
   pub down_changed : (x : Down) → changed w at r (done (down_now (parts_at w at d) x)) ≡ with_down w x
-  down_changed x = none_sent _ _ ∙ ap (λ (v : World). with_down v x) (all_back w at d r 0)
+  down_changed x = none_sent _ _ ∙ ap (λ (v : World). with_down v x) (all_back w at d r accepted)
 
   pub coordinator_changed : (c : Coordinator) → changed w at r (done (coordinator_now (parts_at w at d) c)) ≡ with_coordinator w at.coordinator c
   coordinator_changed c = none_sent _ _ ∙ coordinator_back c
@@ -295,7 +296,7 @@ module _ (w : World) (at : Places) (r : Replay) (d : Message) where
   })
 
   pub only_sends : (m : Message) → changed w at r (sending (parts_at w at d) 1 m) ≡ with_message w m
-  only_sends m = one_sent _ m ∙ ap (λ (v : World). with_message v m) (all_back w at d r 0)
+  only_sends m = one_sent _ m ∙ ap (λ (v : World). with_message v m) (all_back w at d r accepted)
 
   -- with its store's replay
   pub restore_sent : (m : Message)
@@ -303,7 +304,7 @@ module _ (w : World) (at : Places) (r : Replay) (d : Message) where
       ≡ posted w (adding_both (outbox_of w) w.sent m (replay_of (log_of w at.coordinator) (said_store m))) (w.sent + 1)
   restore_sent m =
       one_sent _ m
-      ∙ ap (λ (v : World). posted v (adding_both (outbox_of v) v.sent m (replay_of (log_of w at.coordinator) (said_store m))) (v.sent + 1)) (all_back w at d r 0)
+      ∙ ap (λ (v : World). posted v (adding_both (outbox_of v) v.sent m (replay_of (log_of w at.coordinator) (said_store m))) (v.sent + 1)) (all_back w at d r accepted)
 
   pub prepares_sent : (c : Coordinator) (n i b : ℕ)
       → changed w at r (sending (coordinator_now (parts_at w at d) c) n (prepare_to i b 0))

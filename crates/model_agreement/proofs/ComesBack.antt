@@ -11,7 +11,9 @@ use borrow.Author.Tests.{eqb-false, lt-leb, leb-false, ne_eqb}
 use lib.Dec.{eqb, leb}
 use Rattle.log_entry.specs.Entry.{no_process, no_turn, outside}
 use Rattle.log_entry.specs.Limits.{process_places, processes, stores}
+use Rattle.log_entry.specs.Number.{Answer}
 use Rattle.log_entry.specs.Refusal.{accepted, check, first_refusal, ill_formed_vote, no_place, not_met, outside_limits, party_down}
+use Rattle.log_entry.proofs.AnswerLaws.{err_ok}
 use Rattle.log_entry.proofs.InsideLaws.{inside_process, process_inside}
 use Rattle.log_entry.proofs.Tests.{neither, neither_left, neither_right, opposed, or_left, or_right}
 use Rattle.model_steps.specs.declared.Step.{Step}
@@ -84,13 +86,16 @@ back_refused_exactly steps p t = go (outside_back p t) refl
     w' : World
     w' = run fresh_world steps
 
-    five_or_none : {a : ℕ} (b : Bool) → a ≡ cond b not_met accepted → (a ≡ not_met) ⊎ (a ≡ accepted)
+    five_or_none : {a : Answer} (b : Bool) → a ≡ cond b not_met accepted → (a ≡ not_met) ⊎ (a ≡ accepted)
     five_or_none true is = inl is
     five_or_none false is = inr is
 
+    two_not_5 : outside_limits ≡ not_met → ⊥
+    two_not_5 e = grind arith
+
     not_2 : (b : Bool) → cond b not_met accepted ≡ outside_limits → ⊥
-    not_2 true e = omega (arith, e)
-    not_2 false e = omega (arith, e)
+    not_2 true e = two_not_5 (sym e)
+    not_2 false e = err_ok (sym e)
 
     go : (out : Bool) → outside_back p t ≡ out → BackAnswers (run fresh_world steps) (history steps) p t
     go true out =
@@ -98,8 +103,8 @@ back_refused_exactly steps p t = go (outside_back p t) refl
         record {
           no_other = inl is;
           is_2 = (λ e. out, λ e. is);
-          is_5 = (λ e. absurd (omega (arith, is, e)), λ c. absurd (opposed out c.0));
-          is_0 = (λ e. absurd (omega (arith, is, e)), λ c. absurd (opposed out c.0));
+          is_5 = (λ e. absurd (two_not_5 (sym is ∙ e)), λ c. absurd (opposed out c.0));
+          is_0 = (λ e. absurd (err_ok (sym is ∙ e)), λ c. absurd (opposed out c.0));
         }
     go false within =
         let r = answer_is steps p t within in

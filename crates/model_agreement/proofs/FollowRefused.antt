@@ -15,6 +15,7 @@ use Rattle.log_entry.specs.Limits.{processes, stores, transactions}
 use Rattle.log_entry.specs.Refusal.{accepted, check, first_refusal, no_place, not_met, outside_limits, party_down}
 use Rattle.log_entry.proofs.Tests.{and_left, and_right, below_or_not, both, is_false, neither, neither_left, neither_right, opposed}
 use Rattle.log_core.specs.declared.Log.{Log}
+use Rattle.log_votes.specs.Vote.{vote_commit, vote_kept}
 use Rattle.log_votes.specs.Outcome.{is_commit, is_kept, is_open, running}
 use Rattle.log_votes.specs.Scan.{any_from}
 use Rattle.log_core.specs.Log.{outcome_of, row_of, vote_at}
@@ -67,7 +68,7 @@ module _ (es : List Entry) (p tx : ℕ) (from : 1 ≤ p) where
       go true e h = record {
         store = s;
         holder = held_holder l p (subst (λ n. s < n) (sym (holders_length es)) h);
-        kept_commit = (and_left (vote_at l tx s).kept (vote_at l tx s).commit e, and_right (vote_at l tx s).kept (vote_at l tx s).commit e);
+        kept_commit = (and_left (vote_kept (vote_at l tx s)) (vote_commit (vote_at l tx s)) e, and_right (vote_kept (vote_at l tx s)) (vote_commit (vote_at l tx s)) e);
         ended = is_false _ (λ r. opposed (and_right (any_from is_kept 0 (row_of l tx).votes) (is_open (outcome_of l tx)) r) (neither_left (is_open (outcome_of l tx)) _ b));
       }
       go false e h = absurd (omega arith)
@@ -93,7 +94,7 @@ module _ (es : List Entry) (p tx : ℕ) (from : 1 ≤ p) where
       voted : is_commit (held_store l p) (vote_at l tx (held_store l p)) ≡ true
       voted =
           subst (λ s. is_commit s (vote_at l tx s) ≡ true) (sym same)
-          (both (vote_at l tx f.store).kept (vote_at l tx f.store).commit f.kept_commit.0 f.kept_commit.1)
+          (both (vote_kept (vote_at l tx f.store)) (vote_commit (vote_at l tx f.store)) f.kept_commit.0 f.kept_commit.1)
 
       found : leb stores (voting_store l p tx) ≡ false
       found = rw voted (lt-leb stores (held_store l p) (omega (arith, same, in_row, holders_length es)))

@@ -13,6 +13,7 @@ use Rattle.log_entry.specs.Bits.{has}
 use Rattle.log_entry.proofs.Tests.{opposed}
 use Rattle.log_core.specs.declared.Log.{Log}
 use Rattle.log_core.specs.declared.Replay.{Replay}
+use Rattle.log_votes.specs.Vote.{vote_kept, vote_process, vote_turn, vote_update}
 use Rattle.log_votes.specs.declared.Outcome.TheVariants as outcome
 use Rattle.log_core.specs.Log.{held_before, holder_of, latest_of, outcome_of, vote_at}
 use Rattle.log_core.specs.Replay.{row_at}
@@ -48,8 +49,8 @@ after = steps_of (restored_once ++ left_running ++ follows_taken)
 
 -- the vote of the old holder, and its transaction
 pub old_vote_committed : KeptCommit (log_of (computed before) 0) 4 0
-    × ((vote_at (log_of (computed before) 0) 4 0).update ≡ update_a)
-    × ((vote_at (log_of (computed before) 0) 4 0).process ≡ 1)
+    × (vote_update (vote_at (log_of (computed before) 0) 4 0) ≡ update_a)
+    × (vote_process (vote_at (log_of (computed before) 0) 4 0) ≡ 1)
     × (outcome_of (log_of (computed before) 0) 4 ≡ outcome.Commit)
     × (holder_of (log_of (computed before) 0) 0 ≡ 2)
 unfolding computed restored_once left_running
@@ -126,7 +127,7 @@ at_end : ((process_of world 2).store ≡ 0) × ((process_of world 2).position �
 unfolding computed restored_once left_running follows_taken
 at_end = (refl, refl, refl, refl, refl)
 
-old_vote : KeptCommit (log_of world 0) 4 0 × ((vote_at (log_of world 0) 4 0).process ≡ 1) × ((vote_at (log_of world 0) 4 0).turn ≡ 1) × (outcome_of (log_of world 0) 4 ≡ outcome.Commit)
+old_vote : KeptCommit (log_of world 0) 4 0 × (vote_process (vote_at (log_of world 0) 4 0) ≡ 1) × (vote_turn (vote_at (log_of world 0) 4 0) ≡ 1) × (outcome_of (log_of world 0) 4 ≡ outcome.Commit)
 unfolding computed restored_once left_running follows_taken
 old_vote = ((refl, refl), refl, refl, refl)
 
@@ -155,7 +156,7 @@ last = (demand_3 after).logs 0 ∙ ap (λ (n : ℕ). plain_log (take n sequence)
 vote_stays : vote_at (plain_log sequence) 4 0 ≡ vote_at (log_of world 0) 4 0
 vote_stays =
     ap (λ (l : Log). vote_at l 4 0) (plain_reached 4 sequence)
-    ∙ kept_vote_stays (all_entries (take 4 sequence)) (all_entries (drop 4 sequence)) 4 0 (subst (λ (l : Log). (vote_at l 4 0).kept ≡ true) last old_vote.0.0)
+    ∙ kept_vote_stays (all_entries (take 4 sequence)) (all_entries (drop 4 sequence)) 4 0 (subst (λ (l : Log). vote_kept (vote_at l 4 0) ≡ true) last old_vote.0.0)
     ∙ ap (λ (l : Log). vote_at l 4 0) (sym last)
 
 outcome_stays : outcome_of (plain_log sequence) 4 ≡ outcome.Commit
@@ -190,12 +191,12 @@ earlier = record {
   another = λ e. absurd (omega (arith, e, voter));
 }
   where
-    voter : (vote_at (plain_log sequence) 4 restored.store).process ≡ 1
+    voter : vote_process (vote_at (plain_log sequence) 4 restored.store) ≡ 1
     voter = rw (its_store, vote_stays) old_vote.1
 
-    in_turn : (vote_at (plain_log sequence) 4 restored.store).turn ≡ 1
+    in_turn : vote_turn (vote_at (plain_log sequence) 4 restored.store) ≡ 1
     in_turn = rw (its_store, vote_stays) old_vote.2
 
 -- so it gives what was found above: the update is held
-pub held_by_the_claim : Holds restored 4 (vote_at (plain_log sequence) 4 restored.store).update
+pub held_by_the_claim : Holds restored 4 (vote_update (vote_at (plain_log sequence) 4 restored.store))
 held_by_the_claim = (demand_3 after).taken_over.none_lost 2 4 (subst (λ (n : ℕ). 0 < n) (sym its_position) (omega arith)) all_followed earlier

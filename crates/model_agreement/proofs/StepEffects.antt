@@ -8,6 +8,7 @@ use mathlib.Core.List.{List, ◌∷◌}
 use native.Mathlib.Nat.{mod-eq_of_lt}
 use native.Mathlib.Omega.{arith}
 use lib.ListN.{set}
+use Rattle.std.proofs.Common.{is_ok}
 use lib.Dec.{T, T_not, eqb, eqb→eq, eqb_refl, leb, leb→le, ltb, ltb→lt, nleb→lt, nltb→le, lt→ltb}
 use Rattle.log_entry.specs.declared.Entry.{Entry}
 use Rattle.log_entry.specs.Entry.{no_process, no_turn, outside}
@@ -549,12 +550,12 @@ module _ (w : World) (h : List Event) (room : Roomy (outbox_of w)) (few : w.acce
 
   pub trans : (s : Step) → Trans w h (step_of w s).world (noted w s h)
   unfolding step_of noted step_refusal
-  trans s = go (eqb (step_refusal p s) 0) refl
+  trans s = go (is_ok (step_refusal p s)) refl
     where
       p : Parts
       p = parts_of w s
 
-      go : (t : Bool) → eqb (step_refusal p s) 0 ≡ t → Trans w h (step_of w s).world (noted w s h)
+      go : (t : Bool) → is_ok (step_refusal p s) ≡ t → Trans w h (step_of w s).world (noted w s h)
       go true e =
           rw e (t_step s (passed (check outside_limits (outside_step (acceptors_counted p.acceptors) s) ∷ step_checks p s) (positive p s) (subst T (sym e) tt)))
       go false e = rw (e, e) refused

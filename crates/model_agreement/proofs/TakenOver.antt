@@ -11,6 +11,7 @@ use Rattle.log_entry.specs.declared.Entry.{Entry}
 use Rattle.log_entry.specs.Bits.{has}
 use Rattle.log_entry.proofs.Tests.{and_left, and_right}
 use Rattle.log_core.specs.declared.Log.{Log}
+use Rattle.log_votes.specs.Vote.{vote_commit, vote_kept, vote_process, vote_turn, vote_update}
 use Rattle.log_votes.specs.declared.Outcome.{Outcome}
 use Rattle.log_votes.specs.declared.Outcome.TheVariants.{Commit, Open}
 use Rattle.log_votes.specs.declared.Vote.{Vote}
@@ -99,8 +100,8 @@ module _ (es more : List Entry) (store tx : ℕ) where
       record {
         decided = d;
         outcome = e ∙ sym outcome;
-        kept_commit = subst (λ (v : Vote). (v.kept ≡ true) × (v.commit ≡ true)) (sym vote) k;
-        is = i ∙ (λ j. cond (is_committed (sym outcome j)) (sym vote j).update 0);
+        kept_commit = subst (λ (v : Vote). (vote_kept v ≡ true) × (vote_commit v ≡ true)) (sym vote) k;
+        is = i ∙ (λ j. cond (is_committed (sym outcome j)) (vote_update (sym vote j)) 0);
       }
     where
       outcome : outcome_of after tx ≡ outcome_of before tx
@@ -126,36 +127,36 @@ module _ (es more : List Entry) (p : ℕ) (r : Restored)
 
   module _ (tx : ℕ) (kept : KeptCommit now tx r.store) (committed : outcome_of now tx ≡ Commit) where
     -- a follow of the transaction is one with commit and this update
-    brought : (f : Follow) → f.tx ≡ tx → Memᴰ f r.follows → CommitFollowed r.follows tx (vote_now tx).update
+    brought : (f : Follow) → f.tx ≡ tx → Memᴰ f r.follows → CommitFollowed r.follows tx (vote_update (vote_now tx))
     brought f e t = subst (λ (x : Follow). Memᴰ x r.follows) (λ i. record { tx = e i; outcome = outcome i; update = update i }) t
       where
         outcome : f.outcome ≡ Commit
         outcome = (follows f t).outcome ∙ ap (outcome_of now) e ∙ committed
 
-        update : f.update ≡ (vote_now tx).update
+        update : f.update ≡ vote_update (vote_now tx)
         update =
-            (follows f t).is ∙ ap (λ (i : ℕ). update_of now i r.store) e ∙ ap (λ (o : Outcome). cond (is_committed o) (vote_now tx).update 0) committed
+            (follows f t).is ∙ ap (λ (i : ℕ). update_of now i r.store) e ∙ ap (λ (o : Outcome). cond (is_committed o) (vote_update (vote_now tx)) 0) committed
 
     -- a vote that was kept by then
-    held : AllFollowed r → KeptCommit then tx r.store → Holds r tx (vote_now tx).update
+    held : AllFollowed r → KeptCommit then tx r.store → Holds r tx (vote_update (vote_now tx))
     held all k = go (replayed_or_awaited es more tx r.store k committed)
       where
         same : vote_now tx ≡ vote_at then tx r.store
         same = kept_vote_stays es more tx r.store k.0
 
-        go : RowIn (replay_of then r.store) tx (vote_at then tx r.store).update ⊎ (has (awaited_of then r.store) tx ≡ true)
-            → Holds r tx (vote_now tx).update
+        go : RowIn (replay_of then r.store) tx (vote_update (vote_at then tx r.store)) ⊎ (has (awaited_of then r.store) tx ≡ true)
+            → Holds r tx (vote_update (vote_now tx))
         go (inl x) = inl (rw (rows, same) x)
         go (inr x) = let t = followed_in tx r.follows (all tx (rw running x)) in inr (brought t.0 t.1 t.2)
 
-    pub lost_none : AllFollowed r → Took es (vote_now tx).process (vote_now tx).turn r.store
-        → ((vote_now tx).process ≡ p → (vote_now tx).turn ≢ r.turn) → Holds r tx (vote_now tx).update
+    pub lost_none : AllFollowed r → Took es (vote_process (vote_now tx)) (vote_turn (vote_now tx)) r.store
+        → (vote_process (vote_now tx) ≡ p → vote_turn (vote_now tx) ≢ r.turn) → Holds r tx (vote_update (vote_now tx))
     lost_none all took another =
-        held all (before, ap (λ (v : Vote). v.commit) (sym (kept_vote_stays es more tx r.store before)) ∙ kept.1)
+        held all (before, ap (λ (v : Vote). vote_commit v) (sym (kept_vote_stays es more tx r.store before)) ∙ kept.1)
       where
         before : Kept then tx r.store
         before =
-            lost_store_votes_no_more es more tx r.store (vote_now tx).process (vote_now tx).turn took
+            lost_store_votes_no_more es more tx r.store (vote_process (vote_now tx)) (vote_turn (vote_now tx)) took
             (λ z. another (sym z.0 ∙ holder) (sym z.1 ∙ turn)) kept refl refl
 
   pub invented_none : (tx update : ℕ) → Holds r tx update → CommittedUpdate now tx r.store update
@@ -165,5 +166,5 @@ module _ (es more : List Entry) (p : ℕ) (r : Restored)
       record {
         committed = sym f.outcome;
         kept_commit = f.kept_commit;
-        is = ap (λ (o : Outcome). cond (is_committed o) (vote_now tx).update 0) f.outcome ∙ sym f.is;
+        is = ap (λ (o : Outcome). cond (is_committed o) (vote_update (vote_now tx)) 0) f.outcome ∙ sym f.is;
       }

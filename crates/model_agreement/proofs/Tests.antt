@@ -4,8 +4,9 @@ use mathlib.Core.Path.{◌≡◌, refl, subst}
 use mathlib.Core.Logic.{◌≢◌}
 use mathlib.Core.Bool.{Bool, true, false, ◌&&◌, ◌||◌, not, cond}
 use mathlib.Core.List.{List, [], ◌∷◌}
-use native.Mathlib.Omega.{arith}
-use lib.Dec.{T, T_not, eqb, eqb→eq, eqb_refl, ltb, ltb→lt}
+use lib.Dec.{T, T_not, eqb, eqb_refl}
+use Rattle.std.proofs.Common.{Err, Ok, is_err, is_ok}
+use Rattle.log_entry.specs.Number.{Answer}
 use Rattle.log_entry.specs.Refusal.{Check, first_refusal}
 
 pub neqb→ne : (m n : ℕ) → T (not (eqb m n)) → m ≢ n
@@ -54,19 +55,24 @@ is_false false t = refl
 
 -- ---- checks: where none refuses, none applies
 
+-- each names a refusal
 abbrev pub Positive : List Check → Type 0
 Positive [] = Unit {0}
-Positive (c ∷ cs) = T (ltb 0 c.number) × Positive cs
+Positive (c ∷ cs) = T (is_err c.answer) × Positive cs
 
 abbrev pub Passed : List Check → Type 0
 Passed [] = Unit {0}
 Passed (c ∷ cs) = T (not c.applies) × Passed cs
 
-pub passed : (cs : List Check) → Positive cs → T (eqb (first_refusal cs) 0) → Passed cs
+not_both : (a : Answer) → T (is_err a) → T (is_ok a) → ⊥
+not_both (Ok done) e o = e
+not_both (Err r) e o = o
+
+pub passed : (cs : List Check) → Positive cs → T (is_ok (first_refusal cs)) → Passed cs
 unfolding first_refusal
 passed [] p h = tt
 passed (c ∷ cs) p h = go c.applies (passed cs p.1) h
   where
-    go : (t : Bool) → (T (eqb (first_refusal cs) 0) → Passed cs) → T (eqb (cond t c.number (first_refusal cs)) 0) → T (not t) × Passed cs
-    go true f h = absurd (let e : c.number ≡ 0 = eqb→eq c.number 0 h in omega (arith, ltb→lt 0 c.number p.0))
+    go : (t : Bool) → (T (is_ok (first_refusal cs)) → Passed cs) → T (is_ok (cond t c.answer (first_refusal cs))) → T (not t) × Passed cs
+    go true f h = absurd (not_both c.answer p.0 h)
     go false f h = (tt, f h)

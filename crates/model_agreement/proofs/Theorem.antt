@@ -12,6 +12,7 @@ use lib.ListN.{drop, length, length-take, take}
 use lib.Seq.{ext_get_or, take-length, take-take}
 use Rattle.log_entry.specs.declared.Entry.{Entry}
 use Rattle.log_core.specs.declared.Replay.{Replay}
+use Rattle.log_votes.specs.Vote.{vote_commit, vote_kept, vote_update}
 use Rattle.log_votes.specs.declared.Outcome.{Outcome}
 use Rattle.log_votes.specs.declared.Outcome.TheVariants.{Open, Commit, Abort}
 use Rattle.log_core.specs.Enter.{feed}
@@ -260,7 +261,7 @@ module _ {w : World} {h : List Event} (G : Good w h) where
         let v = vote_at (plain_log f.batches) tx store in
         subst (λ l. FollowedWell l store tx o update) (sym (fed_more f.batches f.front))
         (followed_stays (all_entries f.batches) _ store tx o update (not_open o f.shut) f.is
-        (and_left v.kept v.commit f.kept, and_right v.kept v.commit f.kept) f.update)
+        (and_left (vote_kept v) (vote_commit v) f.kept, and_right (vote_kept v) (vote_commit v) f.kept) f.update)
 
     module _ (p : ℕ) (l : 0 < (restored_of p h).position) where
       abbrev r : Restored
@@ -281,7 +282,7 @@ module _ {w : World} {h : List Event} (G : Good w h) where
       its_follows : (f : Follow) → Memᴰ f r.follows → FollowedWell (reached (es ++ rest)) r.store f.tx f.outcome f.update
       its_follows f t = subst (λ x. FollowedWell x r.store f.tx f.outcome f.update) is (follow_is (taken_got p h f t))
 
-      no_loss : (tx : ℕ) → AllFollowed r → EarlierCommit p r s tx → Holds r tx (vote_at (plain_log s) tx r.store).update
+      no_loss : (tx : ℕ) → AllFollowed r → EarlierCommit p r s tx → Holds r tx (vote_update (vote_at (plain_log s) tx r.store))
       unfolding plain_log
       no_loss tx all e =
           rw is

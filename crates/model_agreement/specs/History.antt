@@ -1,10 +1,9 @@
 -- Document 01, "Whole lists of steps": what was opened, sent and delivered, and its words that are
 -- defined by that alone. The newest event stands first.
-use Rattle.std.specs.Prelude.{ℕ, ◌≤◌, ◌<◌, Bool, false, cond, ◌&&◌, ◌||◌, not, List, [], ◌∷◌, ◌≢◌, T, eqb, ltb}
+use Rattle.std.specs.Prelude.{ℕ, ◌≤◌, ◌<◌, Bool, false, cond, ◌&&◌, ◌||◌, not, List, [], ◌∷◌, ◌≢◌, T, eqb, is_ok, ltb}
 use Rattle.log_entry.specs.declared.Entry.{Entry}
 use Rattle.log_entry.specs.Bits.{has}
 use Rattle.log_entry.specs.Limits.{first_turn}
-use Rattle.log_entry.specs.Refusal as refusal
 use Rattle.log_votes.specs.declared.Outcome.{Outcome}
 use Rattle.log_votes.specs.declared.Outcome.TheVariants as outcome
 use Rattle.log_core.specs.declared.Replay.{Replay}
@@ -49,7 +48,7 @@ note w (Crash role id) h = h
 note w (Back p t) h = back p t ∷ h
 
 unfoldable pub noted : World → Step → List Event → List Event
-noted w s h = cond (eqb (step_of w s).answer refusal.accepted) (note w s h) h
+noted w s h = cond (is_ok (step_of w s).answer) (note w s h) h
 
 unfoldable pub history_from : World → List Event → List Step → List Event
 history_from w h [] = h

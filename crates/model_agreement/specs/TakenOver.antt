@@ -5,6 +5,7 @@ use mathlib.Core.List.{List, Memᴰ}
 use Rattle.log_entry.specs.Bits.{has}
 use Rattle.log_core.specs.declared.Log.{Log}
 use Rattle.log_core.specs.declared.Replay.{Replay}
+use Rattle.log_votes.specs.Vote.{vote_process, vote_turn, vote_update}
 use Rattle.log_votes.specs.declared.Outcome.{Outcome}
 use Rattle.log_votes.specs.declared.Outcome.TheVariants.{Commit, Open}
 use Rattle.log_core.specs.Follow.{awaited_of}
@@ -44,8 +45,8 @@ pub record FollowedWell (l : Log) (store tx : ℕ) (o : Outcome) (update : ℕ) 
 pub record EarlierCommit (p : ℕ) (r : Restored) (s : List Batch) (tx : ℕ) : Type 0 where
   pub kept_commit : KeptCommit (plain_log s) tx r.store
   pub committed : outcome_of (plain_log s) tx ≡ Commit
-  pub took : Took (all_entries (take r.position s)) (vote_at (plain_log s) tx r.store).process (vote_at (plain_log s) tx r.store).turn r.store
-  pub another : (vote_at (plain_log s) tx r.store).process ≡ p → (vote_at (plain_log s) tx r.store).turn ≢ r.turn
+  pub took : Took (all_entries (take r.position s)) (vote_process (vote_at (plain_log s) tx r.store)) (vote_turn (vote_at (plain_log s) tx r.store)) r.store
+  pub another : vote_process (vote_at (plain_log s) tx r.store) ≡ p → vote_turn (vote_at (plain_log s) tx r.store) ≢ r.turn
 
 -- after the history h, by the plain log fed s
 pub record TakenOver (h : List Event) (s : List Batch) : Type 0 where
@@ -57,7 +58,7 @@ pub record TakenOver (h : List Event) (s : List Batch) : Type 0 where
   pub followed : {p store tx update : ℕ} {o : Outcome} → Got (follow p store tx o update) h → FollowedWell (plain_log s) store tx o update
   -- nothing is lost
   pub none_lost : (p tx : ℕ) → 0 < (restored_of p h).position → AllFollowed (restored_of p h) → EarlierCommit p (restored_of p h) s tx
-      → Holds (restored_of p h) tx (vote_at (plain_log s) tx (restored_of p h).store).update
+      → Holds (restored_of p h) tx (vote_update (vote_at (plain_log s) tx (restored_of p h).store))
   -- and nothing is invented
   pub none_invented : (p tx update : ℕ) → 0 < (restored_of p h).position → Holds (restored_of p h) tx update
       → CommittedUpdate (plain_log s) tx (restored_of p h).store update

@@ -33,8 +33,10 @@ const OWNERS: [[u8; IN_ROW]; ROWS] = [
 ];
 
 // The coordinator that the ballot belongs to.
+#[tactic(auto, unfolding(crate::specs::Owners::owner, crate::specs::Owners::owners))]
 pub fn owner(ballot: u8) -> u8
     ensures { result ≡ owner ballot }
 {
-    OWNERS[ballot as usize / IN_ROW][ballot as usize % IN_ROW]
+    let at = usize::from(ballot);
+    OWNERS[at / IN_ROW][at % IN_ROW]
 }

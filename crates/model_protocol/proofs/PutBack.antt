@@ -1,8 +1,8 @@
 -- The world with parts put back: what a step leaves alone is as it was.
-use Prim.Native.Nat.{ℕ}
 use mathlib.Core.Path.{◌≡◌, refl, ◌∙◌}
 use lib.ListN.{get_or, set}
 use lib.Seq.{set-get_or}
+use Rattle.log_entry.specs.Number.{Answer}
 use Rattle.log_core.specs.declared.Replay.{Replay}
 use Rattle.log_core.specs.Enter.{feed}
 use Rattle.log_core.specs.Log.{empty_log}
@@ -30,8 +30,8 @@ module _ (w : World) (at : Places) where
   unfolding feed no_batch
   same_logs = set-get_or w.logs at.coordinator empty_log
 
-  pub all_back : (m : Message) (r : Replay) (n : ℕ) → put_back w at r (without_messages (parts_at w at m) n) ≡ w
-  all_back m r n = λ i. record {
+  pub all_back : (m : Message) (r : Replay) (a : Answer) → put_back w at r (without_messages (parts_at w at m) a) ≡ w
+  all_back m r a = λ i. record {
     acceptors = w.acceptors;
     slots = same_slots i;
     coordinators = same_coordinators i;
@@ -50,5 +50,5 @@ unfolding send_to_all
 none_sent w m = refl
 
 -- parts that are as they were change nothing
-pub nothing_changed : (w : World) (at : Places) (m : Message) (r : Replay) (n : ℕ) → changed w at r (without_messages (parts_at w at m) n) ≡ w
-nothing_changed w at m r n = none_sent _ _ ∙ all_back w at m r n
+pub nothing_changed : (w : World) (at : Places) (m : Message) (r : Replay) (a : Answer) → changed w at r (without_messages (parts_at w at m) a) ≡ w
+nothing_changed w at m r a = none_sent _ _ ∙ all_back w at m r a

@@ -7,6 +7,7 @@ use lib.ListN.{get_or, take}
 use Rattle.log_entry.specs.declared.Entry.{Entry}
 use Rattle.log_votes.specs.declared.Outcome.{Outcome}
 use Rattle.log_votes.specs.declared.Outcome.TheVariants as outcome
+use Rattle.log_votes.specs.Vote.{vote_kept, vote_turn, vote_update}
 use Rattle.log_core.specs.declared.Replayed.{Replayed}
 use Rattle.log_core.specs.Log.{turn_of, vote_at}
 use Rattle.log_core.specs.Replay.{no_replay, rows_from, rows_in}
@@ -196,9 +197,9 @@ unfolding computed restored_once left_running follows_taken restored_anew rows_f
 begins_anew = (refl, refl, refl)
 
 -- the vote of turn 2 is kept, and the late one of turn 1 is not; the holder's turn is 2
-pub late_vote_refused : ((vote_at (log_of (after (restored_once ++ comes_back)) 0) 5 0).turn ≡ 2)
-    × ((vote_at (log_of (after (restored_once ++ comes_back)) 0) 5 0).update ≡ update_b)
-    × ((vote_at (log_of (after (restored_once ++ comes_back)) 0) 4 0).kept ≡ false)
+pub late_vote_refused : (vote_turn (vote_at (log_of (after (restored_once ++ comes_back)) 0) 5 0) ≡ 2)
+    × (vote_update (vote_at (log_of (after (restored_once ++ comes_back)) 0) 5 0) ≡ update_b)
+    × (vote_kept (vote_at (log_of (after (restored_once ++ comes_back)) 0) 4 0) ≡ false)
     × (turn_of (log_of (after (restored_once ++ comes_back)) 0) 0 ≡ 2)
     × (queued_by (after (restored_once ++ comes_back)) 0 ≡ [])
 unfolding computed restored_once comes_back
@@ -229,7 +230,7 @@ heard_again = (refl, refl, refl)
 pub own_listed : ((process_of (after (restored_once ++ own_left_running)) 1).turn ≡ 2)
     × ((process_of (after (restored_once ++ own_left_running)) 1).position ≡ 3)
     × ((process_of (after (restored_once ++ own_left_running)) 1).running ≡ 0x10)
-    × ((vote_at (log_of (after (restored_once ++ own_left_running)) 0) 4 0).turn ≡ 1)
+    × (vote_turn (vote_at (log_of (after (restored_once ++ own_left_running)) 0) 4 0) ≡ 1)
 unfolding computed restored_once own_left_running
 own_listed = (refl, refl, refl, refl)
 

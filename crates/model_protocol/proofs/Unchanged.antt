@@ -6,13 +6,13 @@ use mathlib.Core.Path.{◌≡◌, ap, refl, subst, sym, ◌∙◌}
 use mathlib.Core.Bool.{Bool, true, false, cond, ◌||◌}
 use mathlib.Core.List.{List, [], ◌∷◌}
 use mathlib.Core.Logic.{◌≢◌}
-use borrow.Author.Tests.{eqb-true}
-use lib.Dec.{eqb}
+use Rattle.std.proofs.Common.{is_ok}
 use lib.ListN.{get_or, length, set}
 use lib.Seq.{get_or-set_other, get_or-set_same}
 use Rattle.log_entry.specs.Entry.{no_process, no_turn}
 use Rattle.log_entry.specs.Limits.{process_places}
 use Rattle.log_entry.specs.Refusal.{accepted, first_refusal}
+use Rattle.log_entry.proofs.AnswerLaws.{err_ok, ok_accepted}
 use Rattle.log_entry.proofs.InsideLaws.{process_inside}
 use Rattle.log_entry.proofs.Tests.{neither_left}
 use Rattle.log_core.specs.Replay.{no_replay}
@@ -51,21 +51,21 @@ either_arm P false a b f g = g
 -- the world after a step: changed as the definitions say, or as it was
 step_cases : (P : World → Type 0) (w : World) (s : Step) → P (changed w (places_in w s) (replay_in w s) (change_of (parts_of w s) s)) → P w → P (step_of w s).world
 unfolding step_of
-step_cases P w s new old = either_arm (λ (x : Stepped). P x.world) (eqb (step_refusal (parts_of w s) s) accepted) _ _ new old
+step_cases P w s new old = either_arm (λ (x : Stepped). P x.world) (is_ok (step_refusal (parts_of w s) s)) _ _ new old
 
 -- the answer is the first refusal, accepted if there is none
 pub answer_is_refusal : (w : World) (s : Step) → (step_of w s).answer ≡ step_refusal (parts_of w s) s
 unfolding step_of
-answer_is_refusal w s = go (eqb (step_refusal (parts_of w s) s) accepted) refl
+answer_is_refusal w s = go (is_ok (step_refusal (parts_of w s) s)) refl
   where
-    go : (b : Bool) → eqb (step_refusal (parts_of w s) s) accepted ≡ b → (step_of w s).answer ≡ step_refusal (parts_of w s) s
-    go true e = rw e (sym (eqb-true (step_refusal (parts_of w s) s) accepted e))
+    go : (b : Bool) → is_ok (step_refusal (parts_of w s) s) ≡ b → (step_of w s).answer ≡ step_refusal (parts_of w s) s
+    go true e = rw e (sym (ok_accepted (step_refusal (parts_of w s) s) e))
     go false e = rw e
 
 pub refused_same : RefusedStepChangesNothing
 unfolding step_of
 refused_same w s =
-    either_arm (λ (x : Stepped). x.answer ≢ accepted → x.world ≡ w) (eqb (step_refusal (parts_of w s) s) accepted) _ _
+    either_arm (λ (x : Stepped). x.answer ≢ accepted → x.world ≡ w) (is_ok (step_refusal (parts_of w s) s)) _ _
     (λ n. absurd (n refl)) (λ n. refl)
 
 pub crash_keeps : CrashChangesOnlyDown
@@ -194,7 +194,7 @@ unfolding step_refusal first_refusal outside_step
 back_inside w p t h = go (no_process p || no_turn t) refl (sym (answer_is_refusal w (Back p t)) ∙ h)
   where
     go : (b : Bool) → (no_process p || no_turn t) ≡ b → step_refusal (parts_of w (Back p t)) (Back p t) ≡ accepted → p < process_places
-    go true e k = absurd (let z : ⊥ = omega (arith, rw e at k) in z)
+    go true e k = absurd (err_ok (rw e at k))
     go false e k = omega (arith, process_inside p (neither_left (no_process p) (no_turn t) e))
 
 module _ (w : World) (p t : ℕ) (has : HasProcesses w) (inside : p < process_places) where

@@ -1,7 +1,8 @@
 -- Batches: "A batch has 1 to 4 entries".
-use Rattle.std.specs.Prelude.{false, List, length, replicate, take}
+use Rattle.std.specs.Prelude.{List, length, replicate, take}
 use Rattle.std.proofs.lemmas.List.Edits.{sets}
 use Rattle.log_entry.specs.declared.Entry.{Entry}
+use Rattle.log_entry.specs.Entry.{take_entry}
 use Rattle.model_protocol.specs.declared.Entries.{Entries}
 use Rattle.model_protocol.specs.Limits.{batch_entries}
 
@@ -10,7 +11,7 @@ Batch = Entries batch_entries
 
 -- the place of no entry
 abbrev pub no_entry : Entry
-no_entry = record { take = false; process = 0; turn = 0; by = 0; store = 0; tx = 0; participants = 0; commit = false; update = 0 }
+no_entry = take_entry 0 0 0
 
 -- the place of no batch
 unfoldable pub no_batch : Batch

@@ -1,5 +1,6 @@
 -- The parts of the world that a step touches, with one of them changed, and changes.
 use Rattle.std.specs.Prelude.{ℕ, Bool, false, true}
+use Rattle.log_entry.specs.Number.{Answer}
 use Rattle.log_entry.specs.Refusal.{accepted}
 use Rattle.model_protocol.specs.declared.AcceptorSlot.{AcceptorSlot}
 use Rattle.model_protocol.specs.declared.Coordinator.{Coordinator}
@@ -69,7 +70,7 @@ is_anew x = false
 -- ---- changes
 
 -- the parts are these, and nothing is sent
-abbrev pub without_messages : Parts → ℕ → Change
+abbrev pub without_messages : Parts → Answer → Change
 without_messages p answer = record { answer = answer; parts = p; count = 0; message = no_message; beside = Nothing }
 
 -- the step is accepted, the parts are these, and n messages are sent

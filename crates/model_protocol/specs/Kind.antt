@@ -1,4 +1,4 @@
--- The kinds of messages.
+-- The kinds of messages. `said_kind` of specs/Message.antt has the kind of each.
 pub data Kind : Type 0 where
   Request : Kind
   Prepare : Kind

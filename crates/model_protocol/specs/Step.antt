@@ -1,13 +1,15 @@
 -- The steps of the world: for each kind the refusals, in the order in which they are tried, and
 -- what the step does. Both go by the parts of the world that the step touches.
-use Rattle.std.specs.Prelude.{ℕ, suc, Bool, ◌&&◌, ◌||◌, not, cond, List, [], ◌∷◌, eqb, leb, get_or, set}
+use Rattle.std.specs.Prelude.{ℕ, suc, Bool, ◌&&◌, ◌||◌, not, cond, List, [], ◌∷◌, eqb, leb, get_or, is_ok, set}
 use Rattle.log_entry.specs.declared.Entry.{Entry}
-use Rattle.log_entry.specs.Entry.{ill_formed}
+use Rattle.log_entry.specs.Entry.{by_of, ill_formed, is_take}
 use Rattle.log_entry.specs.Limits.{stores}
+use Rattle.log_entry.specs.Number.{Answer}
 use Rattle.log_entry.specs.Refusal.{accepted, check, Check, first_refusal, ill_formed_vote, no_place, not_met, not_sent_yet, outside_limits, party_down}
 use Rattle.log_core.specs.declared.Log.{Log}
 use Rattle.log_core.specs.declared.Replay.{Replay}
 use Rattle.log_core.specs.Enter.{feed}
+use Rattle.log_votes.specs.Vote.{vote_update}
 use Rattle.log_votes.specs.Outcome.{is_commit, is_committed, is_open}
 use Rattle.log_core.specs.Follow.{awaited_of}
 use Rattle.log_core.specs.Log.{outcome_of, turn_of, vote_at}
@@ -59,13 +61,13 @@ voting_store l process tx = let s = held_store l process in cond (is_commit s (v
 
 -- "the update (0 if aborted)" of the store's vote on a decided transaction
 abbrev pub update_of : Log → ℕ → ℕ → ℕ
-update_of l tx store = cond (is_committed (outcome_of l tx)) (vote_at l tx store).update 0
+update_of l tx store = cond (is_committed (outcome_of l tx)) (vote_update (vote_at l tx store)) 0
 
 -- ---- refusals
 
 -- "voter does not believe it holds `by`"
 abbrev pub voter_not_holder : Entry → Process → Bool
-voter_not_holder e p = not e.take && not (believes p e.by)
+voter_not_holder e p = not (is_take e) && not (believes p (by_of e))
 
 -- "A take or vote with another turn than the process's present one"
 abbrev pub other_turn : Entry → Process → Bool
@@ -94,7 +96,7 @@ step_checks p (Request e to) =
     check party_down (is_down p.down Proc e.process || is_down p.down Coord to)
     ∷ check not_met (not_set_up p || other_turn e p.process || voter_not_holder e p.process)
     ∷ check no_place (lacks_numbers p.sent 1)
-    ∷ check ill_formed_vote (not e.take && ill_formed e)
+    ∷ check ill_formed_vote (not (is_take e) && ill_formed e)
     ∷ []
 step_checks p (Open c i b) =
     check party_down (is_down p.down Coord c)
@@ -135,7 +137,7 @@ step_checks p (Crash role id) = check party_down (is_down p.down role id) ∷ ch
 step_checks p (Back process turn) = check not_met (not_set_up p || leb turn p.process.turn) ∷ []
 
 -- the answer to a step: "The lowest number that applies is given."
-unfoldable pub step_refusal : Parts → Step → ℕ
+unfoldable pub step_refusal : Parts → Step → Answer
 step_refusal p s = first_refusal (check outside_limits (outside_step (acceptors_counted p.acceptors) s) ∷ step_checks p s)
 
 -- ---- what an accepted step does to the parts, and what it sends
@@ -245,14 +247,14 @@ put_back w at r ch =
 abbrev pub changed : World → Places → Replay → Change → World
 changed w at r ch = send_to_all (put_back w at r ch) ch.count (copy_of ch.message)
 
-abbrev pub answered : World → ℕ → Stepped
-answered w n = record { world = w; answer = n }
+abbrev pub answered : World → Answer → Stepped
+answered w a = record { world = w; answer = a }
 
 -- the world after the step, and the answer: a refused step leaves the world as it was
 unfoldable pub step_of : World → Step → Stepped
 step_of w s =
     let p = parts_of w s in
-    cond (eqb (step_refusal p s) accepted) (answered (changed w (places_in w s) (replay_in w s) (change_of p s)) accepted) (answered w (step_refusal p s))
+    cond (is_ok (step_refusal p s)) (answered (changed w (places_in w s) (replay_in w s) (change_of p s)) accepted) (answered w (step_refusal p s))
 
 -- "Each later one gets the world that the last one handed back"
 unfoldable pub run : World → List Step → World

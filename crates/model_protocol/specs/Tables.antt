@@ -3,6 +3,7 @@
 -- refusal is given where several apply.
 use Rattle.std.specs.Prelude.{ℕ, ◌≡◌, true, false, List, [], ◌∷◌, map}
 use Rattle.log_entry.specs.Entry.{take_entry, vote_entry}
+use Rattle.log_entry.specs.Number.{answer_number}
 use Rattle.model_steps.specs.declared.Role.TheVariants.{Acceptor, Coord, Proc}
 use Rattle.model_steps.specs.declared.Step.{Step}
 use Rattle.model_steps.specs.declared.Step.TheVariants.{Back, Crash, Deliver, Follow, Open, Propose, Request, Restore, Setup, Tell}
@@ -22,7 +23,7 @@ s gives n = record { step = s; answer = n }
 -- the same steps with the answers that the definitions give, one after the other
 unfoldable pub as_defined : World → List Tried → List Tried
 as_defined w [] = []
-as_defined w (t ∷ ts) = (t.step gives (step_of w t.step).answer) ∷ as_defined (step_of w t.step).world ts
+as_defined w (t ∷ ts) = (t.step gives answer_number (step_of w t.step).answer) ∷ as_defined (step_of w t.step).world ts
 
 abbrev pub Holds : List Tried → Type 0
 Holds table = as_defined fresh_world table ≡ table

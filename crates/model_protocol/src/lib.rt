@@ -10,10 +10,10 @@ use limits::{
 use log_core::{Log, Replay};
 use log_entry::Entry;
 use log_entry::limits::{PROCESS_PLACES, TRANSACTION_PLACES, Update};
+use log_entry::refusal::Answer;
+use log_votes::Outcome;
 
 pub mod limits;
-
-use log_votes::Outcome;
 
 // The first `count` entries of a row. A count of one byte would have seven after it that nothing
 // uses, and they would be copied with every step.
@@ -234,7 +234,7 @@ pub enum Beside {
 // The answer to a step, the parts after it, and what it sends.
 #[derive(Clone, Copy)]
 pub struct Change {
-    pub answer: u8,
+    pub answer: Answer,
     pub parts: Parts,
     // So many messages: this one first, and then the same to acceptors 1, 2 and so on.
     pub count: u8,
@@ -254,5 +254,5 @@ pub struct Places {
 #[derive(Clone, Copy)]
 pub struct Stepped {
     pub world: World,
-    pub answer: u8,
+    pub answer: Answer,
 }

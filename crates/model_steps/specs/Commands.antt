@@ -1,7 +1,12 @@
 -- What the lines of an input ask for.
-use Rattle.std.specs.Prelude.{ℕ, List, take}
-use Rattle.model_steps.specs.declared.Command.{Command}
+use Rattle.std.specs.Prelude.{ℕ, List, Result, take}
+use Rattle.log_entry.specs.declared.refusal.Refusal.{Refusal}
+use Rattle.model_steps.specs.declared.Step.{Step}
 use Rattle.model_steps.specs.declared.Commands.{Commands}
+
+-- a step to be taken, or only the answer to a line that is no step
+abbrev pub Command : Type 0
+Command = Result Step Refusal
 
 -- a command for each line that a program answers: 1,000, and line 1,001
 abbrev pub most_commands : ℕ

@@ -1,7 +1,12 @@
 // A step of the world as a value, whatever its numbers.
 #![tactic(auto)]
 
+ghost use Rattle.std.specs.Prelude.{◌≡◌};
+ghost use Rattle.model_steps.specs.Commands.{commands_in};
+
+use limits::COMMAND_PLACES;
 use log_entry::Entry;
+use log_entry::refusal::Refusal;
 
 pub mod limits;
 
@@ -29,16 +34,20 @@ pub enum Step {
 }
 
 // What a line asks for: a step to be taken, or only the answer to a line that is no step.
-#[derive(Clone, Copy)]
-pub struct Command {
-    // 0 if the step is to be taken.
-    pub refused: u8,
-    pub step: Step,
-}
+pub type Command = Result<Step, Refusal>;
 
 // What the lines of an input ask for: the first `count`.
 #[derive(Clone, Copy)]
 pub struct Commands {
     pub count: u16,
-    pub commands: [Command; limits::COMMAND_PLACES],
+    pub commands: [Command; COMMAND_PLACES],
+}
+
+impl Commands {
+    // All of the places where the count is above them.
+    pub fn as_slice(&self) -> &[Command]
+        ensures { result.now ≡ commands_in self.now }
+    {
+        &self.commands[..usize::from(self.count).min(COMMAND_PLACES)]
+    }
 }

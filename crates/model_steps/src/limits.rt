@@ -31,37 +31,7 @@ pub const COMMAND_PLACES: usize = COMMANDS as usize;
 pub fn can_set_up(n: u8) -> bool
     ensures { result ≡ can_set_up n }
 {
-    (n == FEWEST_ACCEPTORS) | (n == MOST_ACCEPTORS)
-}
-
-fn setup_outside(n: u8) -> bool
-    ensures { result ≡ not (can_set_up n) }
-{
-    !can_set_up(n)
-}
-
-fn no_request(e: Entry, to: u8) -> bool
-    ensures { result ≡ (outside stores e || no_coordinator to) }
-{
-    e.outside(STORES) | (COORDINATORS <= to)
-}
-
-fn no_round(coord: u8, inst: u8, ballot: u8) -> bool
-    ensures { result ≡ (no_coordinator coord || leb instances inst || no_ballot ballot) }
-{
-    (COORDINATORS <= coord) | (INSTANCES <= inst) | (ballot == 0)
-}
-
-fn no_tell(coord: u8, process: u8, tx: u8) -> bool
-    ensures { result ≡ (no_coordinator coord || no_process process || leb transactions tx) }
-{
-    (COORDINATORS <= coord) | log_entry::no_process(process) | (TRANSACTIONS <= tx)
-}
-
-fn no_restore(coord: u8, process: u8) -> bool
-    ensures { result ≡ (no_coordinator coord || no_process process) }
-{
-    (COORDINATORS <= coord) | log_entry::no_process(process)
+    n == FEWEST_ACCEPTORS || n == MOST_ACCEPTORS
 }
 
 fn no_party(acceptors: u8, role: Role, id: u8) -> bool
@@ -74,35 +44,32 @@ fn no_party(acceptors: u8, role: Role, id: u8) -> bool
     }
 }
 
-fn no_back(process: u8, turn: u8) -> bool
-    ensures { result ≡ (no_process process || no_turn turn) }
-{
-    log_entry::no_process(process) | log_entry::no_turn(turn)
-}
-
 // Refusal 2, where this many acceptors count.
 #[tactic(auto, unfolding(crate::specs::Limits::outside_step))]
 pub fn outside(acceptors: u8, s: Step) -> bool
     ensures { result ≡ outside_step acceptors s }
 {
     match s {
-        Step::Setup { acceptors: n } => setup_outside(n),
-        Step::Request { entry, to } => no_request(entry, to),
+        Step::Setup { acceptors: n } => !can_set_up(n),
+        Step::Request { entry, to } => entry.outside(STORES) || COORDINATORS <= to,
         Step::Open {
             coord,
             inst,
             ballot,
-        } => no_round(coord, inst, ballot),
-        Step::Propose {
+        }
+        | Step::Propose {
             coord,
             inst,
             ballot,
-        } => no_round(coord, inst, ballot),
+        } => COORDINATORS <= coord || INSTANCES <= inst || ballot == 0,
         Step::Deliver { msg } => MESSAGES <= msg,
-        Step::Tell { coord, process, tx } => no_tell(coord, process, tx),
-        Step::Restore { coord, process } => no_restore(coord, process),
-        Step::Follow { coord, process, tx } => no_tell(coord, process, tx),
+        Step::Tell { coord, process, tx } | Step::Follow { coord, process, tx } => {
+            COORDINATORS <= coord || log_entry::no_process(process) || TRANSACTIONS <= tx
+        }
+        Step::Restore { coord, process } => {
+            COORDINATORS <= coord || log_entry::no_process(process)
+        }
         Step::Crash { role, id } => no_party(acceptors, role, id),
-        Step::Back { process, turn } => no_back(process, turn),
+        Step::Back { process, turn } => log_entry::no_process(process) || log_entry::no_turn(turn),
     }
 }

@@ -1,5 +1,6 @@
 use mathlib.Core.Path.{sym, ◌∙◌}
 use native.Mathlib.Omega.{arith}
+use Rattle.log_entry.proofs.AnswerLaws.{err_accepted, err_refused}
 use Rattle.log_entry.proofs.InsideLaws.{inside_process, inside_store}
 use Rattle.log_core.proofs.DecideLaws.{begins_group}
 use Rattle.log_core.proofs.EnterLaws.{enter_outside, enter_refused, enter_stored, parts_at, place_inside, remembered_last}
@@ -17,13 +18,13 @@ bounds-self-store c = inside_store c.args.self.stores c.args.e (sym c.outside.en
 pub bounds-self-process : goal.bounds-self-process
 bounds-self-process c = omega (arith, inside_process c.args.self.stores c.args.e (sym c.outside.ensures ∙ c.if-outside.false))
 
-pub returns-then-f-ne-ACCEPTED : goal.returns-then-f-ne-ACCEPTED
-returns-then-f-ne-ACCEPTED c =
-    enter_refused c.args.self c.args.e c.row_place-tx.result c.remembered_in.result c.row_place-tx.ensures (remembered_last c.args.self c.remembered_in.ensures) c.decide-f.result c.decide-f.ensures c.if-f-ne-ACCEPTED.true
+pub returns-then-is_err : goal.returns-then-is_err
+returns-then-is_err c =
+    enter_refused c.args.self c.args.e c.row_place-tx.result c.remembered_in.result c.row_place-tx.ensures (remembered_last c.args.self c.remembered_in.ensures) c.decide-f.result c.decide-f.ensures (err_refused c.decide-f.result.answer (sym c.is_err.ensures.value ∙ c.if-is_err.true))
 
 pub returns : goal.returns
 returns c =
-    enter_stored c.args.self c.args.e c.row_place-tx.result c.remembered_in.result c.row_place-tx.ensures (remembered_last c.args.self c.remembered_in.ensures) c.decide-f.result c.decide-f.ensures c.if-f-ne-ACCEPTED.false c.stored.ensures
+    enter_stored c.args.self c.args.e c.row_place-tx.result c.remembered_in.result c.row_place-tx.ensures (remembered_last c.args.self c.remembered_in.ensures) c.decide-f.result c.decide-f.ensures (err_accepted c.decide-f.result.answer (sym c.is_err.ensures.value ∙ c.if-is_err.false)) c.stored.ensures
 
 pub stored-requires-clause-group_nonzero : goal.stored-requires-clause-group_nonzero
 stored-requires-clause-group_nonzero c =

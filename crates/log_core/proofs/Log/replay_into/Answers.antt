@@ -1,3 +1,4 @@
+use Rattle.log_votes.specs.Vote.{vote_update}
 use Prim.Native.Nat.{ℕ, ◌+◌, ◌-◌, ◌<◌}
 use mathlib.Core.Bool.{Bool, true}
 use mathlib.Core.Path.{◌≡◌, ap, sym, ◌∙◌}
@@ -15,7 +16,7 @@ use Rattle.log_core.proofs.Log.replay_into.Goals as goal
 
 -- at a hit the row is the next that is left
 hit : (l : Log) (store : ℕ) (out : Replay) (g n t : ℕ) → t < length l.rows → {b : Bool} → b ≡ replays store g (get_or l.rows t no_row) → b ≡ true
-    → {u : ℕ} → u ≡ (vote_of_store store (get_or l.rows t no_row)).update → Filled l store out (left store l.rows g n t)
+    → {u : ℕ} → u ≡ vote_update (vote_of_store store (get_or l.rows t no_row)) → Filled l store out (left store l.rows g n t)
     → Filled l store out (record { group = g; tx = t; update = u } ∷ left store l.rows g n (t + 1))
 hit l store out g n t h is so {u} update f =
     filled_same l store out _ _

@@ -1,5 +1,7 @@
 use borrow.Author.Tests.{not-false, not-true}
+use mathlib.Core.Path.{ap}
 use native.Mathlib.Omega.{arith}
+use Rattle.log_entry.specs.Entry.{in_is_take, in_tx_of}
 use Rattle.log_entry.proofs.InsideLaws.{inside_process, inside_store, inside_vote}
 use Rattle.log_core.proofs.EnterLaws.{holder_stored, stored_group, stored_row}
 use Rattle.log_core.proofs.Log.stored.Goals as goal
@@ -7,30 +9,34 @@ use Rattle.log_core.proofs.Log.stored.Goals as goal
 pub bounds-self-store : goal.bounds-self-store
 bounds-self-store c = inside_store c.args.self.stores c.args.e c.requires.e_value
 
-pub bounds-self-store-then-e : goal.bounds-self-store-then-e
-bounds-self-store-then-e c = inside_store c.args.self.stores c.args.e c.requires.e_value
+pub bounds-self-store-in-Take : goal.bounds-self-store-in-Take
+bounds-self-store-in-Take c = inside_store c.args.self.stores c.args.e c.requires.e_value
 
-pub bounds-self-process : goal.bounds-self-process
-bounds-self-process c = omega (arith, inside_process c.args.self.stores c.args.e c.requires.e_value)
+pub bounds-self-e : goal.bounds-self-e
+bounds-self-e c = omega (arith, inside_process c.args.self.stores c.args.e c.requires.e_value)
 
-pub bounds-self-store-then-e-2 : goal.bounds-self-store-then-e-2
-bounds-self-store-then-e-2 c = inside_store c.args.self.stores c.args.e c.requires.e_value
+pub bounds-self-store-in-Take-2 : goal.bounds-self-store-in-Take-2
+bounds-self-store-in-Take-2 c = inside_store c.args.self.stores c.args.e c.requires.e_value
 
-pub bounds-self-store-then-e-3 : goal.bounds-self-store-then-e-3
-bounds-self-store-then-e-3 c = inside_store c.args.self.stores c.args.e c.requires.e_value
-
-pub returns-then-e : goal.returns-then-e
-returns-then-e c =
-    holder_stored c.args.self c.args.e c.args.f c.if-e.true (omega (arith, inside_process c.args.self.stores c.args.e c.requires.e_value))
-
-pub bounds-self-tx : goal.bounds-self-tx
-bounds-self-tx c = (inside_vote c.args.self.stores c.args.e c.requires.e_value c.if-e.false).tx
-
-pub returns-then-not-f : goal.returns-then-not-f
-returns-then-not-f c = stored_row c.args.self c.args.e c.args.f c.if-e.false c.keeping-row.ensures (not-true _ c.if-not-f.true)
-
-pub returns : goal.returns
-returns c = stored_group c.args.self c.args.e c.args.f c.if-e.false c.keeping-row.ensures (not-false _ c.if-not-f.false) c.running_set-running.result c.running_set-running.ensures
+pub bounds-self-store-in-Take-3 : goal.bounds-self-store-in-Take-3
+bounds-self-store-in-Take-3 c = inside_store c.args.self.stores c.args.e c.requires.e_value
 
 pub overflow_shl-self : goal.overflow_shl-self
 overflow_shl-self c = omega (arith, inside_process c.args.self.stores c.args.e c.requires.e_value)
+
+pub returns-in-Take : goal.returns-in-Take
+returns-in-Take c =
+    holder_stored c.args.self c.args.e c.args.f (ap in_is_take c.in-Take.is) (omega (arith, inside_process c.args.self.stores c.args.e c.requires.e_value))
+
+pub bounds-self-tx : goal.bounds-self-tx
+bounds-self-tx c =
+    omega (arith, ap in_tx_of c.in-Vote.is, (inside_vote c.args.self.stores c.args.e c.requires.e_value (ap in_is_take c.in-Vote.is)).tx)
+
+pub returns-then-not-f : goal.returns-then-not-f
+returns-then-not-f c =
+    stored_row c.args.self c.args.e c.args.f (ap in_is_take c.in-Vote.is) (ap in_tx_of c.in-Vote.is) c.keeping-row.ensures (not-true _ c.if-not-f.true)
+
+pub returns-else-not-f : goal.returns-else-not-f
+returns-else-not-f c =
+    stored_group c.args.self c.args.e c.args.f (ap in_is_take c.in-Vote.is) (ap in_tx_of c.in-Vote.is) c.keeping-row.ensures (not-false _ c.if-not-f.false)
+    c.running_set-running.result c.running_set-running.ensures

@@ -1,20 +1,28 @@
-use mathlib.Core.Path.{sym, ◌∙◌}
+use mathlib.Core.Path.{ap, sym, ◌∙◌}
 use native.Mathlib.Omega.{arith}
+use Rattle.log_entry.specs.Entry.{in_by_of, in_is_take}
 use Rattle.log_entry.specs.Refusal.{outside_limits}
+use Rattle.log_entry.proofs.AnswerLaws.{err_ok}
 use Rattle.log_entry.proofs.InsideLaws.{inside_vote}
 use Rattle.log_core.proofs.DecideLaws.{answer_outside, answer_take, effect_refused, effect_take}
 use Rattle.log_core.proofs.Parts.decide.Goals as goal
 
 pub returns-then-outside : goal.returns-then-outside
 returns-then-outside c =
-    effect_refused c.args.self c.args.e outside_limits (answer_outside c.args.self c.args.e (sym c.outside.ensures ∙ c.if-outside.true)) (λ k. omega arith)
+    effect_refused c.args.self c.args.e outside_limits (answer_outside c.args.self c.args.e (sym c.outside.ensures ∙ c.if-outside.true)) err_ok
 
-pub returns-then-e : goal.returns-then-e
-returns-then-e c =
-    effect_take c.args.self c.args.e c.take_refusal.result (c.take_refusal.ensures ∙ answer_take c.args.self c.args.e (sym c.outside.ensures ∙ c.if-outside.false) c.if-e.true) c.if-e.true
+pub returns-in-Take : goal.returns-in-Take
+returns-in-Take c =
+    let take = ap in_is_take c.in-Take.is in
+    effect_take c.args.self c.args.e c.take_refusal.result
+    (c.take_refusal.ensures ∙ answer_take c.args.self c.args.e (sym c.outside.ensures ∙ c.if-outside.false) take) take
 
-pub bounds-holders-by : goal.bounds-holders-by
-bounds-holders-by c = (inside_vote c.args.self.stores c.args.e (sym c.outside.ensures ∙ c.if-outside.false) c.if-e.false).by
+pub bounds-self-by-in-Vote : goal.bounds-self-by-in-Vote
+bounds-self-by-in-Vote c =
+    let inside = inside_vote c.args.self.stores c.args.e (sym c.outside.ensures ∙ c.if-outside.false) (ap in_is_take c.in-Vote.is) in
+    omega (arith, ap in_by_of c.in-Vote.is, inside.by)
 
-pub bounds-turns-by : goal.bounds-turns-by
-bounds-turns-by c = (inside_vote c.args.self.stores c.args.e (sym c.outside.ensures ∙ c.if-outside.false) c.if-e.false).by
+pub bounds-self-by : goal.bounds-self-by
+bounds-self-by c =
+    let inside = inside_vote c.args.self.stores c.args.e (sym c.outside.ensures ∙ c.if-outside.false) (ap in_is_take c.in-Vote.is) in
+    omega (arith, ap in_by_of c.in-Vote.is, inside.by)
