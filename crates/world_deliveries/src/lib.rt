@@ -58,7 +58,7 @@ fn request(mut p: Parts, entry: Entry) -> Change
     ensures { result ≡ delivery_change p kind.Request }
 {
     p.coordinator.queue = queue::join(p.coordinator.queue, entry);
-    changes::without_messages(p, 0)
+    changes::without_messages(p, Ok(()))
 }
 
 #[tactic(auto, unfolding(model_protocol::specs::Deliver::delivery_change))]
@@ -68,7 +68,7 @@ fn prepare(mut p: Parts, inst: u8, ballot: u8, acceptor: u8) -> Change
 {
     let before = p.slot;
     if !world_acceptor::promises(before, ballot) {
-        return changes::without_messages(p, 0);
+        return changes::without_messages(p, Ok(()));
     }
     p.slot = world_acceptor::promising(before, ballot);
     let promise = Message::Promise {
@@ -87,7 +87,7 @@ fn accept(mut p: Parts, inst: u8, ballot: u8, acceptor: u8, batch: Batch) -> Cha
     ensures { result ≡ delivery_change p kind.Accept }
 {
     if !world_acceptor::accepts(p.slot, ballot) {
-        return changes::without_messages(p, 0);
+        return changes::without_messages(p, Ok(()));
     }
     p.slot = world_acceptor::accepting(ballot, batch);
     let accepted = Message::Accepted {
@@ -112,10 +112,10 @@ fn promise(mut p: Parts, inst: u8, ballot: u8, acceptor: u8, accepted: u8, batch
 {
     let c = p.coordinator;
     if !is_heard(c, inst, ballot, acceptor) {
-        return changes::without_messages(p, 0);
+        return changes::without_messages(p, Ok(()));
     }
     p.coordinator.round = round::promise_heard(c.round, acceptor, accepted, batch);
-    changes::without_messages(p, 0)
+    changes::without_messages(p, Ok(()))
 }
 
 #[tactic(auto, unfolding(model_protocol::specs::Deliver::delivery_change))]
@@ -125,12 +125,12 @@ fn accepted(mut p: Parts, inst: u8, ballot: u8, acceptor: u8) -> Change
 {
     let c = p.coordinator;
     if !is_heard(c, inst, ballot, acceptor) {
-        return changes::without_messages(p, 0);
+        return changes::without_messages(p, Ok(()));
     }
     let counted = round::counting(c.round, acceptor);
     if !round::is_majority(p.acceptors, counted.acceptances) {
         p.coordinator.round = counted;
-        return changes::without_messages(p, 0);
+        return changes::without_messages(p, Ok(()));
     }
     p.coordinator = learn::learning(c);
     changes::learns(p, c.round.proposal.unwrap_or(no_batch()))
@@ -142,7 +142,7 @@ fn tell(mut p: Parts, tx: u8, outcome: Outcome) -> Change
     ensures { result ≡ delivery_change p kind.Tell }
 {
     p.process = world_process::hearing(p.process, tx, outcome);
-    changes::without_messages(p, 0)
+    changes::without_messages(p, Ok(()))
 }
 
 #[tactic(auto, unfolding(model_protocol::specs::Deliver::delivery_change))]
@@ -151,7 +151,7 @@ fn restore(mut p: Parts, turn: u8, store: u8, position: u8, running: u32) -> Cha
     ensures { result ≡ delivery_change p kind.Restore }
 {
     if !world_process::takes_restore(p.process, turn, position) {
-        return changes::without_messages(p, 0);
+        return changes::without_messages(p, Ok(()));
     }
     p.process = world_process::taking(p.process, store, position, running);
     changes::takes_replay(p)
@@ -172,7 +172,7 @@ fn follow(mut p: Parts, store: u8, tx: u8) -> Change
     ensures { result ≡ delivery_change p kind.Follow }
 {
     if !world_process::takes_follow(p.process, store, tx) {
-        return changes::without_messages(p, 0);
+        return changes::without_messages(p, Ok(()));
     }
     p.process = following(p.process, tx);
     changes::keeps_follow(p)
@@ -231,7 +231,7 @@ pub fn deliver(p: Parts, msg: u8) -> Change
         full: no_room(p),
         ill: false,
     });
-    if answer != 0 {
+    if answer.is_err() {
         return changes::without_messages(p, answer);
     }
     hand(p)

@@ -1,4 +1,4 @@
--- One command carried out, and the commands in turn.
+-- One step taken, and the commands in turn.
 use Prim.Native.Nat.{ℕ, ◌<◌, ◌+◌, ◌-◌, ◌≤◌}
 use mathlib.Core.Bool.{true}
 use mathlib.Core.List.{List, ◌∷◌}
@@ -7,8 +7,9 @@ use native.Mathlib.Numerals.{add-one}
 use native.Mathlib.Omega.{arith}
 use lib.ListN.{drop, drop_of_length-le, get_or, length, set}
 use lib.Seq.{drop-cons, sets}
-use Rattle.log_votes.proofs.InList.{in_list}
-use Rattle.model_steps.specs.declared.Command.{Command}
+use Rattle.log_entry.specs.Number.{Answer, answer_number}
+use Rattle.model_steps.specs.declared.Step.{Step}
+use Rattle.model_steps.specs.Commands.{Command}
 use Rattle.model_steps.specs.Limits.{messages}
 use Rattle.model_protocol.specs.declared.Change.{Change}
 use Rattle.model_protocol.specs.declared.Message.{Message}
@@ -19,53 +20,49 @@ use Rattle.model_protocol.specs.Change.{is_given}
 use Rattle.model_protocol.specs.Message.{no_message}
 use Rattle.model_protocol.specs.Places.{message_at, places_of}
 use Rattle.model_protocol.specs.Send.{copy_of, send_to_all}
-use Rattle.model_protocol.specs.Step.{answered, message_for, parts_at, put_back}
+use Rattle.model_protocol.specs.Step.{answered, message_for, parts_at, put_back, step_of}
 use Rattle.model_protocol.specs.World.{coordinator_of, log_of, message_of, replay_with}
 use Rattle.world_engine.specs.Changed.{change_in}
 use Rattle.world_engine.specs.Commands.{answers_to, carried_out, world_after}
-use Rattle.world_engine.proofs.Room.{Sends, command_fits, command_sends}
-use Rattle.world_engine.proofs.Stepping.{command_is}
+use Rattle.world_engine.proofs.Room.{Sends, step_fits, step_sends}
+use Rattle.world_engine.proofs.Stepping.{step_is}
 
 -- ---- the messages of a command have numbers
 
-module _ (ch : Change) (o : Command) (p : Parts) (is : ch ≡ change_in o p) where
+module _ (ch : Change) (s : Step) (p : Parts) (is : ch ≡ change_in s p) where
   pub count_fits : ch.count ≤ messages - p.sent
-  count_fits = rw is (command_fits o p)
+  count_fits = rw is (step_fits s p)
 
   -- so has the one with which a replay goes
   pub number_left : is_given ch.beside ≡ true → p.sent < messages
   number_left given =
-      let some : 1 ≤ ch.count = subst Sends (sym is) (command_sends o p) given in
+      let some : 1 ≤ ch.count = subst Sends (sym is) (step_sends s p) given in
       let fits = count_fits in
       omega (arith, some, fits)
 
--- ---- one command
+-- ---- one step
 
-module _ (w : World) (o : Command) (from : ℕ) (at : Places) (m : Message) (p : Parts) (ch : Change) (u v : World) where
-  pub command_taken : from ≡ message_at o.step → at ≡ places_of o.step (message_of w from)
-      → m ≡ message_for o.step (message_of w from) (log_of w at.coordinator) (coordinator_of w at.coordinator).applied
-      → p ≡ parts_at w at m → ch ≡ change_in o p → u ≡ put_back w at (replay_with w from) ch → v ≡ send_to_all u ch.count (copy_of ch.message)
-      → answered v ch.answer ≡ carried_out w o
-  command_taken from_is at_is m_is p_is ch_is u_is v_is = rw (v_is, u_is, ch_is, p_is, m_is, at_is, from_is) (command_is w o)
-
--- the message at a number of a step is there
-pub delivered_is : (w : World) (from : ℕ) (d : Message) → from < length w.messages → get_or w.messages from d ≡ message_of w from
-delivered_is w from d there = in_list w.messages from d no_message there
+module _ (w : World) (s : Step) (from : ℕ) (at : Places) (m : Message) (p : Parts) (ch : Change) (u v : World) where
+  pub step_taken : from ≡ message_at s → at ≡ places_of s (message_of w from)
+      → m ≡ message_for s (message_of w from) (log_of w at.coordinator) (coordinator_of w at.coordinator).applied
+      → p ≡ parts_at w at m → ch ≡ change_in s p → u ≡ put_back w at (replay_with w from) ch → v ≡ send_to_all u ch.count (copy_of ch.message)
+      → answered v ch.answer ≡ step_of w s
+  step_taken from_is at_is m_is p_is ch_is u_is v_is = rw (v_is, u_is, ch_is, p_is, m_is, at_is, from_is) (step_is w s)
 
 -- ---- the commands in turn
 
-module _ (xs : List Command) (k : ℕ) (d : Command) (h : k < length xs) (w v : World) (a : ℕ) (v_is : v ≡ (carried_out w (get_or xs k d)).world) where
+module _ (xs : List Command) (k : ℕ) (d : Command) (h : k < length xs) (w v : World) (a : Answer) (v_is : v ≡ (carried_out w (get_or xs k d)).world) where
   pub world_turn : world_after w (drop k xs) ≡ world_after v (drop (k + 1) xs)
   unfolding world_after
   world_turn = rw (drop-cons xs k d h, v_is, add-one k)
 
-  pub answers_turn : a ≡ (carried_out w (get_or xs k d)).answer → answers_to w (drop k xs) ≡ a ∷ answers_to v (drop (k + 1) xs)
+  pub answers_turn : a ≡ (carried_out w (get_or xs k d)).answer → answers_to w (drop k xs) ≡ answer_number a ∷ answers_to v (drop (k + 1) xs)
   unfolding answers_to
   answers_turn a_is = rw (drop-cons xs k d h, v_is, a_is, add-one k)
 
-  pub stored_turn : a ≡ (carried_out w (get_or xs k d)).answer → (answers : List ℕ)
-      → sets answers k (answers_to w (drop k xs)) ≡ sets (set answers k a) (k + 1) (answers_to v (drop (k + 1) xs))
-  stored_turn a_is answers = rw (answers_turn a_is, add-one k)
+  pub stored_turn : a ≡ (carried_out w (get_or xs k d)).answer → (n : ℕ) → n ≡ answer_number a → (answers : List ℕ)
+      → sets answers k (answers_to w (drop k xs)) ≡ sets (set answers k n) (k + 1) (answers_to v (drop (k + 1) xs))
+  stored_turn a_is n n_is answers = rw (answers_turn a_is, n_is, add-one k)
 
 module _ (xs : List Command) (k : ℕ) (h : length xs ≤ k) (w : World) where
   pub world_end : world_after w (drop k xs) ≡ w

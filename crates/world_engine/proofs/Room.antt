@@ -4,11 +4,13 @@ use Prim.Native.Nat.{ℕ, ◌≤◌, ◌-◌}
 use mathlib.Core.Bool.{Bool, cond, false, true, true≢false, not, ◌&&◌, ◌||◌}
 use mathlib.Core.Path.{◌≡◌, refl, sym}
 use native.Mathlib.Omega.{arith}
-use borrow.Author.Tests.{eqb-true, ltb-false}
-use lib.Dec.{eqb, leb}
+use borrow.Author.Tests.{ltb-false}
+use lib.Dec.{leb}
+use Rattle.std.proofs.Common.{is_ok}
 use Rattle.log_entry.specs.Limits.{stores}
-use Rattle.log_entry.specs.Refusal.{first_refusal, outside_limits}
-use Rattle.log_entry.specs.Entry.{ill_formed}
+use Rattle.log_entry.specs.Refusal.{accepted, first_refusal, outside_limits}
+use Rattle.log_entry.specs.Entry.{ill_formed, is_take}
+use Rattle.log_entry.proofs.AnswerLaws.{err_ok, ok_accepted}
 use Rattle.log_votes.specs.Outcome.{is_open}
 use Rattle.model_steps.specs.declared.Role.TheVariants.{Coord, Proc}
 use Rattle.model_steps.specs.declared.Step.{Step}
@@ -30,16 +32,15 @@ use Rattle.model_protocol.specs.Step.{acceptors_counted, cannot_open, cannot_pro
 use Rattle.model_protocol.specs.World.{is_down}
 use Rattle.world_parts.specs.Plan.{refusal_in}
 use Rattle.world_parts.specs.Refusal.{first_of, tests}
-use Rattle.model_steps.specs.declared.Command.{Command}
 use Rattle.world_engine.specs.Changed.{change_in}
 
-first_roomy : (unsent down unmet full ill : Bool) → first_of (tests unsent down unmet full ill) ≡ 0 → full ≡ false
+first_roomy : (unsent down unmet full ill : Bool) → first_of (tests unsent down unmet full ill) ≡ accepted → full ≡ false
 unfolding first_refusal
 first_roomy unsent down unmet false ill h = refl
-first_roomy true down unmet true ill h = absurd (omega (arith, h))
-first_roomy false true unmet true ill h = absurd (omega (arith, h))
-first_roomy false false true true ill h = absurd (omega (arith, h))
-first_roomy false false false true ill h = absurd (omega (arith, h))
+first_roomy true down unmet true ill h = absurd (err_ok h)
+first_roomy false true unmet true ill h = absurd (err_ok h)
+first_roomy false false true true ill h = absurd (err_ok h)
+first_roomy false false false true ill h = absurd (err_ok h)
 
 -- of two changes, neither of which sends too many
 either_fits : (t : Bool) (x y : Change) (k : ℕ) → (t ≡ true → x.count ≤ k) → y.count ≤ k → (cond t x y).count ≤ k
@@ -69,12 +70,12 @@ delivery_change_fits p kind.Restore room =
 delivery_change_fits p kind.Follow room =
     either_fits (takes_follow p.process (said_store p.message) (said_tx p.message)) _ _ (messages - p.sent) (λ _. omega arith) (omega arith)
 
-change_fits : (p : Parts) (s : Step) → refusal_in p s ≡ 0 → (change_of p s).count ≤ messages - p.sent
+change_fits : (p : Parts) (s : Step) → refusal_in p s ≡ accepted → (change_of p s).count ≤ messages - p.sent
 unfolding change_of step_checks first_refusal
 change_fits p (Setup n) h = omega arith
 change_fits p (Request e to) h =
     ltb-false (messages - p.sent) 1
-    (first_roomy false (is_down p.down Proc e.process || is_down p.down Coord to) (not_set_up p || other_turn e p.process || voter_not_holder e p.process) (lacks_numbers p.sent 1) (not e.take && ill_formed e) h)
+    (first_roomy false (is_down p.down Proc e.process || is_down p.down Coord to) (not_set_up p || other_turn e p.process || voter_not_holder e p.process) (lacks_numbers p.sent 1) (not (is_take e) && ill_formed e) h)
 change_fits p (Open c i b) h =
     ltb-false (messages - p.sent) p.acceptors
     (first_roomy false (is_down p.down Coord c) (not_set_up p || cannot_open p.coordinator c i b) (lacks_numbers p.sent p.acceptors) false h)
@@ -96,22 +97,19 @@ change_fits p (Follow c process tx) h =
 change_fits p (Crash role id) h = omega arith
 change_fits p (Back process turn) h = omega arith
 
--- so does a command
-within : (p : Parts) (s : Step) → step_refusal p s ≡ 0 → refusal_in p s ≡ 0
+-- so does any step
+within : (p : Parts) (s : Step) → step_refusal p s ≡ accepted → refusal_in p s ≡ accepted
 unfolding step_refusal first_refusal
 within p s = by (outside_step (acceptors_counted p.acceptors) s)
   where
-    by : (t : Bool) → cond t outside_limits (refusal_in p s) ≡ 0 → refusal_in p s ≡ 0
-    by true h = absurd (omega (arith, h))
+    by : (t : Bool) → cond t outside_limits (refusal_in p s) ≡ accepted → refusal_in p s ≡ accepted
+    by true h = absurd (err_ok h)
     by false h = h
 
-pub command_fits : (o : Command) (p : Parts) → (change_in o p).count ≤ messages - p.sent
+pub step_fits : (s : Step) (p : Parts) → (change_in s p).count ≤ messages - p.sent
 unfolding change_in
-command_fits o p =
-    let s = o.step in
-    either_fits (eqb o.refused 0) _ _ (messages - p.sent)
-    (λ _. either_fits (eqb (step_refusal p s) 0) (change_of p s) _ (messages - p.sent) (λ h. change_fits p s (within p s (eqb-true (step_refusal p s) 0 h))) (omega arith))
-    (omega arith)
+step_fits s p =
+    either_fits (is_ok (step_refusal p s)) (change_of p s) _ (messages - p.sent) (λ h. change_fits p s (within p s (ok_accepted (step_refusal p s) h))) (omega arith)
 
 -- ---- the message with which a replay goes is sent
 
@@ -153,7 +151,6 @@ change_sends p (Follow c process tx) = none
 change_sends p (Crash role id) = none
 change_sends p (Back process turn) = none
 
-pub command_sends : (o : Command) (p : Parts) → Sends (change_in o p)
+pub step_sends : (s : Step) (p : Parts) → Sends (change_in s p)
 unfolding change_in
-command_sends o p =
-    either_sends (eqb o.refused 0) _ _ (either_sends (eqb (step_refusal p o.step) 0) _ _ (change_sends p o.step) none) none
+step_sends s p = either_sends (is_ok (step_refusal p s)) _ _ (change_sends p s) none

@@ -1,8 +1,8 @@
--- What a command does to the parts of its step, put back, is the command carried out.
-use Prim.Native.Nat.{ℕ}
+-- What a step does to its parts, put back, is the step taken.
 use mathlib.Core.Bool.{Bool, cond, false, true}
 use mathlib.Core.Path.{◌≡◌, ap, refl}
-use lib.Dec.{eqb}
+use Rattle.std.proofs.Common.{is_ok}
+use Rattle.log_entry.specs.Number.{Answer}
 use Rattle.log_entry.specs.Refusal.{accepted}
 use Rattle.log_core.specs.declared.Replay.{Replay}
 use Rattle.model_steps.specs.declared.Step.{Step}
@@ -23,12 +23,9 @@ use Rattle.model_protocol.specs.Deliver.{delivery_change}
 use Rattle.model_protocol.specs.Process.{takes_follow, takes_restore}
 use Rattle.model_protocol.specs.Step.{answered, changed, change_of, message_in, parts_of, places_in, replay_in, step_of, step_refusal}
 use Rattle.model_protocol.proofs.PutBack.{nothing_changed}
-use Rattle.world_parts.specs.Plan.{decided}
-use Rattle.model_steps.specs.declared.Command.{Command}
 use Rattle.world_engine.specs.Changed.{change_in}
-use Rattle.world_engine.specs.Commands.{carried_out}
 
--- ---- what is not refused is answered 0
+-- ---- what is not refused is accepted
 
 either_accepted : (t : Bool) (x y : Change) → x.answer ≡ accepted → y.answer ≡ accepted → (cond t x y).answer ≡ accepted
 either_accepted true x y hx hy = hx
@@ -61,16 +58,13 @@ change_accepted p (Follow c process tx) = refl
 change_accepted p (Crash role id) = refl
 change_accepted p (Back process turn) = refl
 
--- ---- the command
+-- ---- the step
 
 -- the world after the change, and the answer; r is the replay of the message delivered
 abbrev pub stored : World → Places → Replay → Change → Stepped
 stored w at r ch = answered (changed w at r ch) ch.answer
 
-module _ (w : World) (o : Command) where
-  abbrev s : Step
-  s = o.step
-
+module _ (w : World) (s : Step) where
   abbrev p : Parts
   p = parts_of w s
 
@@ -80,21 +74,15 @@ module _ (w : World) (o : Command) where
   abbrev r : Replay
   r = replay_in w s
 
-  unchanged : (n : ℕ) → stored w at r (without_messages p n) ≡ answered w n
-  unchanged n = ap (λ (v : World). answered v n) (nothing_changed w at (message_in w s) r n)
+  unchanged : (a : Answer) → stored w at r (without_messages p a) ≡ answered w a
+  unchanged a = ap (λ (v : World). answered v a) (nothing_changed w at (message_in w s) r a)
 
   by_refusal : (t : Bool)
       → stored w at r (cond t (change_of p s) (without_messages p (step_refusal p s)))
       ≡ cond t (answered (changed w at r (change_of p s)) accepted) (answered w (step_refusal p s))
-  by_refusal true = ap (λ (n : ℕ). answered (changed w at r (change_of p s)) n) (change_accepted p s)
+  by_refusal true = ap (λ (a : Answer). answered (changed w at r (change_of p s)) a) (change_accepted p s)
   by_refusal false = unchanged (step_refusal p s)
 
-  by_command : (t : Bool)
-      → stored w at r (cond t (decided p (step_refusal p s) (change_of p s)) (without_messages p o.refused)) ≡ cond t (step_of w s) (answered w o.refused)
-  unfolding step_of
-  by_command true = by_refusal (eqb (step_refusal p s) accepted)
-  by_command false = unchanged o.refused
-
-  pub command_is : stored w at r (change_in o p) ≡ carried_out w o
-  unfolding change_in
-  command_is = by_command (eqb o.refused accepted)
+  pub step_is : stored w at r (change_in s p) ≡ step_of w s
+  unfolding change_in step_of
+  step_is = by_refusal (is_ok (step_refusal p s))

@@ -5,22 +5,24 @@ ghost use Rattle.world_engine.specs.Commands.{answers_in, carried_out, world_aft
 ghost use Rattle.model_steps.specs.Commands.{commands_in};
 
 use crate::{plan, send, store};
+use log_entry::refusal::{self, Answer};
 use model_protocol::{Stepped, World};
-use model_steps::limits::{COMMAND_PLACES, COMMANDS};
+use model_steps::limits::COMMAND_PLACES;
 use model_steps::{Command, Commands, Step};
 use world_parts::place;
 
 // The command is carried out in the world, and answered.
-fn carry_out(w: &mut World, o: Command) -> u8
+fn carry_out(w: &mut World, o: Command) -> Answer
     ensures world { w.new ≡ (carried_out w.old o).world }
     ensures answer { result ≡ (carried_out w.old o).answer }
 {
-    let from = usize::from(place::message_at(o.step));
+    let s = o?;
+    let from = usize::from(place::message_at(s));
     let delivered = w.messages[from];
-    let at = place::places(o.step, delivered);
-    let message = store::message_of(w, o.step, delivered, at);
+    let at = place::places(s, delivered);
+    let message = store::message_of(w, s, delivered, at);
     let parts = store::parts_at(w, at, message);
-    let change = plan::change(o, parts);
+    let change = plan::change(s, parts);
     store::put_back(w, at, from, change);
     send::send(w, change.count, change.message);
     change.answer
@@ -31,10 +33,8 @@ pub fn advance(mut w: World, commands: Commands, answers: &mut [u8; COMMAND_PLAC
     ensures value { result ≡ world_after w (commands_in commands) }
     ensures answers_after { answers.new ≡ answers_in answers.old w commands }
 {
-    let count = usize::from(commands.count.min(COMMANDS));
-    let asked = &commands.commands[..count];
-    for (k, o) in asked.iter().enumerate() {
-        answers[k] = carry_out(&mut w, *o);
+    for (k, o) in commands.as_slice().iter().enumerate() {
+        answers[k] = refusal::number(carry_out(&mut w, *o));
     }
     w
 }
@@ -43,10 +43,6 @@ pub fn advance(mut w: World, commands: Commands, answers: &mut [u8; COMMAND_PLAC
 pub fn step(mut w: World, s: Step) -> Stepped
     ensures { result ≡ step_of w s }
 {
-    let command = Command {
-        refused: 0,
-        step: s,
-    };
-    let answer = carry_out(&mut w, command);
+    let answer = carry_out(&mut w, Ok(s));
     Stepped { world: w, answer }
 }

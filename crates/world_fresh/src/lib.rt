@@ -22,17 +22,7 @@ use model_protocol::{
 pub fn no_entry() -> Entry
     ensures { result ≡ no_entry }
 {
-    Entry {
-        take: false,
-        process: 0,
-        turn: 0,
-        by: 0,
-        store: 0,
-        tx: 0,
-        participants: 0,
-        commit: false,
-        update: 0,
-    }
+    Entry::take_of(0, 0, 0)
 }
 
 #[tactic(auto, unfolding(model_protocol::specs::Batch::no_batch))]

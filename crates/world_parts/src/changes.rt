@@ -4,11 +4,12 @@ ghost use Rattle.log_entry.specs.Refusal.{accepted};
 ghost use Rattle.model_protocol.specs.Message.{no_message};
 ghost use Rattle.model_protocol.specs.Change.{gives_replay, keeps_follow, learns, sending, starts_anew, takes_replay, without_messages};
 
+use log_entry::refusal::Answer;
 use model_protocol::{Batch, Beside, Change, Message, Parts};
 use world_fresh::no_message;
 
 // The parts are these, and nothing is sent.
-pub fn without_messages(p: Parts, answer: u8) -> Change
+pub fn without_messages(p: Parts, answer: Answer) -> Change
     ensures { result ≡ without_messages p answer }
 {
     Change {
@@ -27,7 +28,7 @@ pub fn sending(p: Parts, count: u8, m: Message) -> Change
     Change {
         count,
         message: m,
-        ..without_messages(p, 0)
+        ..without_messages(p, Ok(()))
     }
 }
 
@@ -37,7 +38,7 @@ fn with_beside(p: Parts, beside: Beside) -> Change
 {
     Change {
         beside,
-        ..without_messages(p, 0)
+        ..without_messages(p, Ok(()))
     }
 }
 

@@ -6,7 +6,7 @@ ghost use Rattle.model_protocol.specs.Message.{said_outcome, said_tx, said_updat
 ghost use Rattle.model_protocol.specs.Process.{believes, hearing_outcome, taking, takes_follow, takes_restore, with_follow};
 
 use log_entry::limits::TRANSACTIONS;
-use log_entry::sets::has32;
+use log_entry::sets;
 use log_votes::Outcome;
 use model_protocol::{Followed, Follows, Heard, Message, Process};
 
@@ -14,7 +14,7 @@ use model_protocol::{Followed, Follows, Heard, Message, Process};
 pub fn believes(p: Process, store: u8) -> bool
     ensures { result ≡ believes p store }
 {
-    (0 < p.position) & (p.store == store)
+    0 < p.position && p.store == store
 }
 
 // It heard the outcome of the transaction.
@@ -31,7 +31,7 @@ pub fn hearing(mut p: Process, tx: u8, outcome: Outcome) -> Process
 pub fn takes_restore(p: Process, turn: u8, position: u8) -> bool
     ensures { result ≡ takes_restore p turn position }
 {
-    (p.turn == turn) & (p.position < position)
+    p.turn == turn && p.position < position
 }
 
 // It takes the restore.
@@ -49,7 +49,7 @@ pub fn taking(mut p: Process, store: u8, position: u8, running: u32) -> Process
 pub fn takes_follow(p: Process, store: u8, tx: u8) -> bool
     ensures { result ≡ takes_follow p store tx }
 {
-    believes(p, store) & has32(p.running, tx) & !has32(p.followed, tx)
+    believes(p, store) && sets::has(p.running, tx) && !sets::has(p.followed, tx)
 }
 
 // The transaction that a message names, and what it says of it: 0 and open where it says nothing.

@@ -2,13 +2,13 @@
 #![tactic(auto)]
 
 ghost use Rattle.std.specs.Prelude.{◌≡◌, false, ◌&&◌, ◌||◌, not, eqb, leb};
-ghost use Rattle.log_entry.specs.Entry.{ill_formed};
+ghost use Rattle.log_entry.specs.Entry.{ill_formed, is_take};
 ghost use Rattle.log_entry.specs.Limits.{stores};
 ghost use Rattle.log_votes.specs.Outcome.{is_open};
 ghost use Rattle.log_core.specs.Follow.{awaited_of};
 ghost use Rattle.log_core.specs.Log.{outcome_of, turn_of};
 ghost use Rattle.model_steps.specs.declared.Role.TheVariants.{Coord, Proc};
-ghost use Rattle.model_steps.specs.declared.Step.TheVariants.{Back, Crash, Follow, Request, Restore, Setup, Tell};
+ghost use Rattle.model_steps.specs.declared.Step.TheVariants as step;
 ghost use Rattle.model_protocol.specs.Change.{sending};
 ghost use Rattle.model_protocol.specs.Message.{follow_to, restore_to, said_outcome, said_store};
 ghost use Rattle.model_protocol.specs.Step.{held_from, held_store, message_for, other_turn, update_of, voter_not_holder, voting_store};
@@ -19,9 +19,10 @@ ghost use Rattle.world_parts.specs.Plan.{decided, plan_of};
 ghost use Rattle.world_requests.specs.Held.{store_number};
 
 use log_core::Log;
-use log_entry::Entry;
 use log_entry::limits::{STORE_PLACES, STORES, Update};
-use log_entry::refusal::NOT_MET;
+use log_entry::refusal::{Answer, Refusal};
+use log_entry::{Entry, Request};
+use log_votes::Vote;
 use model_protocol::{Change, Down, Message, Parts, Process};
 use model_steps::{Role, Step};
 use world_fresh::started_in;
@@ -31,13 +32,23 @@ use world_parts::{changes, refusal};
 
 #[tactic(auto, unfolding(world_parts::specs::Plan::plan_of, model_protocol::specs::Step::step_checks, model_protocol::specs::Step::change_of, log_entry::specs::Refusal::first_refusal))]
 pub fn setup(mut p: Parts, n: u8) -> Change
-    ensures { result ≡ plan_of p (Setup n) }
+    ensures { result ≡ plan_of p (step.Setup n) }
 {
     if p.acceptors != 0 {
-        return changes::without_messages(p, NOT_MET);
+        return changes::without_messages(p, Err(Refusal::NotMet));
     }
     p.acceptors = n;
-    changes::without_messages(p, 0)
+    changes::without_messages(p, Ok(()))
+}
+
+// Whether the entry is a vote by a process that does not believe that it holds `by`.
+fn voter_not_holder(e: Entry, p: Process) -> bool
+    ensures { result ≡ voter_not_holder e p }
+{
+    match e.request {
+        Request::Take => false,
+        Request::Vote { by, .. } => !world_process::believes(p, by),
+    }
 }
 
 // Whether there was no setup, or the entry has another turn than the process, or is a vote by a
@@ -45,34 +56,40 @@ pub fn setup(mut p: Parts, n: u8) -> Change
 fn request_barred(n: u8, e: Entry, p: Process) -> bool
     ensures { result ≡ (eqb n 0 || other_turn e p || voter_not_holder e p) }
 {
-    (n == 0) | (e.turn != p.turn) | (!e.take & !world_process::believes(p, e.by))
+    n == 0 || e.turn != p.turn || voter_not_holder(e, p)
 }
 
 fn ill_formed(e: Entry) -> bool
-    ensures { result ≡ (not e.take && ill_formed e) }
+    ensures { result ≡ (not (is_take e) && ill_formed e) }
 {
-    !e.take & e.ill_formed()
+    !e.is_take() && e.ill_formed()
 }
 
 // Whether the coordinator or the process is down.
 fn either_down(d: Down, coord: u8, process: u8) -> bool
     ensures { result ≡ (is_down d Coord coord || is_down d Proc process) }
 {
-    parties::is_down(d, Role::Coord, coord) | parties::is_down(d, Role::Proc, process)
+    parties::is_down(d, Role::Coord, coord) || parties::is_down(d, Role::Proc, process)
 }
 
-#[tactic(auto, unfolding(world_parts::specs::Plan::plan_of, model_protocol::specs::Step::step_checks, model_protocol::specs::Step::change_of, log_entry::specs::Refusal::first_refusal))]
-pub fn request(p: Parts, e: Entry, to: u8) -> Change
-    ensures { result ≡ plan_of p (Request e to) }
+fn request_refusal(p: &Parts, e: Entry, to: u8) -> Answer
+    ensures { result ≡ first_of (tests false (is_down p.now.down Proc e.process || is_down p.now.down Coord to) (eqb p.now.acceptors 0 || other_turn e p.now.process || voter_not_holder e p.now.process) (lacks_numbers p.now.sent 1) (not (is_take e) && ill_formed e)) }
 {
-    let answer = refusal::first_of(Tests {
+    refusal::first_of(Tests {
         unsent: false,
         down: either_down(p.down, to, e.process),
         unmet: request_barred(p.acceptors, e, p.process),
         full: send::lacks_numbers(p.sent, 1),
         ill: ill_formed(e),
-    });
-    if answer != 0 {
+    })
+}
+
+#[tactic(auto, unfolding(world_parts::specs::Plan::plan_of, model_protocol::specs::Step::step_checks, model_protocol::specs::Step::change_of, log_entry::specs::Refusal::first_refusal))]
+pub fn request(p: Parts, e: Entry, to: u8) -> Change
+    ensures { result ≡ plan_of p (step.Request e to) }
+{
+    let answer = request_refusal(&p, e, to);
+    if answer.is_err() {
         return changes::without_messages(p, answer);
     }
     changes::sending(p, 1, Message::Request { to, entry: e })
@@ -80,7 +97,7 @@ pub fn request(p: Parts, e: Entry, to: u8) -> Change
 
 // The answer to a coordinator that is to send the process a message. `barred`: 5 applies, setup or
 // not.
-fn refusal_to(p: &Parts, coord: u8, process: u8, barred: bool) -> u8
+fn refusal_to(p: &Parts, coord: u8, process: u8, barred: bool) -> Answer
     ensures { result ≡ first_of (tests false (is_down p.now.down Coord coord || is_down p.now.down Proc process) (eqb p.now.acceptors 0 || barred) (lacks_numbers p.now.sent 1) false) }
 {
     refusal::first_of(Tests {
@@ -117,7 +134,7 @@ fn sends(p: Parts, coord: u8, process: u8, barred: bool) -> Change
     ensures { result ≡ decided p (first_of (tests false (is_down p.down Coord coord || is_down p.down Proc process) (eqb p.acceptors 0 || barred) (lacks_numbers p.sent 1) false)) (sending p 1 p.message) }
 {
     let answer = refusal_to(&p, coord, process, barred);
-    if answer != 0 {
+    if answer.is_err() {
         return changes::without_messages(p, answer);
     }
     changes::sending(p, 1, p.message)
@@ -125,17 +142,17 @@ fn sends(p: Parts, coord: u8, process: u8, barred: bool) -> Change
 
 #[tactic(auto, unfolding(world_parts::specs::Plan::plan_of, model_protocol::specs::Step::step_checks, model_protocol::specs::Step::change_of, log_entry::specs::Refusal::first_refusal))]
 pub fn tell(p: Parts, coord: u8, process: u8, tx: u8) -> Change
-    ensures { result ≡ plan_of p (Tell coord process tx) }
+    ensures { result ≡ plan_of p (step.Tell coord process tx) }
 {
     sends(p, coord, process, undecided(p.message))
 }
 
 #[tactic(auto, unfolding(world_parts::specs::Plan::plan_of, model_protocol::specs::Step::step_checks, model_protocol::specs::Step::change_of, log_entry::specs::Refusal::first_refusal))]
 pub fn restore(p: Parts, coord: u8, process: u8) -> Change
-    ensures { result ≡ plan_of p (Restore coord process) }
+    ensures { result ≡ plan_of p (step.Restore coord process) }
 {
     let answer = refusal_to(&p, coord, process, of_no_store(p.message));
-    if answer != 0 {
+    if answer.is_err() {
         return changes::without_messages(p, answer);
     }
     changes::gives_replay(p, p.message)
@@ -143,7 +160,7 @@ pub fn restore(p: Parts, coord: u8, process: u8) -> Change
 
 #[tactic(auto, unfolding(world_parts::specs::Plan::plan_of, model_protocol::specs::Step::step_checks, model_protocol::specs::Step::change_of, log_entry::specs::Refusal::first_refusal))]
 pub fn follow(p: Parts, coord: u8, process: u8, tx: u8) -> Change
-    ensures { result ≡ plan_of p (Follow coord process tx) }
+    ensures { result ≡ plan_of p (step.Follow coord process tx) }
 {
     sends(
         p,
@@ -195,10 +212,12 @@ fn voting_store(log: Log, process: u8, tx: u8) -> Option<u8>
 fn update_of(log: Log, tx: u8, store: u8) -> Update
     ensures { result ≡ update_of log tx store }
 {
-    if log.outcome(tx).is_commit() {
-        log.vote_on(tx, store).update
-    } else {
-        0
+    if !log.outcome(tx).is_commit() {
+        return 0;
+    }
+    match log.vote_on(tx, store) {
+        Vote::Absent => 0,
+        Vote::Abort { update, .. } | Vote::Commit { update, .. } => update,
     }
 }
 
@@ -235,7 +254,7 @@ pub fn said(s: Step, delivered: Message, log: Log, applied: u8) -> Message
 
 #[tactic(auto, unfolding(world_parts::specs::Plan::plan_of, model_protocol::specs::Step::step_checks, model_protocol::specs::Step::change_of, log_entry::specs::Refusal::first_refusal))]
 pub fn crash(mut p: Parts, role: Role, id: u8) -> Change
-    ensures { result ≡ plan_of p (Crash role id) }
+    ensures { result ≡ plan_of p (step.Crash role id) }
 {
     let answer = refusal::first_of(Tests {
         unsent: false,
@@ -244,20 +263,20 @@ pub fn crash(mut p: Parts, role: Role, id: u8) -> Change
         full: false,
         ill: false,
     });
-    if answer != 0 {
+    if answer.is_err() {
         return changes::without_messages(p, answer);
     }
     p.down = parties::crashed(p.down, role, id);
-    changes::without_messages(p, 0)
+    changes::without_messages(p, Ok(()))
 }
 
 // Neither 3 nor 6 stops a process from coming back.
 #[tactic(auto, unfolding(world_parts::specs::Plan::plan_of, model_protocol::specs::Step::step_checks, model_protocol::specs::Step::change_of, log_entry::specs::Refusal::first_refusal))]
 pub fn back(mut p: Parts, process: u8, turn: u8) -> Change
-    ensures { result ≡ plan_of p (Back process turn) }
+    ensures { result ≡ plan_of p (step.Back process turn) }
 {
-    if (p.acceptors == 0) | (turn <= p.process.turn) {
-        return changes::without_messages(p, NOT_MET);
+    if p.acceptors == 0 || turn <= p.process.turn {
+        return changes::without_messages(p, Err(Refusal::NotMet));
     }
     p.process = started_in(turn);
     p.down = parties::up_again(p.down, process);

@@ -2,9 +2,9 @@ use Rattle.std.proofs.Common.{◌≡◌, ◌∙◌, ap, arith}
 use Rattle.model_protocol.specs.declared.Parts.{Parts}
 use Rattle.model_protocol.specs.declared.Stepped.{Stepped}
 use Rattle.model_protocol.specs.declared.World.{World}
-use Rattle.model_protocol.specs.Step.{answered}
+use Rattle.model_protocol.specs.Step.{answered, step_of}
 use Rattle.world_engine.specs.Commands.{carried_out}
-use Rattle.world_engine.proofs.CommandLaws.{command_taken, count_fits, number_left}
+use Rattle.world_engine.proofs.CommandLaws.{step_taken, count_fits, number_left}
 use Rattle.world_engine.proofs.PlaceLaws.{places_there}
 use Rattle.world_engine.proofs.advance.carry_out.Goals as goal
 
@@ -37,6 +37,6 @@ send-requires c =
 pub returns : goal.returns
 returns c =
     let from = c.from-from.ensures ∙ c.message_at.ensures in
-    let taken : answered c.send.new.w c.change-change.result.answer ≡ carried_out c.args.w.now c.args.o =
-    command_taken c.args.w.now c.args.o _ _ _ _ _ _ _ from c.places-at.ensures c.message_of-message.ensures c.parts_at-parts.ensures c.change-change.ensures c.put_back.ensures c.send.ensures in
-    record { world = ap (λ (s : Stepped). s.world) taken; answer = ap (λ (s : Stepped). s.answer) taken }
+    let taken : answered c.send.new.w c.change-change.result.answer ≡ step_of c.args.w.now c.in_ok-s.s =
+    step_taken c.args.w.now c.in_ok-s.s _ _ _ _ _ _ _ from c.places-at.ensures c.message_of-message.ensures c.parts_at-parts.ensures c.change-change.ensures c.put_back.ensures c.send.ensures in
+    ?
