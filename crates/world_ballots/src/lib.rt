@@ -10,12 +10,13 @@ ghost use Rattle.model_protocol.specs.World.{is_down};
 ghost use Rattle.world_parts.specs.Refusal.{first_of, tests};
 ghost use Rattle.world_parts.specs.Plan.{plan_of};
 
+use log_entry::refusal::Answer;
 use model_owners::owner;
-use model_protocol::{Change, Coordinator, Down, Parts};
+use model_protocol::{Change, Coordinator, Down, Message, Parts};
 use model_steps::Role;
 use world_coordinator::round;
 use world_fresh::new_round;
-use world_messages::{message, parties, send};
+use world_messages::{parties, send};
 use world_parts::refusal::Tests;
 use world_parts::{changes, refusal};
 
@@ -23,11 +24,11 @@ use world_parts::{changes, refusal};
 fn ballot_barred(n: u8, k: Coordinator, coord: u8, inst: u8, ballot: u8) -> bool
     ensures { result ≡ (eqb n 0 || cannot_open k coord inst ballot) }
 {
-    (n == 0) | ((inst != k.applied) | (owner(ballot) != coord) | (ballot <= k.round.ballot))
+    n == 0 || inst != k.applied || owner(ballot) != coord || ballot <= k.round.ballot
 }
 
 // The answer to coordinator coord where it is to send to each of n acceptors. `barred`: 5 applies.
-fn refusal_to(n: u8, sent: u8, d: Down, coord: u8, barred: bool) -> u8
+fn refusal_to(n: u8, sent: u8, d: Down, coord: u8, barred: bool) -> Answer
     ensures { result ≡ first_of (tests false (is_down d Coord coord) barred (lacks_numbers sent n) false) }
 {
     refusal::first_of(Tests {
@@ -39,43 +40,55 @@ fn refusal_to(n: u8, sent: u8, d: Down, coord: u8, barred: bool) -> u8
     })
 }
 
+#[tactic(auto, unfolding(world_parts::specs::Plan::plan_of, model_protocol::specs::Step::step_checks, model_protocol::specs::Step::change_of, log_entry::specs::Refusal::first_refusal))]
 pub fn open(mut p: Parts, coord: u8, inst: u8, ballot: u8) -> Change
     ensures { result ≡ plan_of p (Open coord inst ballot) }
 {
     let barred = ballot_barred(p.acceptors, p.coordinator, coord, inst, ballot);
     let answer = refusal_to(p.acceptors, p.sent, p.down, coord, barred);
-    if answer != 0 {
+    if answer.is_err() {
         return changes::without_messages(p, answer);
     }
-    let mut c = p.coordinator;
-    c.round = new_round(ballot);
-    p.coordinator = c;
-    changes::sending(p, p.acceptors, message::prepare_to(inst, ballot, 0))
+    p.coordinator.round = new_round(ballot);
+    changes::sending(
+        p,
+        p.acceptors,
+        Message::Prepare {
+            inst,
+            ballot,
+            acceptor: 0,
+        },
+    )
 }
 
 // Whether coordinator k may not propose.
 fn proposal_barred(n: u8, k: Coordinator, inst: u8, ballot: u8) -> bool
     ensures { result ≡ (eqb n 0 || cannot_propose n k inst ballot) }
 {
-    (n == 0)
-        | ((inst != k.applied)
-            | (ballot != k.round.ballot)
-            | !round::is_majority(n, k.round.promises)
-            | k.round.proposed
-            | ((k.round.accepted == 0) & (k.queue.count == 0)))
+    n == 0
+        || inst != k.applied
+        || ballot != k.round.ballot
+        || !round::is_majority(n, k.round.promises)
+        || k.round.proposal.is_some()
+        || (k.round.accepted == 0 && k.queue.count == 0)
 }
 
+#[tactic(auto, unfolding(world_parts::specs::Plan::plan_of, model_protocol::specs::Step::step_checks, model_protocol::specs::Step::change_of, log_entry::specs::Refusal::first_refusal))]
 pub fn propose(mut p: Parts, coord: u8, inst: u8, ballot: u8) -> Change
     ensures { result ≡ plan_of p (Propose coord inst ballot) }
 {
     let barred = proposal_barred(p.acceptors, p.coordinator, inst, ballot);
     let answer = refusal_to(p.acceptors, p.sent, p.down, coord, barred);
-    if answer != 0 {
+    if answer.is_err() {
         return changes::without_messages(p, answer);
     }
-    let mut c = p.coordinator;
-    let v = round::batch_to_propose(c);
-    c.round = round::proposing(c.round, v);
-    p.coordinator = c;
-    changes::sending(p, p.acceptors, message::accept_to(inst, ballot, v, 0))
+    let batch = round::batch_to_propose(p.coordinator);
+    p.coordinator.round = round::proposing(p.coordinator.round, batch);
+    let accept = Message::Accept {
+        inst,
+        ballot,
+        acceptor: 0,
+        batch,
+    };
+    changes::sending(p, p.acceptors, accept)
 }

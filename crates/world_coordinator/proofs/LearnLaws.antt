@@ -1,21 +1,17 @@
--- A log fed a batch.
-use Prim.Native.Nat.{ℕ, ◌+◌, ◌<◌, ◌≤◌, min}
-use mathlib.Core.List.{List}
-use mathlib.Core.Path.{◌≡◌}
-use lib.ListN.{drop, get_or, length, take}
+-- One turn of the loop that feeds a log.
+use Rattle.std.proofs.Common.{◌≡◌, ◌+◌, ◌<◌, ◌≤◌, ℕ, List, add-one, drop, drop-cons, get_or, length}
+use lib.ListN.{drop_of_length-le}
 use Rattle.log_entry.specs.declared.Entry.{Entry}
 use Rattle.log_core.specs.declared.Log.{Log}
 use Rattle.log_core.specs.Enter.{enter, feed}
-use Rattle.model_protocol.specs.Batch.{no_entry}
-use Rattle.world_coordinator.proofs.FrontLaws.{front_end, front_step}
 
--- ---- a log fed the first m entries, from the i-th on
-
-module _ (l : Log) (xs : List Entry) (m i : ℕ) where
-  pub feed_step : i < m → i < length xs → feed l (drop i (take m xs)) ≡ feed (enter l (get_or xs i no_entry)).log (drop (i + 1) (take m xs))
+module _ (l : Log) (xs : List Entry) (i : ℕ) where
+  pub feed_step : (d : Entry) → i < length xs → feed l (drop i xs) ≡ feed (enter l (get_or xs i d)).log (drop (i + 1) xs)
   unfolding feed
-  feed_step hm hx = rw (front_step xs m i no_entry hm hx)
+  feed_step d h = rw (drop-cons xs i d h, add-one i)
 
-  pub feed_end : min m (length xs) ≤ i → feed l (drop i (take m xs)) ≡ l
+  pub feed_end : length xs ≤ i → feed l (drop i xs) ≡ l
   unfolding feed
-  feed_end h = rw (front_end xs m i h)
+  feed_end h = rw (drop_of_length-le xs h)
+
+pub ruleset turns = (feed_step, feed_end)

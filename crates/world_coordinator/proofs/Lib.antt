@@ -1,5 +1,2 @@
-pub mod Good
-pub mod FrontLaws
 pub mod QueueLaws
-pub mod RoundLaws
 pub mod LearnLaws

@@ -1,102 +1,73 @@
 -- One turn of each loop over a queue or a batch, on lists.
-use Prim.Native.Nat.{ℕ, ◌+◌, ◌<◌, ◌≤◌, min}
-use mathlib.Core.Bool.{false, true}
-use mathlib.Core.List.{List, [], ◌∷◌}
-use mathlib.Core.Path.{◌≡◌}
-use native.Mathlib.Numerals.{add-one}
-use native.Mathlib.Omega.{arith}
-use lib.ListN.{drop, get_or, length, length-take, replicate, set, take}
-use lib.Seq.{get_or-take, sets}
+use Rattle.std.proofs.Common.{◌≡◌, ◌+◌, ◌<◌, ◌≤◌, ℕ, List, [], ◌∷◌, arith, add-one, drop, drop-cons, false, get_or, length, min, replicate, take, true, ◌++◌, sym, ap, ap₂, ◌∙◌, length-take}
+use Rattle.std.proofs.lemmas.List.{take_min}
+use lib.ListN.{drop_of_length-le}
+use lib.Seq.{sets, sets-eq}
 use Rattle.log_entry.specs.declared.Entry.{Entry}
 use Rattle.log_entry.specs.Entry.{same_entry}
-use Rattle.model_protocol.specs.declared.Batch.{Batch}
-use Rattle.model_protocol.specs.declared.Queue.{Queue}
-use Rattle.model_protocol.specs.Batch.{batch_of, entries_of, no_entry}
+use Rattle.model_protocol.specs.Batch.{Batch, batch_of, entries_of, no_entry}
 use Rattle.model_protocol.specs.Limits.{batch_entries, queue_places}
-use Rattle.model_protocol.specs.Queue.{first_batch, is_full, is_in, joined, left_by, queue_of, queued, without}
-use Rattle.model_protocol.specs.Queue.{joining}
-use Rattle.world_coordinator.proofs.FrontLaws.{front_end, front_step}
+use Rattle.model_protocol.specs.Queue.{Queue, first_batch, is_in, left_by, queue_of, queued, without}
 
--- ---- the i-th of the first m, where there is one
+-- ---- the i-th entry of a row, and the rest
 
-module _ (xs : List Entry) (m i : ℕ) (hm : i < m) (hx : i < length xs) where
-  pub in_hit : (e : Entry) → same_entry e (get_or xs i no_entry) ≡ true → is_in e (drop i (take m xs)) ≡ true
+module _ (xs : List Entry) (d : Entry) (i : ℕ) where
+  pub in_hit : (e : Entry) → i < length xs → same_entry e (get_or xs i d) ≡ true → is_in e (drop i xs) ≡ true
   unfolding is_in
-  in_hit e h = rw (front_step xs m i no_entry hm hx, h)
+  in_hit e h k = rw (drop-cons xs i d h, k)
 
-  pub in_miss : (e : Entry) → same_entry e (get_or xs i no_entry) ≡ false → is_in e (drop i (take m xs)) ≡ is_in e (drop (i + 1) (take m xs))
+  pub in_miss : (e : Entry) → i < length xs → same_entry e (get_or xs i d) ≡ false → is_in e (drop i xs) ≡ is_in e (drop (i + 1) xs)
   unfolding is_in
-  in_miss e h = rw (front_step xs m i no_entry hm hx, h)
+  in_miss e h k = rw (drop-cons xs i d h, k, add-one i)
 
-  pub leaves : (fs : List Entry) → is_in (get_or xs i no_entry) fs ≡ true → without (drop i (take m xs)) fs ≡ without (drop (i + 1) (take m xs)) fs
+  pub leaves : (fs : List Entry) → i < length xs → is_in (get_or xs i d) fs ≡ true → without (drop i xs) fs ≡ without (drop (i + 1) xs) fs
   unfolding without
-  leaves fs h = rw (front_step xs m i no_entry hm hx, h)
+  leaves fs h k = rw (drop-cons xs i d h, k, add-one i)
 
-  pub stays : (fs : List Entry) → is_in (get_or xs i no_entry) fs ≡ false
-      → without (drop i (take m xs)) fs ≡ get_or xs i no_entry ∷ without (drop (i + 1) (take m xs)) fs
+  pub stays : (fs : List Entry) → i < length xs → is_in (get_or xs i d) fs ≡ false → without (drop i xs) fs ≡ get_or xs i d ∷ without (drop (i + 1) xs) fs
   unfolding without
-  stays fs h = rw (front_step xs m i no_entry hm hx, h)
+  stays fs h k = rw (drop-cons xs i d h, k, add-one i)
 
 -- ---- where there is none
 
-pub in_end : (e : Entry) (xs : List Entry) (m i : ℕ) → min m (length xs) ≤ i → is_in e (drop i (take m xs)) ≡ false
+pub in_end : (e : Entry) (xs : List Entry) (i : ℕ) → length xs ≤ i → is_in e (drop i xs) ≡ false
 unfolding is_in
-in_end e xs m i h = rw (front_end xs m i h)
+in_end e xs i h = rw (drop_of_length-le xs h)
 
-without_end : (fs xs : List Entry) (m i : ℕ) → min m (length xs) ≤ i → without (drop i (take m xs)) fs ≡ []
+pub without_end : (fs xs : List Entry) (i : ℕ) → length xs ≤ i → without (drop i xs) fs ≡ []
 unfolding without
-without_end fs xs m i h = rw (front_end xs m i h)
+without_end fs xs i h = rw (drop_of_length-le xs h)
 
--- ---- a queue that an entry joins
-
-module _ (q : Queue) (e : Entry) where
-  pub there_already : is_in e (queued q) ≡ true → q ≡ joining q e
-  unfolding joining
-  there_already h = rw h
-
-  pub stays_full : is_in e (queued q) ≡ false → is_full q ≡ true → q ≡ joining q e
-  unfolding joining
-  stays_full h full = rw (h, full)
-
-  pub joins : is_in e (queued q) ≡ false → is_full q ≡ false → joined q e ≡ joining q e
-  unfolding joining
-  joins h room = rw (h, room)
+pub ruleset turns = (in_hit, in_miss, in_end, leaves, stays, without_end)
 
 -- ---- the first batch
 
--- a turn stores the i-th of the first m queue entries
-pub first_turn_lem : (q : Queue) (m i : ℕ) (entries all : List Entry) → i < min q.count m → i < length q.entries
-    → sets entries i (drop i (take m (queued q))) ≡ all
-    → sets (set entries i (get_or q.entries i no_entry)) (i + 1) (drop (i + 1) (take m (queued q))) ≡ all
-first_turn_lem q m i entries all h hx inv =
-    let inside : i < length (queued q) = rw length-take (omega arith) in
-    let here : i < q.count = omega arith in
-    let step = front_step (queued q) m i no_entry (omega arith) inside in
-    rw (add-one i) (rw (step, get_or-take q.count q.entries i no_entry here, add-one i) at inv)
-
--- the end of the loop: it stored all
-pub first_done : (q : Queue) (entries : List Entry) (i n : ℕ) (d : Entry) → d ≡ no_entry → n ≡ min q.count batch_entries → n ≤ i
-    → length q.entries ≡ queue_places
-    → sets entries i (drop i (take batch_entries (queued q))) ≡ sets (replicate batch_entries d) 0 (take batch_entries (queued q))
-    → ◌≡◌ {A = Batch} (record { entries = entries; count = n }) (first_batch q)
+-- the first of the queue's entries, copied over a row of blanks
+pub copied : (q : Queue) (waiting front : List Entry) (n : ℕ) (d : Entry) → d ≡ no_entry → waiting ≡ queued q → front ≡ take n waiting
+    → n ≡ min (length waiting) batch_entries
+    → ◌≡◌ {A = Batch} (record { entries = front ++ drop n (replicate batch_entries d); count = n }) (first_batch q)
 unfolding first_batch batch_of
-first_done q entries i n d hd hn hi hl hs =
-    let size : length (take batch_entries (queued q)) ≡ min batch_entries (min q.count (length q.entries)) = rw (length-take, length-take) in
-    let rest : drop i (take batch_entries (queued q)) ≡ [] = front_end (queued q) batch_entries i (rw length-take (omega arith)) in
-    let stored : entries ≡ sets (replicate batch_entries no_entry) 0 (take batch_entries (queued q)) = rw (rest, hd) at hs in
-    let counted : n ≡ length (take batch_entries (queued q)) = omega arith in
-    λ k. record { entries = stored k; count = counted k }
+copied q waiting front n d hd hw hf hn =
+    let es = take batch_entries (queued q) in
+    let size : n ≡ min batch_entries (length waiting) = omega arith in
+    let same : front ≡ es = hf ∙ rw size (take_min batch_entries waiting) ∙ ap (take batch_entries) hw in
+    let long : length es ≡ n = rw (length-take, sym hw) (omega arith) in
+    let fit : length es ≤ 4 = omega arith in
+    let end : 0 + length es ≡ n = omega (arith, long) in
+    let put : sets (replicate batch_entries d) 0 es ≡ front ++ drop n (replicate batch_entries d) =
+    sets-eq es (replicate batch_entries d) 0 (omega (arith, fit)) ∙ ap₂ (λ (xs : List Entry) (k : ℕ). xs ++ drop k (replicate batch_entries d)) (sym same) end in
+    λ k. record { entries = (sym put ∙ ap (λ (e : Entry). sets (replicate batch_entries e) 0 es) hd) k; count = (sym long) k }
 
 -- ---- the queue after a learned batch
 
 -- the end of the outer loop: it stored all that stay
-pub left_done : (q : Queue) (b : Batch) (entries : List Entry) (n i : ℕ) (d : Entry) → d ≡ no_entry → min q.count (length q.entries) ≤ i
-    → sets entries n (without (drop i (queued q)) (entries_of b)) ≡ sets (replicate queue_places d) 0 (without (queued q) (entries_of b))
-    → n + length (without (drop i (queued q)) (entries_of b)) ≡ length (without (queued q) (entries_of b))
+pub left_done : (q : Queue) (b : Batch) (waiting entries : List Entry) (n i : ℕ) (d : Entry) → d ≡ no_entry → waiting ≡ queued q → length waiting ≤ i
+    → sets entries n (without (drop i waiting) (entries_of b)) ≡ sets (replicate queue_places d) 0 (without waiting (entries_of b))
+    → n + length (without (drop i waiting) (entries_of b)) ≡ length (without waiting (entries_of b))
     → ◌≡◌ {A = Queue} (record { entries = entries; count = n }) (left_by q b)
 unfolding left_by queue_of
-left_done q b entries n i d hd hi hs hn =
-    let rest : without (drop i (queued q)) (entries_of b) ≡ [] = without_end (entries_of b) q.entries q.count i hi in
-    let stored : entries ≡ sets (replicate queue_places no_entry) 0 (without (queued q) (entries_of b)) = rw (rest, hd) at hs in
-    let counted : n ≡ length (without (queued q) (entries_of b)) = omega (arith, rw rest at hn) in
+left_done q b waiting entries n i d hd hw hi hs hn =
+    let rest : without (drop i waiting) (entries_of b) ≡ [] = without_end (entries_of b) waiting i hi in
+    let stored : entries ≡ sets (replicate queue_places no_entry) 0 (without (queued q) (entries_of b)) = rw (rest, hw, hd) at hs in
+    let counted : n ≡ length (without (queued q) (entries_of b)) = omega (arith, rw (rest, hw) at hn) in
     λ k. record { entries = stored k; count = counted k }

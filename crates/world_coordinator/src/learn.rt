@@ -5,25 +5,19 @@ ghost use Rattle.model_steps.specs.Limits.{instances};
 ghost use Rattle.model_protocol.specs.Batch.{entries_of};
 ghost use Rattle.model_protocol.specs.Coordinator.{learning};
 
-use crate::limits::least;
 use crate::queue::left_by;
 use log_core::Log;
-use model_protocol::limits::BATCH_PLACES;
 use model_protocol::{Batch, Coordinator};
 use model_steps::limits::INSTANCES;
-use world_fresh::new_round;
+use world_fresh::{new_round, no_batch};
 
 // The batch is applied in order; a refused entry is skipped.
+#[tactic(auto, using(crate::proofs::LearnLaws::turns))]
 pub fn fed(mut log: Log, batch: Batch) -> Log
     ensures { result ≡ feed log (entries_of batch) }
 {
-    let count = least(batch.count, BATCH_PLACES);
-    let mut i: usize = 0;
-    while i < count {
-        let e = batch.entries[i];
-        let entered = log.enter(e);
-        log = entered.log;
-        i += 1;
+    for e in batch.as_slice() {
+        log = log.enter(*e).log;
     }
     log
 }
@@ -32,17 +26,15 @@ pub fn fed(mut log: Log, batch: Batch) -> Log
 fn one_more(applied: u8) -> u8
     ensures { result ≡ min (applied + 1) instances }
 {
-    if INSTANCES <= applied {
-        return INSTANCES;
-    }
-    applied + 1
+    applied.saturating_add(1).min(INSTANCES)
 }
 
 // The coordinator after a majority accepted its proposal; the batch is for its log.
+#[tactic(auto, unfolding(model_protocol::specs::Coordinator::learning))]
 pub fn learning(mut c: Coordinator) -> Coordinator
     ensures { result ≡ learning c }
 {
-    let learned = c.round.proposal;
+    let learned = c.round.proposal.unwrap_or(no_batch());
     c.applied = one_more(c.applied);
     c.queue = left_by(c.queue, learned);
     c.round = new_round(0);

@@ -3,19 +3,17 @@ ghost use Rattle.std.specs.Prelude.{◌≡◌};
 ghost use Rattle.model_protocol.specs.Queue.{first_batch, is_full, is_in, left_by, queued};
 ghost use Rattle.model_protocol.specs.Queue.{joining};
 
-use crate::limits::least;
 use log_entry::Entry;
 use model_protocol::limits::{BATCH_PLACES, QUEUE_PLACES};
 use model_protocol::{Batch, Queue};
 use world_fresh::no_entry;
-use world_queue::is_among_first;
+use world_queue::is_among;
 
 // Whether an equal entry is in the queue.
 pub fn is_queued(queue: Queue, e: Entry) -> bool
     ensures { result ≡ is_in e (queued queue) }
 {
-    let entries = queue.entries;
-    is_among_first(entries, queue.count, e)
+    is_among(queue.as_slice(), e)
 }
 
 pub fn is_full(queue: Queue) -> bool
@@ -25,13 +23,11 @@ pub fn is_full(queue: Queue) -> bool
 }
 
 // A delivered request joins the queue unless an equal entry is there; a full queue stays as it is.
+#[tactic(auto, unfolding(model_protocol::specs::Queue::joining))]
 pub fn join(mut queue: Queue, e: Entry) -> Queue
     ensures { result ≡ joining queue e }
 {
-    if is_queued(queue, e) {
-        return queue;
-    }
-    if is_full(queue) {
+    if is_queued(queue, e) || is_full(queue) {
         return queue;
     }
     queue.entries[queue.count] = e;
@@ -45,44 +41,28 @@ pub fn first_batch(queue: Queue) -> Batch
 {
     let blank = no_entry();
     let mut entries = [blank; BATCH_PLACES];
-    let count = least(queue.count, BATCH_PLACES);
-    let mut i: usize = 0;
-    while i < count {
-        entries[i] = queue.entries[i];
-        i += 1;
-    }
-    Batch {
-        entries: entries,
-        count: count,
-    }
+    let waiting = queue.as_slice();
+    let count = waiting.len().min(BATCH_PLACES);
+    entries[..count].copy_from_slice(&waiting[..count]);
+    Batch { entries, count }
 }
 
 // Queue entries equal to an entry of the learned batch leave, the rest keep their order.
+#[tactic(auto, using(crate::proofs::QueueLaws::turns))]
 pub fn left_by(queue: Queue, batch: Batch) -> Queue
     ensures { result ≡ left_by queue batch }
 {
     let blank = no_entry();
     let mut entries = [blank; QUEUE_PLACES];
-    let waiting = least(queue.count, QUEUE_PLACES);
-    let learned = least(batch.count, BATCH_PLACES);
-    let mut n: usize = 0;
-    let mut i: usize = 0;
-    'queue: while i < waiting {
-        let e = queue.entries[i];
-        i += 1;
-        let mut j: usize = 0;
-        while j < learned {
-            let f = batch.entries[j];
-            if e.same(f) {
+    let mut count = 0;
+    'queue: for e in queue.as_slice() {
+        for f in batch.as_slice() {
+            if e.same(*f) {
                 continue 'queue;
             }
-            j += 1;
         }
-        entries[n] = e;
-        n += 1;
+        entries[count] = *e;
+        count += 1;
     }
-    Queue {
-        entries: entries,
-        count: n,
-    }
+    Queue { entries, count }
 }

@@ -1,5 +1,1 @@
-pub mod BothLaws
-pub mod DeliverLaws
-pub mod DeliveryLaws
 pub mod FollowLaws
-pub mod PlaceLaws

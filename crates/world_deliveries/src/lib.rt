@@ -4,8 +4,9 @@
 ghost use Rattle.std.specs.Prelude.{◌&&◌, not, ◌≡◌, ◌<◌};
 ghost use Rattle.log_entry.specs.Limits.{transactions};
 ghost use Rattle.model_steps.specs.declared.Step.TheVariants.{Deliver};
-ghost use Rattle.model_protocol.specs.declared.Kind.TheVariants as kind;
+ghost use Rattle.model_protocol.specs.Kind as kind;
 ghost use Rattle.model_protocol.specs.Coordinator.{is_heard};
+ghost use Rattle.model_protocol.specs.Message.{accept_to, accepted_from, follow_to, prepare_to, promise_from, request_to, restore_to, said_kind, said_outcome, said_to, said_update, tell_to};
 ghost use Rattle.model_protocol.specs.Process.{following};
 ghost use Rattle.model_protocol.specs.Queue.{is_full, is_in, queued};
 ghost use Rattle.model_protocol.specs.Deliver.{delivery_change, no_place_for};
@@ -13,10 +14,12 @@ ghost use Rattle.world_parts.specs.Plan.{plan_of};
 ghost use Rattle.model_protocol.specs.Send.{lacks_numbers};
 
 use log_entry::Entry;
-use model_protocol::{Change, Coordinator, Kind, Message, Parts, Process, Queue};
+use log_votes::Outcome;
+use model_protocol::{Batch, Change, Coordinator, Message, Parts, Process, Queue};
 use model_steps::limits::MOST_ACCEPTORS;
 use world_coordinator::{learn, queue, round};
-use world_messages::{message, parties, send};
+use world_fresh::no_batch;
+use world_messages::{parties, send};
 use world_parts::refusal::Tests;
 use world_parts::{changes, refusal};
 
@@ -24,125 +27,133 @@ use world_parts::{changes, refusal};
 fn is_full_for(q: Queue, e: Entry) -> bool
     ensures { result ≡ (is_full q && not (is_in e (queued q))) }
 {
-    if !queue::is_full(q) {
-        return false;
-    }
-    !queue::is_queued(q, e)
+    queue::is_full(q) && !queue::is_queued(q, e)
 }
 
 // Whether an acceptor that answers lacks a number for it.
 fn lacks_answer(answers: bool, sent: u8) -> bool
     ensures { result ≡ (answers && lacks_numbers sent 1) }
 {
-    answers & send::lacks_numbers(sent, 1)
+    answers && send::lacks_numbers(sent, 1)
 }
 
 fn no_room(p: Parts) -> bool
-    ensures { result ≡ no_place_for p p.message.kind }
+    ensures { result ≡ no_place_for p (said_kind p.message) }
 {
-    let m = p.message;
-    let k = m.kind;
-    match k {
-        Kind::Request => is_full_for(p.coordinator.queue, m.entry),
-        Kind::Prepare => lacks_answer(world_acceptor::promises(p.slot, m.ballot), p.sent),
-        Kind::Accept => lacks_answer(world_acceptor::accepts(p.slot, m.ballot), p.sent),
+    match p.message {
+        Message::Request { entry, .. } => is_full_for(p.coordinator.queue, entry),
+        Message::Prepare { ballot, .. } => {
+            lacks_answer(world_acceptor::promises(p.slot, ballot), p.sent)
+        }
+        Message::Accept { ballot, .. } => {
+            lacks_answer(world_acceptor::accepts(p.slot, ballot), p.sent)
+        }
         _ => false,
     }
 }
 
-fn request(mut p: Parts) -> Change
+#[tactic(auto, unfolding(model_protocol::specs::Deliver::delivery_change))]
+fn request(mut p: Parts, entry: Entry) -> Change
+    requires { p.message ≡ request_to (said_to p.message) entry }
     ensures { result ≡ delivery_change p kind.Request }
 {
-    let mut c = p.coordinator;
-    c.queue = queue::join(c.queue, p.message.entry);
-    p.coordinator = c;
-    changes::without_messages(p, 0)
+    p.coordinator.queue = queue::join(p.coordinator.queue, entry);
+    changes::without_messages(p, Ok(()))
 }
 
-fn prepare(mut p: Parts) -> Change
+#[tactic(auto, unfolding(model_protocol::specs::Deliver::delivery_change))]
+fn prepare(mut p: Parts, inst: u8, ballot: u8, acceptor: u8) -> Change
+    requires { p.message ≡ prepare_to inst ballot acceptor }
     ensures { result ≡ delivery_change p kind.Prepare }
 {
-    let m = p.message;
-    let x = p.slot;
-    if !world_acceptor::promises(x, m.ballot) {
-        return changes::without_messages(p, 0);
+    let before = p.slot;
+    if !world_acceptor::promises(before, ballot) {
+        return changes::without_messages(p, Ok(()));
     }
-    p.slot = world_acceptor::promising(x, m.ballot);
-    changes::sending(
-        p,
-        1,
-        message::promise_from(m.inst, m.ballot, m.acceptor, x.ballot, x.batch),
-    )
+    p.slot = world_acceptor::promising(before, ballot);
+    let promise = Message::Promise {
+        inst,
+        ballot,
+        acceptor,
+        accepted: before.ballot,
+        batch: before.batch,
+    };
+    changes::sending(p, 1, promise)
 }
 
-fn accept(mut p: Parts) -> Change
+#[tactic(auto, unfolding(model_protocol::specs::Deliver::delivery_change))]
+fn accept(mut p: Parts, inst: u8, ballot: u8, acceptor: u8, batch: Batch) -> Change
+    requires { p.message ≡ accept_to inst ballot batch acceptor }
     ensures { result ≡ delivery_change p kind.Accept }
 {
-    let m = p.message;
-    if !world_acceptor::accepts(p.slot, m.ballot) {
-        return changes::without_messages(p, 0);
+    if !world_acceptor::accepts(p.slot, ballot) {
+        return changes::without_messages(p, Ok(()));
     }
-    p.slot = world_acceptor::accepting(m.ballot, m.batch);
-    changes::sending(p, 1, message::accepted_from(m.inst, m.ballot, m.acceptor))
+    p.slot = world_acceptor::accepting(ballot, batch);
+    let accepted = Message::Accepted {
+        inst,
+        ballot,
+        acceptor,
+    };
+    changes::sending(p, 1, accepted)
 }
 
 // Whether a promise or an acceptance is one that the coordinator counts.
-fn is_heard(c: Coordinator, m: Message) -> bool
-    ensures { result ≡ is_heard c m.inst m.ballot m.acceptor }
+fn is_heard(c: Coordinator, inst: u8, ballot: u8, acceptor: u8) -> bool
+    ensures { result ≡ is_heard c inst ballot acceptor }
 {
-    round::is_current(c, m.inst, m.ballot) & (m.acceptor < MOST_ACCEPTORS)
+    round::is_current(c, inst, ballot) && acceptor < MOST_ACCEPTORS
 }
 
-fn promise(mut p: Parts) -> Change
+#[tactic(auto, unfolding(model_protocol::specs::Deliver::delivery_change))]
+fn promise(mut p: Parts, inst: u8, ballot: u8, acceptor: u8, accepted: u8, batch: Batch) -> Change
+    requires { p.message ≡ promise_from inst ballot acceptor accepted batch }
     ensures { result ≡ delivery_change p kind.Promise }
 {
-    let m = p.message;
-    let mut c = p.coordinator;
-    if !is_heard(c, m) {
-        return changes::without_messages(p, 0);
+    let c = p.coordinator;
+    if !is_heard(c, inst, ballot, acceptor) {
+        return changes::without_messages(p, Ok(()));
     }
-    c.round = round::promise_heard(c.round, m.acceptor, m.accepted, m.batch);
-    p.coordinator = c;
-    changes::without_messages(p, 0)
+    p.coordinator.round = round::promise_heard(c.round, acceptor, accepted, batch);
+    changes::without_messages(p, Ok(()))
 }
 
-fn accepted(mut p: Parts) -> Change
+#[tactic(auto, unfolding(model_protocol::specs::Deliver::delivery_change))]
+fn accepted(mut p: Parts, inst: u8, ballot: u8, acceptor: u8) -> Change
+    requires { p.message ≡ accepted_from inst ballot acceptor }
     ensures { result ≡ delivery_change p kind.Accepted }
 {
-    let m = p.message;
-    let mut c = p.coordinator;
-    if !is_heard(c, m) {
-        return changes::without_messages(p, 0);
+    let c = p.coordinator;
+    if !is_heard(c, inst, ballot, acceptor) {
+        return changes::without_messages(p, Ok(()));
     }
-    let r = round::counting(c.round, m.acceptor);
-    if !round::is_majority(p.acceptors, r.acceptances) {
-        c.round = r;
-        p.coordinator = c;
-        return changes::without_messages(p, 0);
+    let counted = round::counting(c.round, acceptor);
+    if !round::is_majority(p.acceptors, counted.acceptances) {
+        p.coordinator.round = counted;
+        return changes::without_messages(p, Ok(()));
     }
-    let learned = c.round.proposal;
     p.coordinator = learn::learning(c);
-    changes::learns(p, learned)
+    changes::learns(p, c.round.proposal.unwrap_or(no_batch()))
 }
 
-fn tell(mut p: Parts) -> Change
+#[tactic(auto, unfolding(model_protocol::specs::Deliver::delivery_change))]
+fn tell(mut p: Parts, tx: u8, outcome: Outcome) -> Change
+    requires { p.message ≡ tell_to (said_to p.message) tx outcome }
     ensures { result ≡ delivery_change p kind.Tell }
 {
-    let m = p.message;
-    let o = m.outcome;
-    p.process = world_process::hearing(p.process, m.tx, o);
-    changes::without_messages(p, 0)
+    p.process = world_process::hearing(p.process, tx, outcome);
+    changes::without_messages(p, Ok(()))
 }
 
-fn restore(mut p: Parts) -> Change
+#[tactic(auto, unfolding(model_protocol::specs::Deliver::delivery_change))]
+fn restore(mut p: Parts, turn: u8, store: u8, position: u8, running: u32) -> Change
+    requires { p.message ≡ restore_to (said_to p.message) turn store position running }
     ensures { result ≡ delivery_change p kind.Restore }
 {
-    let m = p.message;
-    let h = p.process;
-    if !world_process::takes_restore(h, m.turn, m.position) {
-        return changes::without_messages(p, 0);
+    if !world_process::takes_restore(p.process, turn, position) {
+        return changes::without_messages(p, Ok(()));
     }
-    p.process = world_process::taking(h, m.store, m.position, m.running);
+    p.process = world_process::taking(p.process, store, position, running);
     changes::takes_replay(p)
 }
 
@@ -151,40 +162,64 @@ fn following(mut h: Process, tx: u8) -> Process
     requires { tx < transactions }
     ensures { result ≡ following h tx }
 {
-    h.followed = h.followed | (1 << tx);
+    h.followed |= 1 << tx;
     h
 }
 
-fn follow(mut p: Parts) -> Change
+#[tactic(auto, unfolding(model_protocol::specs::Deliver::delivery_change))]
+fn follow(mut p: Parts, store: u8, tx: u8) -> Change
+    requires { p.message ≡ follow_to (said_to p.message) store tx (said_outcome p.message) (said_update p.message) }
     ensures { result ≡ delivery_change p kind.Follow }
 {
-    let m = p.message;
-    let h = p.process;
-    if !world_process::takes_follow(h, m.store, m.tx) {
-        return changes::without_messages(p, 0);
+    if !world_process::takes_follow(p.process, store, tx) {
+        return changes::without_messages(p, Ok(()));
     }
-    p.process = following(h, m.tx);
+    p.process = following(p.process, tx);
     changes::keeps_follow(p)
 }
 
 // The message is handed to its receiver.
 fn hand(p: Parts) -> Change
-    ensures { result ≡ delivery_change p p.message.kind }
+    ensures { result ≡ delivery_change p (said_kind p.message) }
 {
-    let m = p.message;
-    let k = m.kind;
-    match k {
-        Kind::Request => request(p),
-        Kind::Prepare => prepare(p),
-        Kind::Accept => accept(p),
-        Kind::Promise => promise(p),
-        Kind::Accepted => accepted(p),
-        Kind::Tell => tell(p),
-        Kind::Restore => restore(p),
-        Kind::Follow => follow(p),
+    match p.message {
+        Message::Request { entry, .. } => request(p, entry),
+        Message::Prepare {
+            inst,
+            ballot,
+            acceptor,
+        } => prepare(p, inst, ballot, acceptor),
+        Message::Accept {
+            inst,
+            ballot,
+            acceptor,
+            batch,
+        } => accept(p, inst, ballot, acceptor, batch),
+        Message::Promise {
+            inst,
+            ballot,
+            acceptor,
+            accepted,
+            batch,
+        } => promise(p, inst, ballot, acceptor, accepted, batch),
+        Message::Accepted {
+            inst,
+            ballot,
+            acceptor,
+        } => accepted(p, inst, ballot, acceptor),
+        Message::Tell { tx, outcome, .. } => tell(p, tx, outcome),
+        Message::Restore {
+            turn,
+            store,
+            position,
+            running,
+            ..
+        } => restore(p, turn, store, position, running),
+        Message::Follow { store, tx, .. } => follow(p, store, tx),
     }
 }
 
+#[tactic(auto, unfolding(world_parts::specs::Plan::plan_of, model_protocol::specs::Step::step_checks, model_protocol::specs::Step::change_of, log_entry::specs::Refusal::first_refusal))]
 pub fn deliver(p: Parts, msg: u8) -> Change
     ensures { result ≡ plan_of p (Deliver msg) }
 {
@@ -196,7 +231,7 @@ pub fn deliver(p: Parts, msg: u8) -> Change
         full: no_room(p),
         ill: false,
     });
-    if answer != 0 {
+    if answer.is_err() {
         return changes::without_messages(p, answer);
     }
     hand(p)

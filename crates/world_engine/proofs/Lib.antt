@@ -1,4 +1,6 @@
-pub mod AdvanceLaws
-pub mod ChangeLaws
 pub mod Room
 pub mod Stepping
+pub mod PlaceLaws
+pub mod SendLaws
+pub mod StoreLaws
+pub mod CommandLaws

@@ -3,3 +3,5 @@
 
 pub mod advance;
 mod plan;
+mod send;
+mod store;

@@ -1,12 +1,12 @@
-// What a command does to the parts of the world that it touches.
+// What a step does to the parts of the world that it touches.
 ghost use Rattle.std.specs.Prelude.{◌≡◌};
 ghost use Rattle.model_protocol.specs.Step.{acceptors_counted};
 ghost use Rattle.world_parts.specs.Plan.{plan_of};
 ghost use Rattle.world_engine.specs.Changed.{change_in};
 
-use log_entry::refusal::OUTSIDE_LIMITS;
+use log_entry::refusal::Refusal;
 use model_protocol::{Change, Parts};
-use model_steps::{Command, Step, limits};
+use model_steps::{Step, limits};
 use world_parts::changes;
 
 // What a step does, its numbers being within their limits.
@@ -45,15 +45,13 @@ fn counted(acceptors: u8) -> u8
     acceptors
 }
 
-pub fn change(o: Command, p: Parts) -> Change
-    ensures { result ≡ change_in o p }
+// The same, whatever its numbers.
+#[tactic(auto, unfolding(crate::specs::Changed::change_in, model_protocol::specs::Step::step_refusal, log_entry::specs::Refusal::first_refusal, world_parts::specs::Plan::plan_of))]
+pub fn change(s: Step, p: Parts) -> Change
+    ensures { result ≡ change_in s p }
 {
-    if o.refused != 0 {
-        return changes::without_messages(p, o.refused);
-    }
-    let s = o.step;
     if limits::outside(counted(p.acceptors), s) {
-        return changes::without_messages(p, OUTSIDE_LIMITS);
+        return changes::without_messages(p, Err(Refusal::OutsideLimits));
     }
     plan(p, s)
 }

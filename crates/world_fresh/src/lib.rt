@@ -15,26 +15,17 @@ use model_protocol::limits::{
     ACCEPTOR_PLACES, BATCH_PLACES, COORDINATOR_PLACES, MESSAGE_PLACES, QUEUE_PLACES, SLOT_PLACES,
 };
 use model_protocol::{
-    AcceptorSlot, Batch, Coordinator, Down, Followed, Follows, Heard, Kind, Message, Process,
-    Queue, Round, World,
+    AcceptorSlot, Batch, Coordinator, Down, Followed, Follows, Heard, Message, Process, Queue,
+    Round, World,
 };
 
 pub fn no_entry() -> Entry
     ensures { result ≡ no_entry }
 {
-    Entry {
-        take: false,
-        process: 0,
-        turn: 0,
-        by: 0,
-        store: 0,
-        tx: 0,
-        participants: 0,
-        commit: false,
-        update: 0,
-    }
+    Entry::take_of(0, 0, 0)
 }
 
+#[tactic(auto, unfolding(model_protocol::specs::Batch::no_batch))]
 pub fn no_batch() -> Batch
     ensures { result ≡ no_batch }
 {
@@ -45,6 +36,7 @@ pub fn no_batch() -> Batch
     }
 }
 
+#[tactic(auto, unfolding(model_protocol::specs::Queue::queue_of))]
 pub fn empty_queue() -> Queue
     ensures { result ≡ queue_of [] }
 {
@@ -59,18 +51,17 @@ pub fn empty_queue() -> Queue
 pub fn new_round(ballot: u8) -> Round
     ensures { result ≡ new_round ballot }
 {
-    let none = no_batch();
     Round {
-        ballot: ballot,
+        ballot,
         promises: 0,
         accepted: 0,
-        batch: none,
-        proposed: false,
-        proposal: none,
+        batch: no_batch(),
+        proposal: None,
         acceptances: 0,
     }
 }
 
+#[tactic(auto, unfolding(model_protocol::specs::World::fresh_coordinator))]
 pub fn fresh_coordinator() -> Coordinator
     ensures { result ≡ fresh_coordinator }
 {
@@ -84,22 +75,9 @@ pub fn fresh_coordinator() -> Coordinator
 pub fn no_message() -> Message
     ensures { result ≡ no_message }
 {
-    Message {
-        kind: Kind::Request,
+    Message::Request {
         to: 0,
-        turn: 0,
-        acceptor: 0,
-        inst: 0,
-        ballot: 0,
-        accepted: 0,
-        batch: no_batch(),
         entry: no_entry(),
-        tx: 0,
-        outcome: Outcome::Open,
-        store: 0,
-        position: 0,
-        running: 0,
-        update: 0,
     }
 }
 
@@ -114,6 +92,7 @@ pub fn empty_slot() -> AcceptorSlot
 }
 
 // A process that starts in this turn.
+#[tactic(auto, unfolding(model_protocol::specs::World::started_in))]
 pub fn started_in(turn: u8) -> Process
     ensures { result ≡ started_in turn }
 {
@@ -121,7 +100,7 @@ pub fn started_in(turn: u8) -> Process
         outcome: Outcome::Open,
     };
     Process {
-        turn: turn,
+        turn,
         heard: [nothing; TRANSACTION_PLACES],
         store: 0,
         position: 0,
@@ -130,6 +109,7 @@ pub fn started_in(turn: u8) -> Process
     }
 }
 
+#[tactic(auto, unfolding(model_protocol::specs::World::no_follows))]
 pub fn no_follows() -> Follows
     ensures { result ≡ no_follows }
 {
@@ -142,6 +122,7 @@ pub fn no_follows() -> Follows
     }
 }
 
+#[tactic(auto, unfolding(model_protocol::specs::World::all_up))]
 fn all_up() -> Down
     ensures { result ≡ all_up }
 {
@@ -152,6 +133,7 @@ fn all_up() -> Down
     }
 }
 
+#[tactic(auto, unfolding(model_protocol::specs::World::fresh_world))]
 pub fn fresh_world() -> World
     ensures { result ≡ fresh_world }
 {
@@ -173,7 +155,7 @@ pub fn fresh_world() -> World
         follows: [follows; PROCESS_PLACES],
         down: all_up(),
         messages: [none; MESSAGE_PLACES],
-        replays: replays,
+        replays,
         sent: 0,
         processes: [process; PROCESS_PLACES],
     }

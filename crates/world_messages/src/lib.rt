@@ -1,6 +1,5 @@
-// The world's messages, their sending, and who is down.
+// The numbers of the world's messages, who is down, and whether a message's receiver is.
 #![tactic(auto)]
 
-pub mod message;
 pub mod parties;
 pub mod send;

@@ -8,8 +8,5 @@ use model_steps::limits::MESSAGES;
 pub fn lacks_numbers(sent: u8, n: u8) -> bool
     ensures { result ≡ ltb (messages - sent) n }
 {
-    if MESSAGES <= sent {
-        return 0 < n;
-    }
-    MESSAGES - sent < n
+    MESSAGES.saturating_sub(sent) < n
 }

@@ -1,24 +1,23 @@
 // Changes of the parts.
 ghost use Rattle.std.specs.Prelude.{◌≡◌};
+ghost use Rattle.log_entry.specs.Refusal.{accepted};
+ghost use Rattle.model_protocol.specs.Message.{no_message};
 ghost use Rattle.model_protocol.specs.Change.{gives_replay, keeps_follow, learns, sending, starts_anew, takes_replay, without_messages};
 
-use model_protocol::{Batch, Change, Message, Parts};
-use world_fresh::{no_batch, no_message};
+use log_entry::refusal::Answer;
+use model_protocol::{Batch, Beside, Change, Message, Parts};
+use world_fresh::no_message;
 
 // The parts are these, and nothing is sent.
-pub fn without_messages(p: Parts, answer: u8) -> Change
+pub fn without_messages(p: Parts, answer: Answer) -> Change
     ensures { result ≡ without_messages p answer }
 {
     Change {
-        answer: answer,
+        answer,
         parts: p,
         count: 0,
         message: no_message(),
-        learned: no_batch(),
-        gives: false,
-        takes: false,
-        follows: false,
-        anew: false,
+        beside: Beside::Nothing,
     }
 }
 
@@ -26,53 +25,57 @@ pub fn without_messages(p: Parts, answer: u8) -> Change
 pub fn sending(p: Parts, count: u8, m: Message) -> Change
     ensures { result ≡ sending p count m }
 {
-    let mut change = without_messages(p, 0);
-    change.count = count;
-    change.message = m;
-    change
+    Change {
+        count,
+        message: m,
+        ..without_messages(p, Ok(()))
+    }
+}
+
+// The parts are these now, and this is done beside them.
+fn with_beside(p: Parts, beside: Beside) -> Change
+    ensures { result ≡ record { answer = accepted; parts = p; count = 0; message = no_message; beside = beside } }
+{
+    Change {
+        beside,
+        ..without_messages(p, Ok(()))
+    }
 }
 
 // The parts are these now, and the coordinator's log is to be fed the batch.
 pub fn learns(p: Parts, batch: Batch) -> Change
     ensures { result ≡ learns p batch }
 {
-    let mut change = without_messages(p, 0);
-    change.learned = batch;
-    change
+    with_beside(p, Beside::Learns(batch))
 }
 
 // The parts are these now, and a restore is sent, with its store's replay.
 pub fn gives_replay(p: Parts, m: Message) -> Change
     ensures { result ≡ gives_replay p m }
 {
-    let mut change = sending(p, 1, m);
-    change.gives = true;
-    change
+    Change {
+        beside: Beside::GivesReplay,
+        ..sending(p, 1, m)
+    }
 }
 
 // The parts are these now, and the process takes the replay of the message delivered.
 pub fn takes_replay(p: Parts) -> Change
     ensures { result ≡ takes_replay p }
 {
-    let mut change = without_messages(p, 0);
-    change.takes = true;
-    change
+    with_beside(p, Beside::TakesReplay)
 }
 
 // The parts are these now, and the process takes the follow delivered.
 pub fn keeps_follow(p: Parts) -> Change
     ensures { result ≡ keeps_follow p }
 {
-    let mut change = without_messages(p, 0);
-    change.follows = true;
-    change
+    with_beside(p, Beside::KeepsFollow)
 }
 
 // The parts are these now, and the process starts anew.
 pub fn starts_anew(p: Parts) -> Change
     ensures { result ≡ starts_anew p }
 {
-    let mut change = without_messages(p, 0);
-    change.anew = true;
-    change
+    with_beside(p, Beside::StartsAnew)
 }

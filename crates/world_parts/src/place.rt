@@ -1,12 +1,13 @@
 // Where in the world the parts of a step stand.
 ghost use Rattle.std.specs.Prelude.{◌≡◌};
 ghost use Rattle.world_parts.specs.Asks.{asks_log};
+ghost use Rattle.model_protocol.specs.Message.{said_kind};
 ghost use Rattle.model_protocol.specs.Places.{delivery_places, message_at, only_slot, only_coordinator, only_owner, only_process, places_of};
 
 use log_entry::limits::PROCESSES;
 use model_owners::owner;
 use model_protocol::limits::{INSTANCE_PLACES, SLOT_PLACES};
-use model_protocol::{Kind, Message, Places};
+use model_protocol::{Message, Places};
 use model_steps::Step;
 use model_steps::limits::{COORDINATORS, MESSAGES};
 
@@ -24,12 +25,10 @@ pub fn message_at(s: Step) -> u8
 pub fn asks_log(s: Step) -> bool
     ensures { result ≡ asks_log s }
 {
-    match s {
-        Step::Tell { .. } => true,
-        Step::Restore { .. } => true,
-        Step::Follow { .. } => true,
-        _ => false,
-    }
+    matches!(
+        s,
+        Step::Tell { .. } | Step::Restore { .. } | Step::Follow { .. }
+    )
 }
 
 fn only_coordinator(k: u8) -> Places
@@ -57,7 +56,7 @@ fn only_slot(acceptor: u8, inst: u8) -> Places
 {
     Places {
         coordinator: 0,
-        slot: (acceptor as usize * INSTANCE_PLACES + inst as usize) % SLOT_PLACES,
+        slot: (usize::from(acceptor) * INSTANCE_PLACES + usize::from(inst)) % SLOT_PLACES,
         process: 0,
     }
 }
@@ -74,31 +73,34 @@ fn only_process(k: u8) -> Places
 
 // Where the receiver of the message stands.
 fn delivery_places(m: Message) -> Places
-    ensures { result ≡ delivery_places m m.kind }
+    ensures { result ≡ delivery_places m (said_kind m) }
 {
-    let k = m.kind;
-    match k {
-        Kind::Request => only_coordinator(m.to),
-        Kind::Prepare | Kind::Accept => only_slot(m.acceptor, m.inst),
-        Kind::Promise | Kind::Accepted => only_owner(m.ballot),
-        Kind::Tell | Kind::Restore | Kind::Follow => only_process(m.to),
+    match m {
+        Message::Request { to, .. } => only_coordinator(to),
+        Message::Prepare { acceptor, inst, .. } | Message::Accept { acceptor, inst, .. } => {
+            only_slot(acceptor, inst)
+        }
+        Message::Promise { ballot, .. } | Message::Accepted { ballot, .. } => only_owner(ballot),
+        Message::Tell { to, .. } | Message::Restore { to, .. } | Message::Follow { to, .. } => {
+            only_process(to)
+        }
     }
 }
 
 // The places of a step; m is the message that it delivers.
+#[tactic(auto, unfolding(model_protocol::specs::Places::places_of))]
 pub fn places(s: Step, m: Message) -> Places
     ensures { result ≡ places_of s m }
 {
     match s {
-        Step::Setup { .. } => only_coordinator(0),
+        Step::Setup { .. } | Step::Crash { .. } => only_coordinator(0),
         Step::Request { entry, .. } => only_process(entry.process),
-        Step::Open { coord, .. } => only_coordinator(coord),
-        Step::Propose { coord, .. } => only_coordinator(coord),
         Step::Deliver { .. } => delivery_places(m),
-        Step::Tell { coord, .. } => only_coordinator(coord),
-        Step::Restore { coord, .. } => only_coordinator(coord),
-        Step::Follow { coord, .. } => only_coordinator(coord),
-        Step::Crash { .. } => only_coordinator(0),
+        Step::Open { coord, .. }
+        | Step::Propose { coord, .. }
+        | Step::Tell { coord, .. }
+        | Step::Restore { coord, .. }
+        | Step::Follow { coord, .. } => only_coordinator(coord),
         Step::Back { process, .. } => only_process(process),
     }
 }

@@ -2,9 +2,9 @@
 ghost use Rattle.std.specs.Prelude.{◌≡◌};
 ghost use Rattle.world_parts.specs.Refusal.{first_of};
 
-use log_entry::refusal::{ILL_FORMED_VOTE, NO_PLACE, NOT_MET, NOT_SENT_YET, PARTY_DOWN};
+use log_entry::refusal::{Answer, Refusal};
 
-// Whether the condition of each refusal after 2 holds.
+// Whether the condition of each refusal after 2 holds: plain tests, with no value beside them.
 #[derive(Clone, Copy)]
 pub struct Tests {
     // 4: the message was not sent yet.
@@ -19,24 +19,25 @@ pub struct Tests {
     pub ill: bool,
 }
 
-// The answer: the first refusal whose condition holds, 0 if none does.
-pub fn first_of(t: Tests) -> u8
+// The answer: the first refusal whose condition holds.
+#[tactic(auto, unfolding(log_entry::specs::Refusal::first_refusal))]
+pub fn first_of(t: Tests) -> Answer
     ensures { result ≡ first_of t }
 {
     if t.unsent {
-        return NOT_SENT_YET;
+        return Err(Refusal::NotSentYet);
     }
     if t.down {
-        return PARTY_DOWN;
+        return Err(Refusal::PartyDown);
     }
     if t.unmet {
-        return NOT_MET;
+        return Err(Refusal::NotMet);
     }
     if t.full {
-        return NO_PLACE;
+        return Err(Refusal::NoPlace);
     }
     if t.ill {
-        return ILL_FORMED_VOTE;
+        return Err(Refusal::IllFormedVote);
     }
-    0
+    Ok(())
 }

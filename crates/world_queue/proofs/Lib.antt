@@ -1,3 +1,1 @@
-pub mod EntryRow
-pub mod Front
 pub mod RowLaws

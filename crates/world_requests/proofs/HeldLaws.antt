@@ -21,3 +21,5 @@ module _ (process : ℕ) (holders : List ℕ) (s : ℕ) where
   pub held_none : length holders ≤ s → held_from process s (drop s holders) ≡ s
   unfolding held_from
   held_none h = rw (drop_of_length-le holders h)
+
+pub ruleset held = (held_here, held_later, held_none)

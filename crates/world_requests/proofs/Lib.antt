@@ -1,3 +1,1 @@
-pub mod FollowLaws
 pub mod HeldLaws
-pub mod SaidLaws

@@ -1,39 +1,54 @@
 // The steps that need no ballot: setup, take and vote, tell, restore, follow, crash, back.
 #![tactic(auto)]
 
-ghost use Rattle.std.specs.Prelude.{◌≡◌, false, ◌&&◌, ◌||◌, not, eqb};
-ghost use Rattle.log_entry.specs.Entry.{ill_formed};
+ghost use Rattle.std.specs.Prelude.{◌≡◌, false, ◌&&◌, ◌||◌, not, eqb, leb};
+ghost use Rattle.log_entry.specs.Entry.{ill_formed, is_take};
+ghost use Rattle.log_entry.specs.Limits.{stores};
 ghost use Rattle.log_votes.specs.Outcome.{is_open};
 ghost use Rattle.log_core.specs.Follow.{awaited_of};
 ghost use Rattle.log_core.specs.Log.{outcome_of, turn_of};
 ghost use Rattle.model_steps.specs.declared.Role.TheVariants.{Coord, Proc};
-ghost use Rattle.model_steps.specs.declared.Step.TheVariants.{Back, Crash, Follow, Request, Restore, Setup, Tell};
-ghost use Rattle.model_protocol.specs.Message.{follow_to, restore_to};
+ghost use Rattle.model_steps.specs.declared.Step.TheVariants as step;
+ghost use Rattle.model_protocol.specs.Change.{sending};
+ghost use Rattle.model_protocol.specs.Message.{follow_to, restore_to, said_outcome, said_store};
 ghost use Rattle.model_protocol.specs.Step.{held_from, held_store, message_for, other_turn, update_of, voter_not_holder, voting_store};
 ghost use Rattle.model_protocol.specs.World.{is_down};
 ghost use Rattle.model_protocol.specs.Send.{lacks_numbers};
 ghost use Rattle.world_parts.specs.Refusal.{first_of, tests};
-ghost use Rattle.world_parts.specs.Plan.{plan_of};
+ghost use Rattle.world_parts.specs.Plan.{decided, plan_of};
+ghost use Rattle.world_requests.specs.Held.{store_number};
 
 use log_core::Log;
-use log_entry::Entry;
 use log_entry::limits::{STORE_PLACES, STORES, Update};
-use log_entry::refusal::NOT_MET;
+use log_entry::refusal::{Answer, Refusal};
+use log_entry::{Entry, Request};
+use log_votes::Vote;
 use model_protocol::{Change, Down, Message, Parts, Process};
 use model_steps::{Role, Step};
 use world_fresh::started_in;
-use world_messages::{message, parties, send};
+use world_messages::{parties, send};
 use world_parts::refusal::Tests;
 use world_parts::{changes, refusal};
 
+#[tactic(auto, unfolding(world_parts::specs::Plan::plan_of, model_protocol::specs::Step::step_checks, model_protocol::specs::Step::change_of, log_entry::specs::Refusal::first_refusal))]
 pub fn setup(mut p: Parts, n: u8) -> Change
-    ensures { result ≡ plan_of p (Setup n) }
+    ensures { result ≡ plan_of p (step.Setup n) }
 {
     if p.acceptors != 0 {
-        return changes::without_messages(p, NOT_MET);
+        return changes::without_messages(p, Err(Refusal::NotMet));
     }
     p.acceptors = n;
-    changes::without_messages(p, 0)
+    changes::without_messages(p, Ok(()))
+}
+
+// Whether the entry is a vote by a process that does not believe that it holds `by`.
+fn voter_not_holder(e: Entry, p: Process) -> bool
+    ensures { result ≡ voter_not_holder e p }
+{
+    match e.request {
+        Request::Take => false,
+        Request::Vote { by, .. } => !world_process::believes(p, by),
+    }
 }
 
 // Whether there was no setup, or the entry has another turn than the process, or is a vote by a
@@ -41,155 +56,182 @@ pub fn setup(mut p: Parts, n: u8) -> Change
 fn request_barred(n: u8, e: Entry, p: Process) -> bool
     ensures { result ≡ (eqb n 0 || other_turn e p || voter_not_holder e p) }
 {
-    (n == 0) | (e.turn != p.turn) | (!e.take & !world_process::believes(p, e.by))
+    n == 0 || e.turn != p.turn || voter_not_holder(e, p)
 }
 
 fn ill_formed(e: Entry) -> bool
-    ensures { result ≡ (not e.take && ill_formed e) }
+    ensures { result ≡ (not (is_take e) && ill_formed e) }
 {
-    !e.take & e.ill_formed()
+    !e.is_take() && e.ill_formed()
 }
 
 // Whether the coordinator or the process is down.
 fn either_down(d: Down, coord: u8, process: u8) -> bool
     ensures { result ≡ (is_down d Coord coord || is_down d Proc process) }
 {
-    parties::is_down(d, Role::Coord, coord) | parties::is_down(d, Role::Proc, process)
+    parties::is_down(d, Role::Coord, coord) || parties::is_down(d, Role::Proc, process)
 }
 
-fn request_refusal(n: u8, sent: u8, d: Down, p: Process, e: Entry, to: u8) -> u8
-    ensures { result ≡ first_of (tests false (is_down d Proc e.process || is_down d Coord to) (eqb n 0 || other_turn e p || voter_not_holder e p) (lacks_numbers sent 1) (not e.take && ill_formed e)) }
+fn request_refusal(p: &Parts, e: Entry, to: u8) -> Answer
+    ensures { result ≡ first_of (tests false (is_down p.now.down Proc e.process || is_down p.now.down Coord to) (eqb p.now.acceptors 0 || other_turn e p.now.process || voter_not_holder e p.now.process) (lacks_numbers p.now.sent 1) (not (is_take e) && ill_formed e)) }
 {
     refusal::first_of(Tests {
         unsent: false,
-        down: either_down(d, to, e.process),
-        unmet: request_barred(n, e, p),
-        full: send::lacks_numbers(sent, 1),
+        down: either_down(p.down, to, e.process),
+        unmet: request_barred(p.acceptors, e, p.process),
+        full: send::lacks_numbers(p.sent, 1),
         ill: ill_formed(e),
     })
 }
 
+#[tactic(auto, unfolding(world_parts::specs::Plan::plan_of, model_protocol::specs::Step::step_checks, model_protocol::specs::Step::change_of, log_entry::specs::Refusal::first_refusal))]
 pub fn request(p: Parts, e: Entry, to: u8) -> Change
-    ensures { result ≡ plan_of p (Request e to) }
+    ensures { result ≡ plan_of p (step.Request e to) }
 {
-    let answer = request_refusal(p.acceptors, p.sent, p.down, p.process, e, to);
-    if answer != 0 {
+    let answer = request_refusal(&p, e, to);
+    if answer.is_err() {
         return changes::without_messages(p, answer);
     }
-    changes::sending(p, 1, message::request_to(to, e))
+    changes::sending(p, 1, Message::Request { to, entry: e })
 }
 
 // The answer to a coordinator that is to send the process a message. `barred`: 5 applies, setup or
 // not.
-fn refusal_to(n: u8, sent: u8, d: Down, coord: u8, process: u8, barred: bool) -> u8
-    ensures { result ≡ first_of (tests false (is_down d Coord coord || is_down d Proc process) (eqb n 0 || barred) (lacks_numbers sent 1) false) }
+fn refusal_to(p: &Parts, coord: u8, process: u8, barred: bool) -> Answer
+    ensures { result ≡ first_of (tests false (is_down p.now.down Coord coord || is_down p.now.down Proc process) (eqb p.now.acceptors 0 || barred) (lacks_numbers p.now.sent 1) false) }
 {
     refusal::first_of(Tests {
         unsent: false,
-        down: either_down(d, coord, process),
-        unmet: (n == 0) | barred,
-        full: send::lacks_numbers(sent, 1),
+        down: either_down(p.down, coord, process),
+        unmet: (p.acceptors == 0) | barred,
+        full: send::lacks_numbers(p.sent, 1),
         ill: false,
     })
 }
 
 // Whether the transaction of the message is not decided.
 fn undecided(m: Message) -> bool
-    ensures { result ≡ is_open m.outcome }
+    ensures { result ≡ is_open (said_outcome m) }
 {
-    let o = m.outcome;
-    o.is_open()
+    match m {
+        Message::Tell { outcome, .. } | Message::Follow { outcome, .. } => outcome.is_open(),
+        _ => true,
+    }
 }
 
-pub fn tell(p: Parts, coord: u8, process: u8, tx: u8) -> Change
-    ensures { result ≡ plan_of p (Tell coord process tx) }
+// Whether the message is of no store.
+fn of_no_store(m: Message) -> bool
+    ensures { result ≡ leb stores (said_store m) }
 {
-    let open = undecided(p.message);
-    let answer = refusal_to(p.acceptors, p.sent, p.down, coord, process, open);
-    if answer != 0 {
+    match m {
+        Message::Restore { store, .. } | Message::Follow { store, .. } => STORES <= store,
+        _ => false,
+    }
+}
+
+// The message goes to the process, unless the step is refused.
+fn sends(p: Parts, coord: u8, process: u8, barred: bool) -> Change
+    ensures { result ≡ decided p (first_of (tests false (is_down p.down Coord coord || is_down p.down Proc process) (eqb p.acceptors 0 || barred) (lacks_numbers p.sent 1) false)) (sending p 1 p.message) }
+{
+    let answer = refusal_to(&p, coord, process, barred);
+    if answer.is_err() {
         return changes::without_messages(p, answer);
     }
     changes::sending(p, 1, p.message)
 }
 
-pub fn restore(p: Parts, coord: u8, process: u8) -> Change
-    ensures { result ≡ plan_of p (Restore coord process) }
+#[tactic(auto, unfolding(world_parts::specs::Plan::plan_of, model_protocol::specs::Step::step_checks, model_protocol::specs::Step::change_of, log_entry::specs::Refusal::first_refusal))]
+pub fn tell(p: Parts, coord: u8, process: u8, tx: u8) -> Change
+    ensures { result ≡ plan_of p (step.Tell coord process tx) }
 {
-    let unheld = STORES <= p.message.store;
-    let answer = refusal_to(p.acceptors, p.sent, p.down, coord, process, unheld);
-    if answer != 0 {
+    sends(p, coord, process, undecided(p.message))
+}
+
+#[tactic(auto, unfolding(world_parts::specs::Plan::plan_of, model_protocol::specs::Step::step_checks, model_protocol::specs::Step::change_of, log_entry::specs::Refusal::first_refusal))]
+pub fn restore(p: Parts, coord: u8, process: u8) -> Change
+    ensures { result ≡ plan_of p (step.Restore coord process) }
+{
+    let answer = refusal_to(&p, coord, process, of_no_store(p.message));
+    if answer.is_err() {
         return changes::without_messages(p, answer);
     }
     changes::gives_replay(p, p.message)
 }
 
+#[tactic(auto, unfolding(world_parts::specs::Plan::plan_of, model_protocol::specs::Step::step_checks, model_protocol::specs::Step::change_of, log_entry::specs::Refusal::first_refusal))]
 pub fn follow(p: Parts, coord: u8, process: u8, tx: u8) -> Change
-    ensures { result ≡ plan_of p (Follow coord process tx) }
+    ensures { result ≡ plan_of p (step.Follow coord process tx) }
 {
-    let barred = undecided(p.message) | (STORES <= p.message.store);
-    let answer = refusal_to(p.acceptors, p.sent, p.down, coord, process, barred);
-    if answer != 0 {
-        return changes::without_messages(p, answer);
-    }
-    changes::sending(p, 1, p.message)
+    sends(
+        p,
+        coord,
+        process,
+        undecided(p.message) | of_no_store(p.message),
+    )
 }
 
-// The store that the process holds; one past the last store if it holds none.
-fn held_store(holders: [u8; STORE_PLACES], process: u8) -> u8
-    ensures { result ≡ held_from process 0 holders }
+// The store that the process holds.
+#[tactic(auto, using(crate::proofs::HeldLaws::held))]
+fn held_store(holders: [u8; STORE_PLACES], process: u8) -> Option<u8>
+    ensures { store_number result ≡ held_from process 0 holders }
 {
-    let mut s: u8 = 0;
-    while s < STORES {
-        if holders[s as usize] == process {
-            return s;
+    for s in 0..STORES {
+        if holders[usize::from(s)] == process {
+            return Some(s);
         }
-        s += 1;
     }
-    s
+    None
 }
 
 fn restored(log: Log, applied: u8, process: u8) -> Message
     ensures { result ≡ restore_to process (turn_of log (held_store log process)) (held_store log process) applied (awaited_of log (held_store log process)) }
 {
-    let holders = log.holders;
-    let store = held_store(holders, process);
-    message::restore_to(process, log.turn(store), store, applied, log.awaited(store))
+    let store = held_store(log.holders, process).unwrap_or(STORES);
+    Message::Restore {
+        to: process,
+        turn: log.turn(store),
+        store,
+        position: applied,
+        running: log.awaited(store),
+    }
 }
 
-// The store that the process holds, if it has a kept commit vote on the transaction; one past the
-// last store if not.
-fn voting_store(log: Log, process: u8, tx: u8) -> u8
-    ensures { result ≡ voting_store log process tx }
+// The store that the process holds, if it has a kept commit vote on the transaction.
+fn voting_store(log: Log, process: u8, tx: u8) -> Option<u8>
+    ensures { store_number result ≡ voting_store log process tx }
 {
-    let holders = log.holders;
-    let store = held_store(holders, process);
+    let store = held_store(log.holders, process)?;
     if log.vote_on(tx, store).is_commit() {
-        return store;
+        Some(store)
+    } else {
+        None
     }
-    STORES
 }
 
 // The update of the store's vote on the transaction; 0 unless the transaction is committed.
 fn update_of(log: Log, tx: u8, store: u8) -> Update
     ensures { result ≡ update_of log tx store }
 {
-    if log.outcome(tx).is_commit() {
-        return log.vote_on(tx, store).update;
+    if !log.outcome(tx).is_commit() {
+        return 0;
     }
-    0
+    match log.vote_on(tx, store) {
+        Vote::Absent => 0,
+        Vote::Abort { update, .. } | Vote::Commit { update, .. } => update,
+    }
 }
 
 fn followed(log: Log, process: u8, tx: u8) -> Message
     ensures { result ≡ follow_to process (voting_store log process tx) tx (outcome_of log tx) (update_of log tx (voting_store log process tx)) }
 {
-    let store = voting_store(log, process, tx);
-    message::follow_to(
-        process,
+    let store = voting_store(log, process, tx).unwrap_or(STORES);
+    Message::Follow {
+        to: process,
         store,
         tx,
-        log.outcome(tx),
-        update_of(log, tx, store),
-    )
+        outcome: log.outcome(tx),
+        update: update_of(log, tx, store),
+    }
 }
 
 // The message of a step, where `delivered` is the one that it delivers: a tell, a restore or a
@@ -199,42 +241,42 @@ pub fn said(s: Step, delivered: Message, log: Log, applied: u8) -> Message
     ensures { result ≡ message_for s delivered log applied }
 {
     match s {
-        Step::Tell { process, tx, .. } => message::tell_to(process, tx, log.outcome(tx)),
+        Step::Tell { process, tx, .. } => Message::Tell {
+            to: process,
+            tx,
+            outcome: log.outcome(tx),
+        },
         Step::Restore { process, .. } => restored(log, applied, process),
         Step::Follow { process, tx, .. } => followed(log, process, tx),
         _ => delivered,
     }
 }
 
-fn crash_refusal(n: u8, d: Down, role: Role, id: u8) -> u8
-    ensures { result ≡ first_of (tests false (is_down d role id) (eqb n 0) false false) }
+#[tactic(auto, unfolding(world_parts::specs::Plan::plan_of, model_protocol::specs::Step::step_checks, model_protocol::specs::Step::change_of, log_entry::specs::Refusal::first_refusal))]
+pub fn crash(mut p: Parts, role: Role, id: u8) -> Change
+    ensures { result ≡ plan_of p (step.Crash role id) }
 {
-    refusal::first_of(Tests {
+    let answer = refusal::first_of(Tests {
         unsent: false,
-        down: parties::is_down(d, role, id),
-        unmet: n == 0,
+        down: parties::is_down(p.down, role, id),
+        unmet: p.acceptors == 0,
         full: false,
         ill: false,
-    })
-}
-
-pub fn crash(mut p: Parts, role: Role, id: u8) -> Change
-    ensures { result ≡ plan_of p (Crash role id) }
-{
-    let answer = crash_refusal(p.acceptors, p.down, role, id);
-    if answer != 0 {
+    });
+    if answer.is_err() {
         return changes::without_messages(p, answer);
     }
     p.down = parties::crashed(p.down, role, id);
-    changes::without_messages(p, 0)
+    changes::without_messages(p, Ok(()))
 }
 
 // Neither 3 nor 6 stops a process from coming back.
+#[tactic(auto, unfolding(world_parts::specs::Plan::plan_of, model_protocol::specs::Step::step_checks, model_protocol::specs::Step::change_of, log_entry::specs::Refusal::first_refusal))]
 pub fn back(mut p: Parts, process: u8, turn: u8) -> Change
-    ensures { result ≡ plan_of p (Back process turn) }
+    ensures { result ≡ plan_of p (step.Back process turn) }
 {
-    if (p.acceptors == 0) | (turn <= p.process.turn) {
-        return changes::without_messages(p, NOT_MET);
+    if p.acceptors == 0 || turn <= p.process.turn {
+        return changes::without_messages(p, Err(Refusal::NotMet));
     }
     p.process = started_in(turn);
     p.down = parties::up_again(p.down, process);

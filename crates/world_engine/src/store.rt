@@ -1,0 +1,87 @@
+// The parts of a step, taken from their places and put back.
+ghost use Rattle.std.specs.Prelude.{◌≡◌, ◌<◌, true};
+ghost use Rattle.model_steps.specs.Limits.{messages};
+ghost use Rattle.model_protocol.specs.Change.{is_given};
+ghost use Rattle.model_protocol.specs.Message.{said_store};
+ghost use Rattle.model_protocol.specs.Step.{message_for, parts_at, put_back};
+ghost use Rattle.model_protocol.specs.World.{coordinator_of, log_of, replay_with};
+ghost use Rattle.world_engine.specs.There.{There};
+
+use log_core::Replay;
+use model_protocol::{Beside, Change, Message, Parts, Places, World};
+use model_steps::Step;
+use world_coordinator::learn;
+use world_fresh::no_follows;
+use world_parts::place;
+
+// The message that a step is about: the one that it delivers, or what the coordinator's log says.
+#[tactic(auto, using(log_votes::proofs::InList::in_list, crate::proofs::PlaceLaws::not_asked))]
+pub(crate) fn message_of(w: &World, s: Step, delivered: Message, at: Places) -> Message
+    requires { There at }
+    ensures { result ≡ message_for s delivered (log_of w.now at.coordinator) (coordinator_of w.now at.coordinator).applied }
+{
+    let c = usize::from(at.coordinator);
+    if place::asks_log(s) {
+        world_requests::said(s, delivered, w.logs[c], w.coordinators[c].applied)
+    } else {
+        delivered
+    }
+}
+
+#[tactic(auto, using(log_votes::proofs::InList::in_list))]
+pub(crate) fn parts_at(w: &World, at: Places, message: Message) -> Parts
+    requires { There at }
+    ensures { result ≡ parts_at w.now at message }
+{
+    Parts {
+        acceptors: w.acceptors,
+        sent: w.sent,
+        down: w.down,
+        coordinator: w.coordinators[usize::from(at.coordinator)],
+        slot: w.slots[at.slot],
+        process: w.processes[usize::from(at.process)],
+        message,
+    }
+}
+
+// The store that the message names; 0 if it names none.
+fn store_of(m: Message) -> u8
+    ensures { result ≡ said_store m }
+{
+    match m {
+        Message::Restore { store, .. } | Message::Follow { store, .. } => store,
+        _ => 0,
+    }
+}
+
+// The parts go to their places, and what the step does beside them is done. `from` is the number of
+// the message delivered.
+pub(crate) fn put_back(w: &mut World, at: Places, from: usize, change: Change)
+    requires there { There at }
+    requires from_there { from < messages }
+    requires room { is_given change.beside ≡ true → w.old.sent < messages }
+    ensures { w.new ≡ put_back w.old at (replay_with w.old from) change }
+{
+    let c = usize::from(at.coordinator);
+    let p = usize::from(at.process);
+    w.acceptors = change.parts.acceptors;
+    w.down = change.parts.down;
+    w.coordinators[c] = change.parts.coordinator;
+    w.slots[at.slot] = change.parts.slot;
+    w.processes[p] = change.parts.process;
+    match change.beside {
+        Beside::Nothing => {}
+        Beside::Learns(batch) => w.logs[c] = learn::fed(w.logs[c], batch),
+        Beside::GivesReplay => {
+            w.replays[usize::from(w.sent)] = w.logs[c].replay(store_of(change.message));
+        }
+        Beside::TakesReplay => w.restored[p] = w.replays[from],
+        Beside::KeepsFollow => {
+            w.follows[p] = world_process::with_follow(w.follows[p], change.parts.message);
+        }
+        Beside::StartsAnew => {
+            w.restored[p] = Replay::none();
+            w.follows[p] = no_follows();
+        }
+    }
+}

@@ -1,2 +1,0 @@
-pub mod KindLaws
-pub mod PartLaws
