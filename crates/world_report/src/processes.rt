@@ -66,7 +66,7 @@ pub fn running_line(page: &mut Page, tx: u8)
 pub fn put_listed(page: &mut Page, running: u32, tx: u8)
     ensures { Within longest_running_line page.old page.new (listed_text running tx) }
 {
-    if sets::has32(running, tx) {
+    if sets::has(running, tx) {
         running_line(page, tx);
     }
 }
@@ -93,7 +93,7 @@ pub fn follow_line(page: &mut Page, tx: u8, f: Followed)
 pub fn put_follow(page: &mut Page, followed: u32, tx: u8, f: Followed)
     ensures { Within longest_line page.old page.new (follow_text followed tx f) }
 {
-    if sets::has32(followed, tx) {
+    if sets::has(followed, tx) {
         follow_line(page, tx, f);
     }
 }
