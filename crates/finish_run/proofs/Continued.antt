@@ -21,7 +21,7 @@ use Rattle.model_protocol.specs.declared.Batch.{Batch}
 use Rattle.model_protocol.specs.declared.World.{World}
 use Rattle.model_protocol.specs.Step.{run, step_of}
 use Rattle.model_protocol.specs.World.{fresh_world}
-use Rattle.model_steps.specs.declared.Command.{Command}
+use Rattle.model_steps.specs.Commands.{Command}
 use Rattle.model_steps.specs.declared.Step.{Step}
 use Rattle.model_steps.specs.declared.Step.TheVariants.{Deliver, Open, Propose}
 use Rattle.finish_list.specs.Text.{steps_text}
@@ -181,7 +181,7 @@ answers_read : (steps : List Step) (w : World) → Each ReadsAsStep steps → Al
 unfolding answers_to
 answers_read [] w r a = refl
 answers_read (s ∷ steps) w r a =
-    ap (λ (o : Command). (carried_out w o).answer ∷ answers_to (carried_out w o).world (map command_of (map text steps))) (command_is s r.0)
+    ap (λ (o : Command). answer_number (carried_out w o).answer ∷ answers_to (carried_out w o).world (map command_of (map text steps))) (command_is s r.0)
     ∙ (λ i. a.0 i ∷ answers_read steps (step_of w s).world r.1 a.1 i)
 
 world_read : (steps : List Step) (w : World) → Each ReadsAsStep steps → world_after w (map command_of (map text steps)) ≡ run w steps

@@ -21,7 +21,7 @@ use Rattle.text_entry.specs.Entry.{in_full}
 use Rattle.text_entry.specs.Fields.{fields_text, line_text, value_text}
 use Rattle.text_lines.specs.Lines.{lf, max_line_bytes}
 use Rattle.text_report.proofs.Lengths.{byte_length}
-use Rattle.text_step.specs.declared.Reading.TheVariants.{Read}
+use Rattle.std.specs.Prelude.{Ok}
 use Rattle.text_step.specs.Claims.{IsText}
 use Rattle.text_step.specs.Step.{reading, text, text_in}
 use Rattle.text_step.proofs.Agreement.{text_within_limits_read}
@@ -81,7 +81,7 @@ round_inside c i b h =
 pub record ReadsAsStep (s : Step) : Type 0 where
   pub no_lf : no_lf_lem (text s) ≡ true
   pub short : length (text s) ≤ max_line_bytes
-  pub reads : reading (text s) ≡ Read s
+  pub reads : reading (text s) ≡ Ok s
 
 text_no_lf : (s : Step) → OfList s → no_lf_lem (text s) ≡ true
 unfolding text_in line_text fields_text value_text no_lf_lem

@@ -2,15 +2,13 @@
 #![tactic(auto)]
 
 ghost use Rattle.std.specs.Prelude.{List, [], ◌≡◌};
-ghost use Rattle.world_input.specs.Commands.{refusing};
 ghost use Rattle.world_input.specs.State.{command_at, held_command, over, with_line};
-ghost use Rattle.model_steps.specs.Commands.{commands_in};
+ghost use Rattle.model_steps.specs.Commands.{Command, commands_in};
 
-use log_entry::refusal::{ACCEPTED, NO_PLACE, OUTSIDE_LIMITS, UNREADABLE};
+use log_entry::refusal::Refusal;
 use model_steps::limits::COMMAND_PLACES;
-use model_steps::{Command, Commands, Step};
+use model_steps::{Command, Commands};
 use text_lines::{Line, MAX_LINES, Session};
-use text_step::Reading;
 
 // What the lines so far ask for.
 #[derive(Clone, Copy)]
@@ -21,31 +19,15 @@ pub struct Asked {
 // What the lines so far ask for, and the line that is gathered.
 pub type Input = text_lines::Input<Asked>;
 
-fn refuse(answer: u8) -> Command
-    ensures { result ≡ refusing answer }
-{
-    Command {
-        refused: answer,
-        step: Step::Setup { acceptors: 0 },
-    }
-}
-
 fn command_of(line: &Line) -> Command
     ensures { result ≡ held_command line.now }
 {
     let Some(bytes) = line.as_slice() else {
-        return refuse(UNREADABLE);
+        return Err(Refusal::Unreadable);
     };
-    let reading = text_step::read_step(bytes);
-    if let Reading::Outside = reading {
-        return refuse(OUTSIDE_LIMITS);
-    }
-    let Reading::Read(step) = reading else {
-        return refuse(UNREADABLE);
-    };
-    Command {
-        refused: ACCEPTED,
-        step,
+    match text_step::read_step(bytes) {
+        Ok(step) => Ok(step),
+        Err(unread) => Err(Refusal::from(unread)),
     }
 }
 
@@ -54,23 +36,12 @@ fn command_at(count: u16, line: &Line) -> Command
     ensures { result ≡ command_at count line.now }
 {
     if MAX_LINES <= count {
-        return refuse(NO_PLACE);
+        return Err(Refusal::NoPlace);
     }
     command_of(line)
 }
 
-impl Asked {
-    pub fn as_slice(&self) -> &[Command]
-        ensures { result.now ≡ commands_in self.now.commands }
-    {
-        let places: &[Command] = &self.commands.commands;
-        &places[..usize::from(self.commands.count).min(places.len())]
-    }
-}
-
 impl Session for Asked {
-    ghost use Rattle.model_steps.specs.declared.Command.{Command};
-
     ghost State = { List Command };
 
     ghost state = { λ a. commands_in a.commands };
@@ -82,7 +53,7 @@ impl Session for Asked {
     ghost step = { with_line };
 
     fn fresh() -> Asked {
-        let none = refuse(ACCEPTED);
+        let none = Err(Refusal::Unreadable);
         Asked {
             commands: Commands {
                 count: 0,
@@ -93,7 +64,7 @@ impl Session for Asked {
 
     // Whether line 1,001 has been read, which ends the reading.
     fn is_over(&self) -> bool {
-        usize::from(MAX_LINES) < self.as_slice().len()
+        usize::from(MAX_LINES) < self.commands.as_slice().len()
     }
 
     fn take(&mut self, line: &Line) {

@@ -9,6 +9,7 @@ use mathlib.Core.Path.{◌≡◌, refl, sym, ◌∙◌, ap}
 use lib.Dec.{eqb, ltb}
 use lib.ListN.{length}
 use borrow.Author.Tests.{le-ltb, lt-ltb}
+use Rattle.log_entry.proofs.AnswerLaws.{err_ok}
 use Rattle.log_entry.specs.Refusal.{first_refusal, outside_limits, unreadable}
 use Rattle.model_agreement.proofs.Limits.{in_bounds}
 use Rattle.world_engine.specs.Commands.{carried_out}
@@ -23,8 +24,10 @@ use Rattle.model_steps.specs.declared.Step.{Step}
 use Rattle.model_steps.specs.declared.Step.TheVariants.{Setup, Request, Open, Propose, Deliver, Tell, Restore, Follow, Crash, Back}
 use Rattle.model_steps.specs.Limits.{most_acceptors, outside_step}
 use Rattle.text_ascii.specs.Decimal.{byte_numbers}
-use Rattle.text_step.specs.declared.Reading.{Reading}
-use Rattle.text_step.specs.declared.Reading.TheVariants.{Read, Outside, Unreadable}
+use Rattle.text_entry.specs.declared.Unread.{Unread}
+use Rattle.text_entry.specs.declared.Unread.TheVariants.{Outside, Unreadable}
+use Rattle.std.specs.Prelude.{Result, Ok, Err}
+use Rattle.log_entry.specs.declared.refusal.Refusal.TheVariants as refused
 use Rattle.text_step.specs.Claims.{IsText}
 use Rattle.text_step.specs.Step.{beyond, reading, reading_of}
 use Rattle.text_step.proofs.Agreement.{outside_line_is_text, read_line_is_text, reads_exactly, text_beyond}
@@ -46,7 +49,7 @@ few_counted steps = go (eqb (run fresh_world steps).acceptors 0)
     go true = omega arith
     go false = omega (arith, (in_bounds steps).acceptors)
 
-taken : (w : World) → FewCount w → (line : List ℕ) (s : Step) → IsText line s → (b : Bool) → beyond s ≡ b → carried_out w (command_to (cond b Outside (Read s))) ≡ step_of w s
+taken : (w : World) → FewCount w → (line : List ℕ) (s : Step) → IsText line s → (b : Bool) → beyond s ≡ b → carried_out w (command_to (cond b (Err Outside) (Ok s))) ≡ step_of w s
 taken w few line s t true h = sym (outside_refused w s (text_beyond (acceptors_counted w.acceptors) few line s t h))
 taken w few line s t false h = refl
 
@@ -67,11 +70,11 @@ pub other_line_is_unreadable : OtherLineIsUnreadable
 unfolding command_of
 other_line_is_unreadable w line h = go (ltb max_line_bytes (length line)) (reading line) refl
   where
-    go : (b : Bool) (r : Reading) → reading line ≡ r → carried_out w (cond b (refusing unreadable) (command_to r)) ≡ answered w unreadable
+    go : (b : Bool) (r : Result Step Unread) → reading line ≡ r → carried_out w (cond b (refusing refused.Unreadable) (command_to r)) ≡ answered w unreadable
     go true r k = refl
-    go false (Read s) k = absurd (h s (read_line_is_text line s k))
-    go false Outside k = let t = outside_line_is_text line k in absurd (h t.0 t.1)
-    go false Unreadable k = refl
+    go false (Ok s) k = absurd (h s (read_line_is_text line s k))
+    go false (Err Outside) k = let t = outside_line_is_text line k in absurd (h t.0 t.1)
+    go false (Err Unreadable) k = refl
 
 -- ---- no other refusal of a step has the number 2
 
@@ -94,15 +97,15 @@ refused_2 p s h = go (outside_step (acceptors_counted p.acceptors) s) h
   where
     go : (b : Bool) → cond b outside_limits (first_refusal (step_checks p s)) ≡ outside_limits → b ≡ true
     go true k = refl
-    go false k = absurd (not_given outside_limits (step_checks p s) (λ e. omega arith) (none_is_2 p s) k)
+    go false k = absurd (not_given outside_limits (step_checks p s) err_ok (none_is_2 p s) k)
 
 pub answered_2_is_outside : Answered2IsOutside
 unfolding command_of
 answered_2_is_outside w few line h = go (ltb max_line_bytes (length line)) (reading line) refl h
   where
-    go : (b : Bool) (r : Reading) → reading line ≡ r → (carried_out w (cond b (refusing unreadable) (command_to r))).answer ≡ outside_limits
+    go : (b : Bool) (r : Result Step Unread) → reading line ≡ r → (carried_out w (cond b (refusing refused.Unreadable) (command_to r))).answer ≡ outside_limits
         → (s : Step) × IsText line s × (outside_step (acceptors_counted w.acceptors) s ≡ true)
-    go true r k h = absurd (let z : ⊥ = omega arith in z)
-    go false (Read s) k h = (s, read_line_is_text line s k, refused_2 (parts_of w s) s (sym (answer_is_refusal w s) ∙ h))
-    go false Outside k h = let t = outside_line_is_text line k in (t.0, t.1, t.2 (acceptors_counted w.acceptors) few)
-    go false Unreadable k h = absurd (let z : ⊥ = omega arith in z)
+    go true r k h = absurd (grind (arith, h))
+    go false (Ok s) k h = (s, read_line_is_text line s k, refused_2 (parts_of w s) s (sym (answer_is_refusal w s) ∙ h))
+    go false (Err Outside) k h = let t = outside_line_is_text line k in (t.0, t.1, t.2 (acceptors_counted w.acceptors) few)
+    go false (Err Unreadable) k h = absurd (grind (arith, h))

@@ -10,16 +10,17 @@ use borrow.Author.Tests.{leb-false, leb-true}
 use Rattle.model_agreement.specs.Claim.{Claim}
 use Rattle.model_agreement.specs.History.{history}
 use Rattle.model_agreement.proofs.Theorem.{demand_3}
-use Rattle.model_steps.specs.declared.Command.{Command}
+use Rattle.model_steps.specs.Commands.{Command}
 use Rattle.world_engine.specs.Commands.{answers_to, world_after}
-use Rattle.log_entry.specs.Refusal.{no_place, unreadable}
+use Rattle.log_entry.specs.declared.refusal.Refusal.TheVariants as refused
 use Rattle.text_lines.specs.Lines.{lines, max_line_bytes, max_lines}
 use Rattle.model_protocol.specs.declared.World.{World}
 use Rattle.model_protocol.specs.Step.{run, step_of}
 use Rattle.model_protocol.specs.World.{fresh_world}
 use Rattle.model_steps.specs.declared.Step.{Step}
-use Rattle.text_step.specs.declared.Reading.{Reading}
-use Rattle.text_step.specs.declared.Reading.TheVariants.{Read, Outside, Unreadable}
+use Rattle.text_entry.specs.declared.Unread.{Unread}
+use Rattle.text_entry.specs.declared.Unread.TheVariants.{Outside, Unreadable}
+use Rattle.std.specs.Prelude.{Result, Ok, Err}
 use Rattle.text_step.specs.Step.{reading}
 use Rattle.world_input.specs.Commands.{command_of, command_to, commands_from, commands_of, refusing}
 use Rattle.world_run.specs.declared.Session.{Session}
@@ -33,18 +34,18 @@ line_runs : (w : World) (l : List ℕ) (os : List Command) (ss : List Step) → 
 unfolding command_of world_after run
 line_runs w l os ss later = go (ltb max_line_bytes (length l)) (reading l)
   where
-    go : (b : Bool) (r : Reading) → world_after w (cond b (refusing unreadable) (command_to r) ∷ os) ≡ run w (cond b [] (step_in r) ++ ss)
+    go : (b : Bool) (r : Result Step Unread) → world_after w (cond b (refusing refused.Unreadable) (command_to r) ∷ os) ≡ run w (cond b [] (step_in r) ++ ss)
     go true r = later w
-    go false (Read s) = later (step_of w s).world
-    go false Outside = later w
-    go false Unreadable = later w
+    go false (Ok s) = later (step_of w s).world
+    go false (Err Outside) = later w
+    go false (Err Unreadable) = later w
 
 no_lines : (k : ℕ) (w : World) → world_after w [] ≡ run w (steps_in (take k []))
 unfolding world_after run steps_in
 no_lines ℕ.zero w = refl
 no_lines (suc k) w = refl
 
-line_1001 : (w : World) (k : ℕ) (ls : List (List ℕ)) → k ≡ 0 → world_after w (refusing no_place ∷ []) ≡ run w (steps_in (take k ls))
+line_1001 : (w : World) (k : ℕ) (ls : List (List ℕ)) → k ≡ 0 → world_after w (refusing refused.NoPlace ∷ []) ≡ run w (steps_in (take k ls))
 unfolding world_after run steps_in
 line_1001 w k ls e = rw e
 
@@ -58,7 +59,7 @@ lines_run [] n w = no_lines (max_lines - n) w
 lines_run (l ∷ ls) n w = go (leb max_lines n) refl (lines_run ls (suc n))
   where
     go : (b : Bool) → leb max_lines n ≡ b → ((v : World) → world_after v (commands_from (suc n) ls) ≡ run v (steps_in (take (max_lines - suc n) ls)))
-        → world_after w (cond b (refusing no_place ∷ []) (command_of l ∷ commands_from (suc n) ls)) ≡ run w (steps_in (take (max_lines - n) (l ∷ ls)))
+        → world_after w (cond b (refusing refused.NoPlace ∷ []) (command_of l ∷ commands_from (suc n) ls)) ≡ run w (steps_in (take (max_lines - n) (l ∷ ls)))
     go true k later = let m : max_lines ≤ n = leb-true max_lines n k in line_1001 w (max_lines - n) (l ∷ ls) (omega arith)
     go false k later =
         let m : n < max_lines = leb-false max_lines n k in

@@ -1,16 +1,14 @@
 -- The steps that an input is read as.
-use Rattle.std.specs.Prelude.{ℕ, cond, List, [], ◌∷◌, ◌++◌, ltb, length, take}
+use Rattle.std.specs.Prelude.{ℕ, cond, List, [], ◌∷◌, ◌++◌, ltb, length, take, Result, Ok, Err}
 use Rattle.model_steps.specs.declared.Step.{Step}
 use Rattle.text_lines.specs.Lines.{lines, max_line_bytes, max_lines}
-use Rattle.text_step.specs.declared.Reading.{Reading}
-use Rattle.text_step.specs.declared.Reading.TheVariants.{Read, Outside, Unreadable}
+use Rattle.text_entry.specs.declared.Unread.{Unread}
 use Rattle.text_step.specs.Step.{reading}
 
 -- a line that does not read as a step, or reads as one with a number that no byte holds, is none
-abbrev pub step_in : Reading → List Step
-step_in (Read s) = s ∷ []
-step_in Outside = []
-step_in Unreadable = []
+abbrev pub step_in : Result Step Unread → List Step
+step_in (Ok s) = s ∷ []
+step_in (Err u) = []
 
 abbrev pub step_of_line : List ℕ → List Step
 step_of_line line = cond (ltb max_line_bytes (length line)) [] (step_in (reading line))
