@@ -11,14 +11,9 @@ impl Log {
         requires { out ≡ no_replay }
         ensures { result ≡ replay_of self store }
     {
-        let groups = self.groups;
-        let mut g: u8 = 0;
-        while g < groups {
-            g += 1;
-            let mut t: u8 = 0;
-            while t < TRANSACTIONS {
-                let tx = t;
-                t += 1;
+        for before in 0..self.groups {
+            let g = before + 1;
+            for tx in 0..TRANSACTIONS {
                 if self.rows[tx as usize].group != g {
                     continue;
                 }
