@@ -204,5 +204,10 @@ module _ {A : Type 0} (beyond : A → Bool) (r : Reader A) (same : (vs : List �
           fits (any_beyond vs) vs
           ∙ ap (λ (b : Bool). cond b (Err Outside) (Ok (r.build vs))) (ap any_beyond (kind_elements r.kind s vs h) ∙ same vs)
 
-  pub by_decimals : (s : List ℕ) {d : Result (List ℕ) Unread} → d ≡ bytes_of (read_kind r.kind s) → answers d ≡ answer_of beyond Ok (Err Outside) (Err Unreadable) (read_as r s)
-  by_decimals s e = ap answers e ∙ read_decimals s
+  pub decimals_unread : (s : List ℕ) {d : Result (List ℕ) Unread} {unread : Unread} → d ≡ bytes_of (read_kind r.kind s) → d ≡ Err unread
+      → Err unread ≡ answer_of beyond Ok (Err Outside) (Err Unreadable) (read_as r s)
+  decimals_unread s e h = ap answers (sym h ∙ e) ∙ read_decimals s
+
+  pub decimals_read : (s : List ℕ) {d : Result (List ℕ) Unread} {vs : List ℕ} → d ≡ bytes_of (read_kind r.kind s) → d ≡ Ok vs
+      → Ok (r.build vs) ≡ answer_of beyond Ok (Err Outside) (Err Unreadable) (read_as r s)
+  decimals_read s e h = ap answers (sym h ∙ e) ∙ read_decimals s

@@ -98,7 +98,7 @@ crash_outside r id h = rw (no_byte_lem id h)
 pub crash_counts : (vs : List ℕ) → reading_of (some (crash_of vs)) ≡ reading_of (some (crash_of (counts crash_kind.fields vs)))
 crash_counts vs =
     let k = at_counts crash_kind.fields vs in
-    counted_same (λ (n : ℕ). reading_of (some (Crash (role_of (at vs 0)) n))) Outside (crash_outside (role_of (at vs 0))) (at vs 1)
+    counted_same (λ (n : ℕ). reading_of (some (Crash (role_of (at vs 0)) n))) (Err Outside) (crash_outside (role_of (at vs 0))) (at vs 1)
     ∙ (λ i. reading_of (some (Crash (role_of (sym (k 0) i)) (sym (k 1) i))))
 
 -- the answer to a crash, by what the reader found of its line
@@ -122,10 +122,15 @@ module _ (l : List ℕ) (o : Option (Role × ℕ)) (h : crash_values o ≡ whole
 
 -- ---- kinds tried in turn
 
+-- what the reader answers to what a line reads as
+pub record Answers (t : maybe.Option Step) (r : Result Step Unread) : Type 0 where
+  pub answers : r ≡ reading_of t
+
 -- one kind more
-pub or_read : (t v : maybe.Option Step) (read r : Result Step Unread) {Otherwise : Type 0} → read ≡ reading_of t → OrElse read r Otherwise → (Otherwise → r ≡ reading_of v) → r ≡ reading_of (or_else t v)
-or_read none v read r {Otherwise} e m f = f (subst (λ (x : Result Step Unread). OrElse x r Otherwise) e m)
-or_read (some s) v read r {Otherwise} e m f = go (beyond s) (subst (λ (x : Result Step Unread). OrElse x r Otherwise) e m)
+pub or_read : {t : maybe.Option Step} (v : maybe.Option Step) {read : Result Step Unread} (r : Result Step Unread) {Otherwise : Type 0} → Answers t read → OrElse read r Otherwise → (Otherwise → r ≡ reading_of v)
+    → Answers (or_else t v) r
+or_read {t = none} v {read = read} r {Otherwise = Otherwise} a m f = record { answers = f (subst (λ (x : Result Step Unread). OrElse x r Otherwise) a.answers m) }
+or_read {t = some s} v {read = read} r {Otherwise = Otherwise} a m f = record { answers = go (beyond s) (subst (λ (x : Result Step Unread). OrElse x r Otherwise) a.answers m) }
   where
     go : (b : Bool) → OrElse (cond b (Err Outside) (Ok s)) r Otherwise → r ≡ cond b (Err Outside) (Ok s)
     go true h = h
