@@ -17,7 +17,6 @@ use Rattle.model_protocol.specs.declared.Parts.{Parts}
 use Rattle.model_protocol.specs.declared.Places.{Places}
 use Rattle.model_protocol.specs.declared.World.{World}
 use Rattle.model_protocol.specs.Change.{is_given}
-use Rattle.model_protocol.specs.Message.{no_message}
 use Rattle.model_protocol.specs.Places.{message_at, places_of}
 use Rattle.model_protocol.specs.Send.{copy_of, send_to_all}
 use Rattle.model_protocol.specs.Step.{answered, message_for, parts_at, put_back, step_of}

@@ -1,4 +1,4 @@
-use Rattle.std.proofs.Common.{◌≡◌, ◌≤◌, ◌∙◌, ap, arith, length, sym}
+use Rattle.std.proofs.Common.{◌≤◌, ◌∙◌, ap, arith, length, sym}
 use Rattle.std.proofs.lemmas.List.Edits.{sets}
 use Rattle.world_engine.specs.Commands.{answers_to, world_after}
 use Rattle.world_engine.proofs.CommandLaws.{stored_end, stored_turn, world_end, world_turn}
@@ -12,10 +12,10 @@ loop-k-preserved c = record {
 
 pub returns : goal.returns
 returns c =
-    let list = c.as_slice.result.now in
+    let list = c.as_slice-o-items.result.now in
     let end : length list ≤ c.loop-k.k = omega arith in
     record {
-      value = sym (world_end list c.loop-k.k end c.loop-k.w) ∙ sym c.loop-k.invariant.done ∙ ap (world_after c.args.w) c.as_slice.ensures;
+      value = sym (world_end list c.loop-k.k end c.loop-k.w) ∙ sym c.loop-k.invariant.done ∙ ap (world_after c.args.w) c.as_slice-o-items.ensures;
       answers_after = sym (stored_end list c.loop-k.k end c.loop-k.w c.loop-k.answers) ∙ sym c.loop-k.invariant.stored
-          ∙ ap (λ os. sets c.args.answers.now 0 (answers_to c.args.w os)) c.as_slice.ensures;
+          ∙ ap (λ os. sets c.args.answers.now 0 (answers_to c.args.w os)) c.as_slice-o-items.ensures;
     }

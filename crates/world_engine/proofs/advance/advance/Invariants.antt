@@ -6,6 +6,6 @@ use Rattle.world_engine.proofs.advance.advance.Given as goal
 
 abbrev pub invariant-loop-k : goal.invariant-loop-k
 invariant-loop-k l = record {
-  done : world_after l.initial.w l.asked ≡ world_after l.w (drop l.k l.asked);
-  stored : sets l.initial.answers 0 (answers_to l.initial.w l.asked) ≡ sets l.answers l.k (answers_to l.w (drop l.k l.asked));
+  done : world_after l.initial.w l.o-items ≡ world_after l.w (drop l.k l.o-items);
+  stored : sets l.initial.answers 0 (answers_to l.initial.w l.o-items) ≡ sets l.answers l.k (answers_to l.w (drop l.k l.o-items));
 }

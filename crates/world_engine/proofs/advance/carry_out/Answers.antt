@@ -1,4 +1,4 @@
-use Rattle.std.proofs.Common.{◌≡◌, ◌∙◌, ap, arith}
+use Rattle.std.proofs.Common.{◌≡◌, ◌∙◌, ap, arith, sym}
 use Rattle.model_protocol.specs.declared.Parts.{Parts}
 use Rattle.model_protocol.specs.declared.Stepped.{Stepped}
 use Rattle.model_protocol.specs.declared.World.{World}
@@ -39,4 +39,5 @@ returns c =
     let from = c.from-from.ensures ∙ c.message_at.ensures in
     let taken : answered c.send.new.w c.change-change.result.answer ≡ step_of c.args.w.now c.in_ok-s.s =
     step_taken c.args.w.now c.in_ok-s.s _ _ _ _ _ _ _ from c.places-at.ensures c.message_of-message.ensures c.parts_at-parts.ensures c.change-change.ensures c.put_back.ensures c.send.ensures in
-    ?
+    let carried = taken ∙ sym (ap (carried_out c.args.w.now) c.in_ok-s.was) in
+    record { world = ap (λ (s : Stepped). s.world) carried; answer = ap (λ (s : Stepped). s.answer) carried }
