@@ -8,6 +8,8 @@ use borrow.Author.Tests.{eqb-false, eqb-true, le-ltb, lt-leb}
 use lib.Dec.{eqb}
 use lib.ListN.{length, length-append, length-map, replicate, take}
 use lib.Seq.{take_all}
+use Rattle.std.specs.Prelude.{Ok}
+use Rattle.log_entry.specs.Number.{answer_number}
 use Rattle.log_entry.specs.Refusal.{accepted}
 use Rattle.model_agreement.specs.Claim.{IsSequence}
 use Rattle.model_agreement.specs.History.{history}
@@ -163,7 +165,7 @@ reads_all pre (s ∷ steps) w e o a =
     next = ap (λ (v : World). (step_of v s).world) e ∙ unfold run in sym (run_append pre (s ∷ []) fresh_world)
 
 -- what a line asks for
-command_is : (s : Step) → ReadsAsStep s → command_of (text s) ≡ record { refused = accepted; step = s }
+command_is : (s : Step) → ReadsAsStep s → command_of (text s) ≡ Ok s
 unfolding command_of
 command_is s r = rw (le-ltb max_line_bytes (length (text s)) r.short, r.reads)
 
@@ -177,12 +179,12 @@ steps_read (s ∷ steps) r = λ i. step_of_line_lem s r.0 i ++ steps_read steps 
 
 -- where each step is accepted, so is its line
 answers_read : (steps : List Step) (w : World) → Each ReadsAsStep steps → AllAccepted w steps
-    → answers_to w (map command_of (map text steps)) ≡ replicate (length steps) accepted
+    → answers_to w (map command_of (map text steps)) ≡ replicate (length steps) (answer_number accepted)
 unfolding answers_to
 answers_read [] w r a = refl
 answers_read (s ∷ steps) w r a =
     ap (λ (o : Command). answer_number (carried_out w o).answer ∷ answers_to (carried_out w o).world (map command_of (map text steps))) (command_is s r.0)
-    ∙ (λ i. a.0 i ∷ answers_read steps (step_of w s).world r.1 a.1 i)
+    ∙ (λ i. answer_number (a.0 i) ∷ answers_read steps (step_of w s).world r.1 a.1 i)
 
 world_read : (steps : List Step) (w : World) → Each ReadsAsStep steps → world_after w (map command_of (map text steps)) ≡ run w steps
 unfolding world_after run
@@ -210,7 +212,7 @@ world_append (x ∷ xs) ys w = world_append xs ys (carried_out w x).world
 answers_append : (xs ys : List Command) (w : World) → answers_to w (xs ++ ys) ≡ answers_to w xs ++ answers_to (world_after w xs) ys
 unfolding answers_to world_after
 answers_append [] ys w = refl
-answers_append (x ∷ xs) ys w = ap (λ (a : List ℕ). (carried_out w x).answer ∷ a) (answers_append xs ys (carried_out w x).world)
+answers_append (x ∷ xs) ys w = ap (λ (a : List ℕ). answer_number (carried_out w x).answer ∷ a) (answers_append xs ys (carried_out w x).world)
 
 steps_append : (xs ys : List (List ℕ)) → steps_in (xs ++ ys) ≡ steps_in xs ++ steps_in ys
 unfolding steps_in

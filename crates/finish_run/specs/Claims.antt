@@ -1,5 +1,6 @@
 -- What is claimed of an input and of the list that is printed for it.
 use Rattle.std.specs.Prelude.{ℕ, ◌+◌, ◌≤◌, ◌<◌, List, [], ◌∷◌, ◌++◌, ◌↔◌, ◌≡◌, length, replicate}
+use Rattle.log_entry.specs.Number.{answer_number}
 use Rattle.log_entry.specs.Refusal.{accepted}
 use Rattle.model_agreement.specs.Claim.{IsSequence}
 use Rattle.model_agreement.specs.History.{history}
@@ -51,7 +52,7 @@ LinesLeft input = length (lines input) + length (list_for input) ≤ max_lines
 -- All that the file's own lines came to is as it was.
 pub record Continues (input : List ℕ) : Type 0 where
   pub steps : steps_of (joined input) ≡ steps_of input ++ list_for input
-  pub answers : answers_for (joined input) ≡ answers_for input ++ replicate (length (list_for input)) accepted
+  pub answers : answers_for (joined input) ≡ answers_for input ++ replicate (length (list_for input)) (answer_number accepted)
   pub world : world_for (joined input) ≡ run (world_for input) (list_for input)
 
 abbrev pub FileContinues : Type 0
