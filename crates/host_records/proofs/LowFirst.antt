@@ -42,6 +42,11 @@ sets_out l to (v ∷ vs) h =
     let out : length l ≤ to = h (omega arith) in
     ap (λ (m : List ℕ). sets m (suc to) vs) (set_out l to v out) ∙ sets_out l (suc to) vs (λ (some : 0 < length vs). omega arith)
 
+-- all of them, copied into their place
+pub put_whole : (l : List ℕ) (at : ℕ) (vs : List ℕ) {n : ℕ} {ys : List ℕ} → length vs ≡ n → at + n ≤ length l → ys ≡ vs → put_mid at (at + n - at) l ys ≡ sets l at vs
+put_whole l at vs {n} size room is =
+    rw (is, add-sub_cancel_left at n, drop-drop n at l, ← append_assoc) (rw size at (sym (sets-eq vs l at (omega arith))))
+
 -- as many of them as there is room for
 pub put_with_room : (l : List ℕ) (at n : ℕ) (vs ys : List ℕ) → at < length l → n ≡ min (length vs) (length l - at) → ys ≡ take n vs
     → put_mid at (at + n - at) l ys ≡ sets l at vs
@@ -50,7 +55,7 @@ put_with_room l at n vs ys here most is =
     let room : length (sets l at (take n vs)) ≡ length l = length-sets l at (take n vs) in
     let rest : sets (sets l at (take n vs)) (at + length (take n vs)) (drop n vs) ≡ sets l at (take n vs)
     = sets_out _ _ (drop n vs) (λ (some : 0 < length (drop n vs)). omega (arith, length-drop n vs)) in
-    let first : (take at l ++ take n vs) ++ drop (at + n) l ≡ sets l at (take n vs)
-    = rw (few) at (sym (sets-eq (take n vs) l at (omega arith))) in
-    rw (is, add-sub_cancel_left at n, drop-drop n at l, ← append_assoc)
-    (first ∙ sym rest ∙ sym (sets_append (take n vs) (drop n vs) l at) ∙ ap (λ (ws : List ℕ). sets l at ws) (take-append-drop n vs))
+    put_whole l at (take n vs) few (omega arith) is
+    ∙ sym rest
+    ∙ sym (sets_append (take n vs) (drop n vs) l at)
+    ∙ ap (λ (ws : List ℕ). sets l at ws) (take-append-drop n vs)

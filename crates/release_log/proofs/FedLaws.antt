@@ -3,15 +3,14 @@ use Prim.Native.Nat.{ℕ}
 use mathlib.Core.Bool.{Bool, false, true}
 use mathlib.Core.List.{List, [], map, ◌∷◌, ◌++◌}
 use mathlib.Core.Path.{◌≡◌, ap, refl, sym, ◌∙◌}
-use borrow.Author.Tests.{eq-eqb, eqb-true}
-use lib.Dec.{eqb}
+use Rattle.std.proofs.Common.{Err, Ok, is_ok}
 use Rattle.log_entry.specs.Refusal.{accepted}
 use Rattle.log_core.specs.declared.Entered.{Entered}
 use Rattle.log_core.specs.declared.Log.{Log}
 use Rattle.log_core.specs.Enter.{enter, feed}
-use Rattle.host_records.proofs.RecordReadings.{record_entry, record_refusal}
-use Rattle.host_records.specs.declared.Reading.{Reading}
-use Rattle.host_records.specs.declared.Reading.TheVariants.{Of, Refused}
+use Rattle.log_entry.proofs.AnswerLaws.{err_ok, ok_accepted}
+use Rattle.host_records.proofs.RecordReadings.{record_entry}
+use Rattle.host_records.specs.Numbers.{Reading}
 use Rattle.host_records.specs.Record.{entry_in, read_record}
 use Rattle.host_lent.specs.Lent.{enter_reading, enter_record, log_after}
 
@@ -22,8 +21,8 @@ module _ (l : Log) (bytes : List ℕ) (h : (enter_record l bytes).answer ≡ acc
   record_entered = split (read_record l.stores bytes) refl
     where
       split : (r : Reading) → read_record l.stores bytes ≡ r → enter_record l bytes ≡ enter l (entry_in bytes)
-      split (Of e) k = rw (k, record_entry l.stores bytes k)
-      split (Refused n) k = absurd (record_refusal l.stores bytes k (rw k at h))
+      split (Ok e) k = rw (k, record_entry l.stores bytes k)
+      split (Err n) k = absurd (err_ok (rw k at h))
 
 -- one record more at the front, whose log is m if it is accepted
 module _ (l : Log) (r : List ℕ) (rs : List (List ℕ)) where
@@ -32,15 +31,15 @@ module _ (l : Log) (r : List ℕ) (rs : List (List ℕ)) where
 
   pub first_accepted : (log_after l (r ∷ rs)).answer ≡ accepted → said.answer ≡ accepted
   unfolding log_after
-  first_accepted h = split (eqb said.answer accepted) refl
+  first_accepted h = split (is_ok said.answer) refl
     where
-      split : (t : Bool) → eqb said.answer accepted ≡ t → said.answer ≡ accepted
-      split true e = eqb-true said.answer accepted e
+      split : (t : Bool) → is_ok said.answer ≡ t → said.answer ≡ accepted
+      split true e = ok_accepted said.answer e
       split false e = rw e at h
 
   pub after_first : said.answer ≡ accepted → log_after l (r ∷ rs) ≡ log_after said.log rs
   unfolding log_after
-  after_first h = rw (eq-eqb said.answer accepted h)
+  after_first h = rw (ap is_ok h)
 
 pub records_fed : (l : Log) (rs : List (List ℕ)) → (log_after l rs).answer ≡ accepted → (log_after l rs).log ≡ feed l (map entry_in rs)
 unfolding log_after feed

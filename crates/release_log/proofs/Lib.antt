@@ -6,5 +6,4 @@ pub mod LimitedRecords
 pub mod QueryLaws
 pub mod RecordsLaws
 pub mod RowsLaws
-pub mod StoreLaws
 pub mod Theorems

@@ -10,6 +10,7 @@ use lib.ListN.{length}
 use Rattle.log_entry.specs.declared.Entry.{Entry}
 use Rattle.log_entry.specs.Entry.{outside}
 use Rattle.log_entry.specs.Limits.{no_store, no_transaction, small_stores, stores, stores_of, transactions_of}
+use Rattle.log_entry.specs.Number.{answer_number}
 use Rattle.log_entry.specs.Refusal.{accepted, outside_limits}
 use Rattle.log_entry.proofs.Tests.{neither, or_left, or_right}
 use Rattle.log_core.specs.declared.Entered.{Entered}
@@ -22,16 +23,15 @@ use Rattle.log_votes.specs.Involvement.{involvement_number}
 use Rattle.log_votes.specs.Outcome.{outcome_number}
 use Rattle.host_records.proofs.ReadingLaws.{entry_read, read_within}
 use Rattle.host_records.specs.declared.Numbers.{Numbers}
-use Rattle.host_records.specs.declared.Reading.{Reading}
-use Rattle.host_records.specs.Numbers.{entry_of, read_numbers}
+use Rattle.host_records.specs.Numbers.{Reading, entry_of, read_numbers}
 use Rattle.host_records.specs.Record.{record_size}
 use Rattle.log_core.proofs.Limit.{opened_limit}
 use Rattle.host_lent.proofs.LentLaws.{after_limit, lent_after, no_such_limit}
 use Rattle.host_lent.specs.Lent.{enter_reading, lent_log, log_after, no_limit, records_entered, records_in}
-use Rattle.release_log.specs.Add.{add_answer, add_bytes}
+use Rattle.release_log.specs.Add.{add_bytes, added_answer}
 use Rattle.release_log.specs.Filled.{entries_in}
 use Rattle.release_log.specs.Limited.{AcceptedWithThree, OtherLimitIsRefused, OutsideQueries, QueriesByOwnLimits, Refused, SameQuery, SmallCallsAsFull, TwoLimitsAreTaken}
-use Rattle.release_log.specs.Query.{Query, answer_to, bytes_after, replay_value}
+use Rattle.release_log.specs.Query.{Query, bytes_after, query_answer, replay_value}
 use Rattle.release_log.proofs.AddLaws as adds
 use Rattle.release_log.proofs.LimitedRecords.{after_same, all_inside, limited, reading_same}
 use Rattle.release_log.proofs.QueryLaws.{numbers_outside, records_refused}
@@ -39,19 +39,16 @@ use Rattle.release_log.proofs.QueryLaws.{numbers_outside, records_refused}
 -- ---- another limit
 
 -- the records are answered 2
-by_records : (q : Query) → q.lent.answer ≡ 2 → Refused q
+by_records : (q : Query) → q.lent.answer ≡ outside_limits → Refused q
 by_records q h = record {
-  answers = λ out. sym (records_refused q out refl wrong).0 ∙ h;
-  unchanged = λ out. sym (records_refused q out refl wrong).1;
+  answers = λ out. ap answer_number (sym (records_refused q out refl h).0);
+  unchanged = λ out. sym (records_refused q out refl h).1;
 }
-  where
-    wrong : q.lent.answer ≡ accepted → ⊥
-    wrong k = omega (arith, h, k)
 
 pub other_limit_is_refused : OtherLimitIsRefused
 other_limit_is_refused limit not_full not-small = record {
-  add_answer = λ bytes count n. sym (adds.records_refused limit bytes count n refl (wrong bytes count)).0 ∙ said bytes count;
-  add_bytes = λ bytes count n. sym (adds.records_refused limit bytes count n refl (wrong bytes count)).1;
+  add_answer = λ bytes count n. ap answer_number (sym (adds.records_refused limit bytes count n refl (said bytes count)).0);
+  add_bytes = λ bytes count n. sym (adds.records_refused limit bytes count n refl (said bytes count)).1;
   outcome = λ bytes count tx. by_records _ (said bytes count);
   involvement = λ bytes count tx store. by_records _ (said bytes count);
   replay = λ bytes count store. by_records _ (said bytes count);
@@ -60,17 +57,14 @@ other_limit_is_refused limit not_full not-small = record {
     none : no_limit limit ≡ true
     none = ap not (neither (eqb limit stores) (eqb limit small_stores) (ne_eqb limit stores not_full) (ne_eqb limit small_stores not-small))
 
-    said : (bytes : List ℕ) (count : ℕ) → (lent_log limit bytes count).answer ≡ 2
+    said : (bytes : List ℕ) (count : ℕ) → (lent_log limit bytes count).answer ≡ outside_limits
     said bytes count = ap (λ (t : Entered). t.answer) (sym (no_such_limit limit bytes count none))
-
-    wrong : (bytes : List ℕ) (count : ℕ) → (lent_log limit bytes count).answer ≡ accepted → ⊥
-    wrong bytes count k = omega (arith, said bytes count, k)
 
 -- ---- a query's own numbers
 
 by_numbers : (q : Query) → q.lent.answer ≡ accepted → q.outside ≡ true → Refused q
 by_numbers q accept h = record {
-  answers = λ out. sym (numbers_outside q out refl accept h).0;
+  answers = λ out. ap answer_number (sym (numbers_outside q out refl accept h).0);
   unchanged = λ out. sym (numbers_outside q out refl accept h).1;
 }
 
@@ -128,11 +122,11 @@ unfolding lent_log
 lent_alike bytes count within = by_count 3 bytes count within (ltb (length bytes) (count * record_size))
 
 same_query : (q r : Query) → q.lent.answer ≡ r.lent.answer → q.outside ≡ r.outside → q.value ≡ r.value → SameQuery q r
-unfolding answer_to bytes_after
+unfolding query_answer bytes_after
 same_query q r said numbers value = record { answers = λ out. rw (said, numbers, value); writes = λ out. rw (said, numbers, value) }
 
 pub small_calls_as_full : SmallCallsAsFull
-unfolding add_answer add_bytes
+unfolding added_answer add_bytes
 small_calls_as_full bytes count within = record {
   records = both.said;
   add_answer = λ n h. rw (both.said, both.entry n h);

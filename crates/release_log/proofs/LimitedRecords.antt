@@ -4,11 +4,13 @@ use mathlib.Core.Bool.{Bool, true, false, cond}
 use mathlib.Core.List.{List, [], map, ◌∷◌}
 use mathlib.Core.Path.{◌≡◌, ap, refl, subst, sym, ◌∙◌}
 use lib.Dec.{eqb}
+use Rattle.std.proofs.Common.{Err, Ok, is_ok}
 use lib.ListN.{length}
 use Rattle.log_entry.specs.declared.Entry.{Entry}
 use Rattle.log_entry.specs.Entry.{outside}
 use Rattle.log_entry.specs.Limits.{stores}
-use Rattle.log_entry.specs.Refusal.{accepted, unreadable as unreadable_number}
+use Rattle.log_entry.specs.declared.refusal.Refusal.TheVariants.{Unreadable}
+use Rattle.log_entry.specs.Refusal.{accepted}
 use Rattle.log_core.specs.declared.Entered.{Entered}
 use Rattle.log_core.specs.declared.Log.{Log}
 use Rattle.log_core.specs.Enter.{answered}
@@ -19,8 +21,7 @@ use Rattle.log_core.proofs.Limit.{enter_limit}
 use Rattle.log_core.proofs.TwoLimits.{inside_same}
 use Rattle.host_records.proofs.ReadingLaws.{read_within}
 use Rattle.host_records.proofs.RecordReadings.{record_entry}
-use Rattle.host_records.specs.declared.Reading.{Reading}
-use Rattle.host_records.specs.declared.Reading.TheVariants.{Of, Refused}
+use Rattle.host_records.specs.Numbers.{Reading}
 use Rattle.host_records.specs.Record.{entry_in, numbers_in, read_record, record_size}
 use Rattle.host_lent.proofs.LentLaws.{reading_limit}
 use Rattle.host_lent.specs.Lent.{enter_reading, enter_record, log_after}
@@ -36,15 +37,15 @@ in_arms n false t u = refl
 
 module _ (n : ℕ) (l : Log) (full : l.stores ≡ stores) where
   -- what was read, an entry within the limits or a refusal
-  pub reading_same : (r : Reading) → ((e : Entry) → r ≡ Of e → outside n e ≡ false) → enter_reading (with_limit n l) r ≡ limited n (enter_reading l r)
+  pub reading_same : (r : Reading) → ((e : Entry) → r ≡ Ok e → outside n e ≡ false) → enter_reading (with_limit n l) r ≡ limited n (enter_reading l r)
   unfolding enter_reading
-  reading_same (Of e) h = inside_same n l e full (h e refl)
-  reading_same (Refused k) h = refl
+  reading_same (Ok e) h = inside_same n l e full (h e refl)
+  reading_same (Err k) h = refl
 
   record_same : (r : List ℕ) → outside n (entry_in r) ≡ false → enter_record (with_limit n l) r ≡ limited n (enter_record l r)
   unfolding read_record
   record_same r h =
-      ap (λ (x : Reading). enter_reading (with_limit n l) (cond (eqb (length r) record_size) x (Refused unreadable_number))) (read_within n (numbers_in r) h)
+      ap (λ (x : Reading). enter_reading (with_limit n l) (cond (eqb (length r) record_size) x (Err Unreadable))) (read_within n (numbers_in r) h)
       ∙ ap (λ (m : ℕ). enter_reading (with_limit n l) (read_record m r)) (sym full)
       ∙ reading_same (read_record l.stores r) (λ e k. ap (λ (e : Entry). outside n e) (sym (record_entry l.stores r k)) ∙ h)
 
@@ -56,8 +57,8 @@ pub after_same : (n : ℕ) (l : Log) (rs : List (List ℕ)) → l.stores ≡ sto
 unfolding log_after
 after_same n l [] full h = refl
 after_same n l (r ∷ rs) full h =
-    let b = eqb (enter_record l r).answer accepted in
-    ap (λ (t : Entered). cond (eqb t.answer accepted) (log_after t.log rs) t) (record_same n l full r h.0)
+    let b = is_ok (enter_record l r).answer in
+    ap (λ (t : Entered). cond (is_ok t.answer) (log_after t.log rs) t) (record_same n l full r h.0)
     ∙ ap (λ (t : Entered). cond b t (limited n (enter_record l r))) (after_same n (enter_record l r).log rs (full_after n l full r) h.1)
     ∙ in_arms n b (log_after (enter_record l r).log rs) (enter_record l r)
 

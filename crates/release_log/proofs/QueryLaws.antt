@@ -3,14 +3,17 @@ use Prim.Native.Nat.{ℕ, ◌<◌, ◌≤◌}
 use mathlib.Core.Bool.{Bool, false, true}
 use mathlib.Core.List.{List}
 use mathlib.Core.Path.{◌≡◌, refl, ◌∙◌}
-use borrow.Author.Tests.{le-ltb, lt-ltb, ne_eqb}
+use borrow.Author.Tests.{le-ltb, lt-ltb}
+use Rattle.std.proofs.Common.{Err}
 use lib.Dec.{ltb}
 use lib.ListN.{length}
 use lib.Seq.{sets}
+use Rattle.log_entry.specs.declared.refusal.Refusal.{Refusal}
+use Rattle.log_entry.specs.Number.{Answer}
 use Rattle.log_entry.specs.Refusal.{accepted, first_refusal, outside_limits, no_place}
 use Rattle.log_core.specs.declared.Entered.{Entered}
 use Rattle.release_log.specs.Parts.{place_answer, place_bytes}
-use Rattle.release_log.specs.Query.{Query, answer_to, bytes_after}
+use Rattle.release_log.specs.Query.{Query, bytes_after, query_answer}
 
 module _ (value out : List ℕ) where
   pub no_place_lem : length out < length value → (no_place ≡ place_answer value out) × (out ≡ place_bytes value out)
@@ -22,18 +25,18 @@ module _ (value out : List ℕ) where
   place h = (rw (le-ltb (length out) (length value) h), rw (le-ltb (length out) (length value) h))
 
 module _ (q : Query) (out : List ℕ) {t : Entered} (lent : t ≡ q.lent) where
-  pub records_refused : (t.answer ≡ accepted → ⊥) → (t.answer ≡ answer_to q out) × (out ≡ bytes_after q out)
-  unfolding answer_to bytes_after first_refusal
-  records_refused h = (rw (← lent, ne_eqb t.answer accepted h), rw (← lent, ne_eqb t.answer accepted h, ne_eqb t.answer accepted h))
+  pub records_refused : {r : Refusal} → t.answer ≡ Err r → (Err r ≡ query_answer q out) × (out ≡ bytes_after q out)
+  unfolding query_answer bytes_after first_refusal
+  records_refused h = (rw (← lent, h), rw (← lent, h))
 
   module _ (accept : t.answer ≡ accepted) where
-    pub numbers_outside : q.outside ≡ true → (outside_limits ≡ answer_to q out) × (out ≡ bytes_after q out)
-    unfolding answer_to bytes_after first_refusal
+    pub numbers_outside : q.outside ≡ true → (outside_limits ≡ query_answer q out) × (out ≡ bytes_after q out)
+    unfolding query_answer bytes_after first_refusal
     numbers_outside h = (rw (← lent, accept, h), rw (← lent, accept, h))
 
-    pub value_placed : q.outside ≡ false → {value : List ℕ} → value ≡ q.value → {r : ℕ} {after : List ℕ}
-        → (r ≡ place_answer value out) × (after ≡ place_bytes value out) → (r ≡ answer_to q out) × (after ≡ bytes_after q out)
-    unfolding answer_to bytes_after first_refusal place_answer place_bytes
+    pub value_placed : q.outside ≡ false → {value : List ℕ} → value ≡ q.value → {r : Answer} {after : List ℕ}
+        → (r ≡ place_answer value out) × (after ≡ place_bytes value out) → (r ≡ query_answer q out) × (after ≡ bytes_after q out)
+    unfolding query_answer bytes_after first_refusal place_answer place_bytes
     value_placed h {value} v p = (p.0 ∙ rw (← lent, accept, h, ← v), p.1 ∙ split (ltb (length out) (length value)) refl)
       where
         split : (t : Bool) → ltb (length out) (length value) ≡ t → place_bytes value out ≡ bytes_after q out

@@ -4,11 +4,13 @@ use mathlib.Core.Bool.{false}
 use mathlib.Core.List.{List, [], ◌∷◌}
 use mathlib.Core.Path.{◌≡◌, ap, refl, sym, ◌∙◌}
 use native.Mathlib.Omega.{arith}
-use borrow.Author.Tests.{eq-eqb, le-ltb, ltb-false}
+use borrow.Author.Tests.{le-ltb, ltb-false}
+use Rattle.std.proofs.Common.{Ok, is_ok}
 use lib.Dec.{ltb}
 use lib.ListN.{length}
 use lib.Seq.{length-sets, sets}
 use Rattle.log_entry.specs.Limits.{update_bytes}
+use Rattle.log_entry.specs.Number.{answer_number}
 use Rattle.log_entry.specs.Refusal.{accepted}
 use Rattle.log_core.specs.declared.Entered.{Entered}
 use Rattle.log_core.specs.declared.Log.{Log}
@@ -17,14 +19,13 @@ use Rattle.log_core.specs.Log.{opened}
 use Rattle.host_records.proofs.LowFirst.{low_first_back}
 use Rattle.host_records.proofs.Theorems.{read_is_proper, record_reads_back}
 use Rattle.host_records.specs.declared.Numbers.{Numbers}
-use Rattle.host_records.specs.declared.Reading.TheVariants.{Of}
 use Rattle.host_records.specs.Numbers.{entry_of, read_numbers}
 use Rattle.host_records.specs.Record.{record_of, record_size}
 use Rattle.host_lent.proofs.LentLaws.{count_within, lent_after, lent_limit, limit_fits}
-use Rattle.release_log.proofs.AcceptedLaws.{Passed, numbers_accepted, passed}
+use Rattle.release_log.proofs.AcceptedLaws.{Passed, number_ok, numbers_accepted, passed}
 use Rattle.release_log.proofs.FedLaws.{log_after_more, records_fed}
 use Rattle.release_log.proofs.RecordsLaws.{records_stored}
-use Rattle.release_log.specs.Add.{add_answer, add_bytes}
+use Rattle.release_log.specs.Add.{add_answer, add_bytes, added_answer}
 use Rattle.release_log.specs.Claims.{AddedEntryIsEntered, FilledIsAccepted, LentLogIsFed, RowReadsBack}
 use Rattle.host_lent.specs.Lent.{enter_reading, enter_record, lent_log, log_after, no_limit, records_in}
 use Rattle.release_log.specs.Filled.{Filled, added, empty}
@@ -44,19 +45,22 @@ lent_log_is_fed limit bytes count h =
 one_more : (l : Log) (r : List ℕ) {t : Entered} → enter_record l r ≡ t → t.answer ≡ accepted
     → log_after l (r ∷ []) ≡ answered t.log accepted
 unfolding log_after
-one_more l r e h = rw (e, eq-eqb _ accepted h)
+one_more l r e h = rw (e, ap is_ok h)
 
-module _ (limit : ℕ) (bytes : List ℕ) (count : ℕ) (n : Numbers) (h : add_answer limit bytes count n ≡ accepted) where
+module _ (limit : ℕ) (bytes : List ℕ) (count : ℕ) (n : Numbers) (h : add_answer limit bytes count n ≡ answer_number accepted) where
+  said : added_answer limit bytes count n ≡ accepted
+  said = number_ok (added_answer limit bytes count n) h
+
   parts : Passed (lent_log limit bytes count).answer (enter_reading (lent_log limit bytes count).log (read_numbers limit n)).answer (ltb (length bytes) (suc count * record_size))
-  unfolding add_answer
-  parts = passed _ _ _ h
+  unfolding added_answer
+  parts = passed _ _ _ said
 
-  read : read_numbers limit n ≡ Of (entry_of n)
+  read : read_numbers limit n ≡ Ok (entry_of n)
   read = numbers_accepted limit (lent_log limit bytes count).log n parts.entry
 
   stored : add_bytes limit bytes count n ≡ sets bytes (count * record_size) (record_of (entry_of n))
   unfolding add_bytes
-  stored = rw (eq-eqb (add_answer limit bytes count n) accepted h)
+  stored = rw (ap is_ok said)
 
   own_limit : (lent_log limit bytes count).log.stores ≡ limit
   own_limit = lent_limit limit bytes count parts.records

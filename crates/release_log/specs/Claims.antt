@@ -1,6 +1,7 @@
 -- The claims on the buffers that hosts lend. `proofs/Theorems.antt` proves them.
 use Rattle.std.specs.Prelude.{ℕ, suc, ◌<◌, false, List, ◌≡◌, drop, get_or, length}
 use Rattle.log_entry.specs.Limits.{updates}
+use Rattle.log_entry.specs.Number.{answer_number}
 use Rattle.log_entry.specs.Refusal.{accepted}
 use Rattle.log_core.specs.declared.Replayed.{Replayed}
 use Rattle.log_core.specs.Enter.{answered, enter, feed}
@@ -23,7 +24,7 @@ LentLogIsFed =
 -- entry entered.
 abbrev pub AddedEntryIsEntered : Type 0
 AddedEntryIsEntered =
-    (limit : ℕ) (bytes : List ℕ) (count : ℕ) (n : Numbers) → add_answer limit bytes count n ≡ accepted
+    (limit : ℕ) (bytes : List ℕ) (count : ℕ) (n : Numbers) → add_answer limit bytes count n ≡ answer_number accepted
     → lent_log limit (add_bytes limit bytes count n) (suc count) ≡ answered (enter (lent_log limit bytes count).log (entry_of n)).log accepted
 
 -- A buffer that was filled only by accepted adds of one of the limits, from empty, is never refused

@@ -2,6 +2,7 @@
 -- `proofs/Theorems.antt` speak of.
 use Rattle.std.specs.Prelude.{ℕ, suc, List, map, ◌≡◌}
 use Rattle.log_entry.specs.declared.Entry.{Entry}
+use Rattle.log_entry.specs.Number.{answer_number}
 use Rattle.log_entry.specs.Refusal.{accepted}
 use Rattle.host_records.specs.declared.Numbers.{Numbers}
 use Rattle.host_records.specs.Record.{entry_in}
@@ -12,7 +13,7 @@ use Rattle.host_lent.specs.Lent.{records_in}
 -- records
 pub data Filled (limit : ℕ) : List ℕ → ℕ → Type 0 where
   empty : {bytes : List ℕ} → Filled limit bytes 0
-  added : {bytes : List ℕ} {count : ℕ} (n : Numbers) → Filled limit bytes count → add_answer limit bytes count n ≡ accepted
+  added : {bytes : List ℕ} {count : ℕ} (n : Numbers) → Filled limit bytes count → add_answer limit bytes count n ≡ answer_number accepted
       → Filled limit (add_bytes limit bytes count n) (suc count)
 
 -- the entries that the lent records stand for, oldest first

@@ -1,8 +1,9 @@
 -- Document 01, "Hosts in C": "A query answers 0 and writes its value to a second buffer".
-use Rattle.std.specs.Prelude.{ℕ, ◌+◌, Bool, ◌||◌, cond, List, [], ◌∷◌, ◌++◌, eqb, ltb, length}
+use Rattle.std.specs.Prelude.{ℕ, ◌+◌, Bool, ◌||◌, cond, List, [], ◌∷◌, ◌++◌, ltb, length, is_ok}
 use Rattle.std.proofs.lemmas.List.Edits.{sets}
 use Rattle.log_entry.specs.Limits.{no_store, no_transaction, update_bytes}
-use Rattle.log_entry.specs.Refusal.{accepted, check, first_refusal, outside_limits, no_place}
+use Rattle.log_entry.specs.Number.{Answer, answer_number}
+use Rattle.log_entry.specs.Refusal.{check, first_refusal, outside_limits, no_place}
 use Rattle.log_core.specs.declared.Entered.{Entered}
 use Rattle.log_core.specs.declared.Replayed.{Replayed}
 use Rattle.log_votes.specs.Involvement.{involvement_number}
@@ -22,17 +23,21 @@ pub record Query : Type 0 where
 
 -- "A query's own numbers are tried after the records; then too short a second buffer is 6." Their
 -- limits are those of the log.
-unfoldable pub answer_to : Query → List ℕ → ℕ
-answer_to q out =
+unfoldable pub query_answer : Query → List ℕ → Answer
+query_answer q out =
     first_refusal
     (passing q.lent.answer
     ∷ check outside_limits q.outside
     ∷ check no_place (ltb (length out) (length q.value))
     ∷ [])
 
+-- its number, which the host is answered
+abbrev pub answer_to : Query → List ℕ → ℕ
+answer_to q out = answer_number (query_answer q out)
+
 -- the second buffer afterwards: the value at its front and the rest as it was, or all as it was
 unfoldable pub bytes_after : Query → List ℕ → List ℕ
-bytes_after q out = cond (eqb (answer_to q out) accepted) (sets out 0 q.value) out
+bytes_after q out = cond (is_ok (query_answer q out)) (sets out 0 q.value) out
 
 -- "a byte for outcome (0 open, 1 commit, 2 abort)"
 abbrev pub outcome_query : ℕ → List ℕ → ℕ → ℕ → Query

@@ -5,38 +5,44 @@
 ghost use Rattle.std.specs.Prelude.{◌≡◌, ◌*◌, ◌≤◌, length};
 ghost use Rattle.host_records.specs.Numbers.{numbers};
 ghost use Rattle.host_records.specs.Record.{record_size};
-ghost use Rattle.release_log.specs.Add.{add_answer, add_bytes};
+ghost use Rattle.release_log.specs.Add.{add_answer, add_bytes, added_answer};
 ghost use Rattle.release_log.specs.Parts.{entry_answer, entry_bytes};
-ghost use Rattle.release_log.specs.Query.{answer_to, bytes_after, involvement_query, outcome_query, replay_query};
+ghost use Rattle.release_log.specs.Query.{answer_to, bytes_after, involvement_query, outcome_query, query_answer, replay_query};
 
-use bytes::NO_PLACE;
 use host_lent::lent_log;
-use host_records::{Numbers, RECORD_SIZE, Reading};
+use host_records::{Numbers, RECORD_SIZE};
 use log_core::Log;
 use log_entry::Entry;
 use log_entry::limits::{Update, no_store, no_transaction};
-use log_entry::refusal::{ACCEPTED, OUTSIDE_LIMITS};
+use log_entry::refusal::{Answer, Refusal, number};
 
-mod bytes;
 mod values;
 
 // The new entry after the records, whose log is `log`.
-fn add_entry(records: &mut [u8], count: usize, log: Log, e: Entry) -> u32
+fn add_entry(records: &mut [u8], count: usize, log: Log, e: Entry) -> Answer
     requires { count * record_size ≤ length records.old }
     ensures value { result ≡ entry_answer records.old count log e }
     ensures records_after { records.new ≡ entry_bytes records.old count log e }
 {
-    let answer = log.answer_to(e);
-    if answer != ACCEPTED {
-        return answer as u32;
-    }
+    log.answer_to(e)?;
     let at = count * RECORD_SIZE;
     if records.len() - at < RECORD_SIZE {
-        return NO_PLACE;
+        return Err(Refusal::NoPlace);
     }
     let record = host_records::record_of(e);
-    bytes::store(records, at, &record);
-    ACCEPTED as u32
+    records[at..at + RECORD_SIZE].copy_from_slice(&record);
+    Ok(())
+}
+
+// The entry that the numbers stand for, after the lent records.
+fn add(stores: u32, records: &mut [u8], count: usize, numbers: Numbers) -> Answer
+    ensures value { result ≡ added_answer stores records.old count numbers }
+    ensures records_after { records.new ≡ add_bytes stores records.old count numbers }
+{
+    let lent = lent_log(stores, records, count);
+    lent.answer?;
+    let e = numbers.read(stores as u8)?;
+    add_entry(records, count, lent.log, e)
 }
 
 // A new entry: its record is stored after the lent ones.
@@ -57,26 +63,32 @@ pub fn release_log_add(
     ensures value { result ≡ add_answer stores records.old count (numbers kind process by store tx list say turn update) }
     ensures records_after { records.new ≡ add_bytes stores records.old count (numbers kind process by store tx list say turn update) }
 {
-    let mut answer: u8 = ACCEPTED;
-    let log = lent_log(stores, &records[..], count, &mut answer);
-    if answer != ACCEPTED {
-        return answer as u32;
-    }
     let numbers = Numbers {
-        kind: kind,
-        process: process,
-        by: by,
-        store: store,
-        tx: tx,
-        list: list,
-        say: say,
-        turn: turn,
-        update: update,
+        kind,
+        process,
+        by,
+        store,
+        tx,
+        list,
+        say,
+        turn,
+        update,
     };
-    match numbers.read(stores as u8) {
-        Reading::Refused(n) => n as u32,
-        Reading::Of(e) => add_entry(records, count, log, e),
+    u32::from(number(add(stores, records, count, numbers)))
+}
+
+// The answer to a query for an outcome.
+fn outcome(stores: u32, records: &[u8], count: usize, tx: u32, out: &mut [u8]) -> Answer
+    ensures value { result ≡ query_answer (outcome_query stores records.now count tx) out.old }
+    ensures out_after { out.new ≡ bytes_after (outcome_query stores records.now count tx) out.old }
+{
+    let lent = lent_log(stores, records, count);
+    lent.answer?;
+    if no_transaction(stores as u8, tx) {
+        return Err(Refusal::OutsideLimits);
     }
+    let row = lent.log.rows[tx as usize];
+    values::answer_byte(out, row.outcome().number())
 }
 
 // The outcome of a transaction.
@@ -90,17 +102,29 @@ pub fn release_log_outcome(
     ensures value { result ≡ answer_to (outcome_query stores records.now count tx) out.old }
     ensures out_after { out.new ≡ bytes_after (outcome_query stores records.now count tx) out.old }
 {
-    let mut answer: u8 = ACCEPTED;
-    let log = lent_log(stores, records, count, &mut answer);
-    if answer != ACCEPTED {
-        return answer as u32;
+    u32::from(number(outcome(stores, records, count, tx, out)))
+}
+
+// The answer to a query for an involvement.
+fn involvement(
+    stores: u32,
+    records: &[u8],
+    count: usize,
+    tx: u32,
+    store: u32,
+    out: &mut [u8],
+) -> Answer
+    ensures value { result ≡ query_answer (involvement_query stores records.now count tx store) out.old }
+    ensures out_after { out.new ≡ bytes_after (involvement_query stores records.now count tx store) out.old }
+{
+    let lent = lent_log(stores, records, count);
+    lent.answer?;
+    let limit = stores as u8;
+    if no_transaction(limit, tx) || no_store(limit, store) {
+        return Err(Refusal::OutsideLimits);
     }
-    if no_transaction(stores as u8, tx) {
-        return OUTSIDE_LIMITS as u32;
-    }
-    let t = tx as usize;
-    let row = log.rows[t];
-    values::answer_byte(out, row.outcome().number())
+    let row = lent.log.rows[tx as usize];
+    values::answer_byte(out, row.involvement(store as u8).number())
 }
 
 // Whether a store is involved in a transaction.
@@ -115,18 +139,20 @@ pub fn release_log_involvement(
     ensures value { result ≡ answer_to (involvement_query stores records.now count tx store) out.old }
     ensures out_after { out.new ≡ bytes_after (involvement_query stores records.now count tx store) out.old }
 {
-    let mut answer: u8 = ACCEPTED;
-    let log = lent_log(stores, records, count, &mut answer);
-    if answer != ACCEPTED {
-        return answer as u32;
+    u32::from(number(involvement(stores, records, count, tx, store, out)))
+}
+
+// The answer to a query for a replay.
+fn replay(stores: u32, records: &[u8], count: usize, store: u32, out: &mut [u8]) -> Answer
+    ensures value { result ≡ query_answer (replay_query stores records.now count store) out.old }
+    ensures out_after { out.new ≡ bytes_after (replay_query stores records.now count store) out.old }
+{
+    let lent = lent_log(stores, records, count);
+    lent.answer?;
+    if no_store(stores as u8, store) {
+        return Err(Refusal::OutsideLimits);
     }
-    let limit = stores as u8;
-    if no_transaction(limit, tx) | no_store(limit, store) {
-        return OUTSIDE_LIMITS as u32;
-    }
-    let t = tx as usize;
-    let row = log.rows[t];
-    values::answer_byte(out, row.involvement(store as u8).number())
+    values::answer_rows(out, lent.log.replay(store as u8))
 }
 
 // A store's replay.
@@ -140,13 +166,5 @@ pub fn release_log_replay(
     ensures value { result ≡ answer_to (replay_query stores records.now count store) out.old }
     ensures out_after { out.new ≡ bytes_after (replay_query stores records.now count store) out.old }
 {
-    let mut answer: u8 = ACCEPTED;
-    let log = lent_log(stores, records, count, &mut answer);
-    if answer != ACCEPTED {
-        return answer as u32;
-    }
-    if no_store(stores as u8, store) {
-        return OUTSIDE_LIMITS as u32;
-    }
-    values::answer_rows(out, log.replay(store as u8))
+    u32::from(number(replay(stores, records, count, store, out)))
 }

@@ -5,10 +5,9 @@ ghost use Rattle.log_entry.specs.Limits.{transactions};
 ghost use Rattle.release_log.specs.Parts.{place_answer, place_bytes};
 ghost use Rattle.release_log.specs.Query.{replay_value, row_bytes};
 
-use crate::bytes::{NO_PLACE, store};
 use log_core::{Replay, Replayed};
 use log_entry::limits::UPDATE_BYTES;
-use log_entry::refusal::ACCEPTED;
+use log_entry::refusal::{Answer, Refusal};
 
 // Where the update begins in a row, after its group and its transaction.
 const UPDATE_AT: usize = 2;
@@ -16,15 +15,15 @@ const UPDATE_AT: usize = 2;
 const ROW_SIZE: usize = UPDATE_AT + UPDATE_BYTES;
 
 // A value of one byte.
-pub(crate) fn answer_byte(out: &mut [u8], value: u8) -> u32
+pub(crate) fn answer_byte(out: &mut [u8], value: u8) -> Answer
     ensures value { result ≡ place_answer (value ∷ []) out.old }
     ensures out_after { out.new ≡ place_bytes (value ∷ []) out.old }
 {
     if out.len() < 1 {
-        return NO_PLACE;
+        return Err(Refusal::NoPlace);
     }
     out[0] = value;
-    ACCEPTED as u32
+    Ok(())
 }
 
 fn row_bytes(r: Replayed) -> [u8; ROW_SIZE]
@@ -38,7 +37,7 @@ fn row_bytes(r: Replayed) -> [u8; ROW_SIZE]
 }
 
 // A replay: the number of its rows, and the rows.
-pub(crate) fn answer_rows(out: &mut [u8], replay: Replay) -> u32
+pub(crate) fn answer_rows(out: &mut [u8], replay: Replay) -> Answer
     requires { replay.count ≤ transactions }
     ensures value { result ≡ place_answer (replay_value (take replay.count (rows_in replay))) out.old }
     ensures out_after { out.new ≡ place_bytes (replay_value (take replay.count (rows_in replay))) out.old }
@@ -46,21 +45,17 @@ pub(crate) fn answer_rows(out: &mut [u8], replay: Replay) -> u32
     let count = replay.count;
     let rows = count as usize;
     if out.len() < 1 + rows * ROW_SIZE {
-        return NO_PLACE;
+        return Err(Refusal::NoPlace);
     }
     out[0] = count;
-    let mut at: usize = 1;
-    let mut i: usize = 0;
-    while i < rows {
+    for i in 0..rows {
         let row = Replayed {
             group: replay.groups[i],
             tx: replay.txs[i],
             update: replay.updates[i],
         };
-        let bytes = row_bytes(row);
-        store(&mut *out, at, &bytes);
-        at += ROW_SIZE;
-        i += 1;
+        let at = 1 + i * ROW_SIZE;
+        out[at..at + ROW_SIZE].copy_from_slice(&row_bytes(row));
     }
-    ACCEPTED as u32
+    Ok(())
 }
