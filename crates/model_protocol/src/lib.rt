@@ -15,8 +15,8 @@ use log_votes::Outcome;
 
 pub mod limits;
 
-// The first `count` entries of a row. A count of one byte would have seven after it that nothing
-// uses, and they would be copied with every step.
+// The first `count` entries of a row: nothing is on the heap. A count of one byte would have seven
+// after it that nothing uses, and they would be copied with every step.
 #[derive(Clone, Copy)]
 pub struct Entries<const N: usize> {
     pub entries: [Entry; N],
@@ -99,7 +99,8 @@ pub enum Message {
     },
 }
 
-// What an acceptor holds of an instance, 0 at first.
+// What an acceptor holds of an instance, 0 at first. Ballot 0 is none and stands below all others:
+// `accepts` and `promises` of specs/ compare it with them as a number.
 #[derive(Clone, Copy)]
 pub struct AcceptorSlot {
     pub promised: u8,
@@ -112,11 +113,12 @@ pub struct AcceptorSlot {
 // fields stand together: bytes between them that nothing uses would be copied with every step.
 #[derive(Clone, Copy)]
 pub struct Round {
-    // 0 if it opened none there.
+    // 0 if it opened none there: `cannot_open` compares it with the next ballot as a number.
     pub ballot: u8,
     // The acceptors whose promise was heard, bit a for acceptor a.
     pub promises: u8,
-    // The highest accepted ballot among the promises, 0 if none; `batch` is its batch.
+    // The highest accepted ballot among the promises, 0 if none; `batch` is its batch. A promise
+    // names 0 for none too, and `promise_heard` compares the two as numbers.
     pub accepted: u8,
     // The acceptors whose acceptance was heard, bit a for acceptor a.
     pub acceptances: u8,
@@ -146,7 +148,7 @@ pub struct Process {
     // By transaction.
     pub heard: [Heard; TRANSACTION_PLACES],
     // The last restore that it took: store, position, and the transactions listed as running, bit t
-    // for transaction t. Position 0 if it took none.
+    // for transaction t. Position 0 if it took none: `takes_restore` compares it as a number.
     pub store: u8,
     pub position: u8,
     pub running: u32,
@@ -168,7 +170,7 @@ pub struct Follows {
     pub of: [Followed; TRANSACTION_PLACES],
 }
 
-// Who is down.
+// Who is down. No value stands beside a flag here.
 #[derive(Clone, Copy)]
 pub struct Down {
     pub acceptors: [bool; ACCEPTOR_PLACES],
@@ -179,7 +181,7 @@ pub struct Down {
 
 #[derive(Clone, Copy)]
 pub struct World {
-    // How many acceptors there are, 0 before setup.
+    // How many acceptors there are; before setup there are 0.
     pub acceptors: u8,
     // Acceptor a's slot of instance i stands at a * 16 + i.
     pub slots: [AcceptorSlot; SLOT_PLACES],

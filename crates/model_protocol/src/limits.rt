@@ -7,7 +7,7 @@ pub const BATCH_PLACES: usize = 4;
 // A queue has at most 8.
 pub const QUEUE_PLACES: usize = 8;
 
-// Places in an array of each of these.
+// Places in an array of each of these. `From` is not for constants: they widen by `as`.
 pub const ACCEPTOR_PLACES: usize = MOST_ACCEPTORS as usize;
 
 pub const COORDINATOR_PLACES: usize = COORDINATORS as usize;

@@ -36,7 +36,7 @@ pub enum Step {
 // What a line asks for: a step to be taken, or only the answer to a line that is no step.
 pub type Command = Result<Step, Refusal>;
 
-// What the lines of an input ask for: the first `count`.
+// What the lines of an input ask for: the first `count`. Nothing is on the heap.
 #[derive(Clone, Copy)]
 pub struct Commands {
     pub count: u16,

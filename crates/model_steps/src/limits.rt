@@ -22,7 +22,8 @@ pub const BALLOTS: u8 = 255;
 
 pub const MESSAGES: u8 = 128;
 
-// A command for each line that a program answers: 1,000, and line 1,001.
+// A command for each line that a program answers: 1,000, and line 1,001. `From` is not for
+// constants: the second widens by `as`.
 pub const COMMANDS: u16 = 1001;
 
 pub const COMMAND_PLACES: usize = COMMANDS as usize;
