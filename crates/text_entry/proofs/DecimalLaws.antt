@@ -21,7 +21,7 @@ use Rattle.text_entry.specs.Parts.{front, kind_front, then_front, whole}
 use Rattle.text_entry.specs.Seen.{capped}
 use Rattle.text_entry.specs.Read.{after, is_end, part, read_field, read_kind, unreadable}
 use Rattle.text_ascii.specs.Decimal.{byte_numbers}
-use Rattle.text_entry.specs.Table.{Reader, any_beyond, answer_of, at, made, no_byte, read_as}
+use Rattle.text_entry.specs.Table.{Reader, any_beyond, answer_of, made, no_byte, read_as}
 use Rattle.text_entry.proofs.Counts.{beyond_at, beyond_here, beyond_last, beyond_later, no_byte_lem}
 use Rattle.text_entry.proofs.Fronts.{answer_to, begun, counts, line_whole, step, stop, unbegun}
 use Rattle.text_entry.proofs.ReadsText.{line_text_lem}

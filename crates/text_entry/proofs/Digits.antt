@@ -3,20 +3,19 @@ use Prim.Native.Nat.{ℕ, suc, ◌≤◌, ◌<◌, ◌+◌, ◌*◌, ◌^◌, mi
 use native.Mathlib.Omega.{arith}
 use native.Mathlib.Nat.{pow-suc, pow-le-pow_right, le_trans}
 use native.Mathlib.Numerals.{add-one}
-use mathlib.Core.Bool.{Bool, true, false, ◌&&◌, not, cond, false≢true}
+use mathlib.Core.Bool.{Bool, true, false, cond}
 use mathlib.Core.List.{List, [], ◌∷◌}
-use mathlib.Core.Path.{◌≡◌, refl, sym, ◌∙◌, ap, subst}
-use lib.Dec.{eqb}
+use mathlib.Core.Path.{◌≡◌, refl, sym, ap, subst}
 use native.Mathlib.Decide.{dec_lt}
 use Rattle.std.proofs.Common.{Bor, Option, None, Some, is_some}
 use borrow.Author.Tests.{eq-eqb, ne_eqb}
 use Rattle.log_entry.specs.Limits.{updates}
 use Rattle.text_ascii.specs.Decimal.{begins_digit, byte_numbers, digit_of, grown, is_digit}
-use Rattle.text_ascii.specs.Hex.{begins_hex_digit, hex_digit_of, hex_grown, is_hex_digit, update_digits}
+use Rattle.text_ascii.specs.Hex.{begins_hex_digit, hex_digit_of, update_digits}
 use Rattle.text_ascii.proofs.Decimals.{is_digit_low}
 use Rattle.text_ascii.proofs.Hexes.{hex_digit_bound}
 use Rattle.text_entry.specs.Fields.{in_decimal}
-use Rattle.text_entry.specs.Read.{part, unreadable, leading_zero, read_digits, read_decimal, read_hex, read_value}
+use Rattle.text_entry.specs.Read.{part, unreadable, read_digits, read_decimal, read_hex, read_value}
 use Rattle.text_entry.specs.Seen.{capped, first_digit, first_hex_digit, found, found_if}
 
 -- whether something was found

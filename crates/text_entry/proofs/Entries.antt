@@ -3,8 +3,8 @@ use Prim.Native.Nat.{ℕ}
 use lib.ListN.{length}
 use Rattle.text_entry.proofs.Parts.{ends_is}
 use Rattle.std.specs.Bool.{◌==◌}
-use mathlib.Core.Bool.{Bool, true, false, cond}
-use mathlib.Core.List.{List, [], ◌∷◌}
+use mathlib.Core.Bool.{Bool, true, cond}
+use mathlib.Core.List.{List}
 use mathlib.Core.Option as maybe
 use mathlib.Core.Option.{none, some}
 use mathlib.Core.Path.{◌≡◌, refl, sym, ◌∙◌, ap}
@@ -21,10 +21,10 @@ use Rattle.text_entry.specs.Kinds.{take_kind, vote_kind}
 use Rattle.text_entry.specs.Parts.{either_parts, entry_of, kind_front, kind_parts, made_parts, or_parts, take_parts, vote_parts}
 use Rattle.text_entry.specs.Read.{is_end, read_kind}
 use Rattle.text_entry.specs.Seen.{found}
-use Rattle.text_entry.specs.Table.{made, or_else, read_first, reader}
+use Rattle.text_entry.specs.Table.{made, or_else, read_first}
 use Rattle.text_entry.proofs.Agreement.{distinct}
 use Rattle.text_entry.proofs.Fronts.{answered, front_of_one, line_answer}
-use Rattle.text_entry.proofs.Table.{last_is, next_decides}
+use Rattle.text_entry.proofs.Table.{next_decides}
 use Rattle.text_entry.proofs.Takes.{take_counts}
 use Rattle.text_entry.proofs.Votes.{vote_counts}
 

@@ -1,7 +1,7 @@
 -- The values at the front of a line, read one after the other, tell what the line reads as.
 use Prim.Native.Nat.{ℕ, suc}
 use native.Mathlib.Nat.{zero-add}
-use mathlib.Core.Bool.{Bool, true, false, ◌&&◌, cond, false≢true, true≢false}
+use mathlib.Core.Bool.{Bool, true, false, cond}
 use mathlib.Core.List.{List, [], ◌∷◌, ◌++◌}
 use mathlib.Core.Option as maybe
 use mathlib.Core.Option.{none, some}
@@ -179,7 +179,7 @@ front_and (g ∷ fs) f p = ap (then_front (counted g.form (read_field g p).value
     later None = refl
     later (Some x) =
         elim (read_field f (part 0 x.1)).readable as (λ b. then_front (counted g.form (read_field g p).value) (cond b (Some (x.0 ++ counted f.form (read_field f (part 0 x.1)).value ∷ [], (read_field f (part 0 x.1)).rest)) None)
-            ≡ cond b (Some (counted g.form (read_field g p).value ∷ x.0 ++ counted f.form (read_field f (part 0 x.1)).value ∷ [], (read_field f (part 0 x.1)).rest)) None) [ true ↦ refl | false ↦ refl ]
+        ≡ cond b (Some (counted g.form (read_field g p).value ∷ x.0 ++ counted f.form (read_field f (part 0 x.1)).value ∷ [], (read_field f (part 0 x.1)).rest)) None) [ true ↦ refl | false ↦ refl ]
 
 -- as many values as fields
 abbrev SoMany : ℕ → Option (List ℕ × List ℕ) → Type 0

@@ -1,38 +1,20 @@
 -- What stands behind a part of a line.
 use Prim.Native.Nat.{ℕ, suc}
 use native.Mathlib.Omega.{arith}
-use native.Mathlib.Decide.{dec_lt}
 use borrow.Author.Tests.{ne_eqb}
 use mathlib.Core.Bool.{Bool, true, false, ◌&&◌, and_assoc, cond, false≢true, true≢false}
 use mathlib.Core.List.{List, [], ◌∷◌, ◌++◌}
 use mathlib.Core.Path.{◌≡◌, refl, sym, ◌∙◌, ap}
-use lib.Dec.{eqb, leb}
-use lib.ListN.{length, drop, drop_of_length-le, length-append}
-use lib.Seq.{drop-cons, drop-drop}
+use lib.Dec.{eqb}
+use lib.ListN.{length, drop, length-append}
+use lib.Seq.{drop-drop}
 use Rattle.std.proofs.Common.{Bor, Option, None, Some}
 use Rattle.std.specs.Bool.{◌==◌}
 use Rattle.std.specs.Option.{MatchOption}
 use Rattle.text_ascii.specs.Bytes.{begins}
-use Rattle.text_entry.specs.Fields.{Form, in_hex, in_hex_or, in_words, keyed, optional}
+use Rattle.text_entry.specs.Fields.{in_hex, in_hex_or, in_words, keyed}
 use Rattle.text_entry.specs.Seen.{seen}
-use Rattle.text_entry.specs.Read.{Part, part, unreadable, after, or_part, word_or, read_hex, read_word, read_value, value_after, keyed_value, without, read_in, is_end}
-
-module _ (w : List ℕ) (p : Part) where
-  pub after_stopped : p.readable ≡ false → unreadable ≡ after w p
-  unfolding after
-  after_stopped h = rw h
-
-  pub after_other : begins p.rest w ≡ false → unreadable ≡ after w p
-  unfolding after
-  after_other h = go p.readable
-    where
-      go : (b : Bool) → unreadable ≡ cond (b && begins p.rest w) (part 0 (drop (length w) p.rest)) unreadable
-      go true = rw h
-      go false = refl
-
-  pub after_there : p.readable ≡ true → begins p.rest w ≡ true → part 0 (drop (length w) p.rest) ≡ after w p
-  unfolding after
-  after_there h k = rw (h, k)
+use Rattle.text_entry.specs.Read.{Part, part, unreadable, after, read_hex, read_word, read_value, value_after, keyed_value, is_end}
 
 -- two words, one behind the other, are one word
 begins_both : (s v w : List ℕ) → begins s (v ++ w) ≡ (begins s v && begins (drop (length v) s) w)
@@ -56,44 +38,10 @@ after_both v w p = go p.readable (begins p.rest v) (begins p.rest (v ++ w)) (beg
     go true false c h = rw h
     go true true c h = rw h (ap (λ (s : List ℕ). cond (begins (drop (length v) p.rest) w) (part 0 s) unreadable) (drop_both p.rest))
 
-pub value_stopped : (f : Form) (p : Part) → p.readable ≡ false → unreadable ≡ value_after f p
-value_stopped f p h = rw h
-
-pub value_there : (f : Form) (p : Part) → p.readable ≡ true → read_value f p.rest ≡ value_after f p
-value_there f p h = rw h
-
 -- whether a line ends there
 pub ends_is : (s : List ℕ) → (length s == 0) ≡ is_end s
 ends_is [] = refl
 ends_is (c ∷ s) = ne_eqb (length (c ∷ s)) 0 (λ e. omega arith)
-
--- so many digits, or else as many others
-module _ (k j : ℕ) (p : Part) where
-  pub or_first : (value_after (in_hex k) p).readable ≡ true → value_after (in_hex k) p ≡ value_after (in_hex_or k j) p
-  unfolding read_value
-  or_first h = go p.readable h
-    where
-      go : (b : Bool) → (cond b (read_hex k 0 p.rest) unreadable).readable ≡ true
-          → cond b (read_hex k 0 p.rest) unreadable ≡ cond b (or_part (read_hex k 0 p.rest) (read_hex j 0 p.rest)) unreadable
-      go true h = rw h
-      go false h = refl
-
-  pub or_second : (value_after (in_hex k) p).readable ≡ false → value_after (in_hex j) p ≡ value_after (in_hex_or k j) p
-  unfolding read_value
-  or_second h = go p.readable h
-    where
-      go : (b : Bool) → (cond b (read_hex k 0 p.rest) unreadable).readable ≡ false
-          → cond b (read_hex j 0 p.rest) unreadable ≡ cond b (or_part (read_hex k 0 p.rest) (read_hex j 0 p.rest)) unreadable
-      go true h = rw h
-      go false h = refl
-
--- a field that a line may be without
-module _ (n : ℕ) (key : List ℕ) (form : Form) (p : Part) where
-  pub field_there : (after (keyed key) p).readable ≡ true → keyed_value key form p ≡ read_in (optional n) key form p
-  field_there h = rw h
-
-  pub field_absent : (after (keyed key) p).readable ≡ false → without n p ≡ read_in (optional n) key form p
-  field_absent h = rw h
 
 -- what does not read at one word does not read at it and more
 pub unread_then : (v w : List ℕ) (p : Part) → unreadable ≡ after v p → unreadable ≡ after (v ++ w) p

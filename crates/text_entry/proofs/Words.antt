@@ -1,5 +1,5 @@
 -- Words of a line.
-use Rattle.std.proofs.Common.{ℕ, Bool, true, false, ◌&&◌, cond, nat_eq, ◌+◌, List, [], ◌∷◌, ◌++◌, length, take, drop, ◌≡◌, refl, sym, ap, ◌∙◌, None, Some, Option, Bor}
+use Rattle.std.proofs.Common.{ℕ, true, false, ◌&&◌, nat_eq, ◌+◌, List, [], ◌∷◌, length, take, drop, ◌≡◌, refl, ap, None, Some, Option, Bor}
 use Rattle.std.specs.Cmp.Lexicographic.{pointwise}
 use Rattle.std.specs.Option.{MatchOption}
 use Rattle.text_ascii.specs.Bytes.{begins}

@@ -16,8 +16,8 @@ use Rattle.text_entry.specs.declared.Unread.{Unread}
 use Rattle.text_entry.specs.declared.Unread.TheVariants.{Unreadable, Outside}
 use Rattle.text_entry.specs.Fields.{Kind, name_text}
 use Rattle.text_entry.specs.Kinds.{take_kind, vote_kind}
-use Rattle.text_entry.specs.Parts.{either_parts, entry_of, front, kind_front, kind_parts, made_parts, or_parts, take_parts, vote_parts}
-use Rattle.text_entry.specs.Read.{Part, after, is_end, part, read_field, read_kind, unreadable}
+use Rattle.text_entry.specs.Parts.{either_parts, entry_of, kind_front, kind_parts, made_parts, or_parts, take_parts, vote_parts}
+use Rattle.text_entry.specs.Read.{Part, after, is_end, part, read_field, read_kind}
 use Rattle.text_entry.specs.Seen.{capped, found, seen}
 use Rattle.text_entry.specs.Table.{made, or_else}
 use Rattle.text_entry.proofs.Fronts.{and_field, answered, counts, front_and, front_elements, front_of_one, line_answer}
