@@ -19,14 +19,15 @@ const UPDATE_AT: usize = 8;
 // The bytes of a record.
 pub const RECORD_SIZE: usize = UPDATE_AT + UPDATE_BYTES;
 
-// A kind.
+// A kind: a number, since the interface for C has numbers and bytes only.
 const TAKE: u8 = 0;
 
 const VOTE: u8 = 1;
-// A say.
+// A say: a number, for the same reason.
 const ABORT: u8 = 0;
 
 const COMMIT: u8 = 1;
+
 // The numbers that a call or a record says, within any limits or not.
 #[derive(Clone, Copy)]
 pub struct Numbers {

@@ -15,6 +15,7 @@ const UPDATE_AT: usize = 2;
 const ROW_SIZE: usize = UPDATE_AT + UPDATE_BYTES;
 
 // A value of one byte.
+#[tactic(auto, unfolding(crate::specs::Parts::place_answer, crate::specs::Parts::place_bytes))]
 pub(crate) fn answer_byte(out: &mut [u8], value: u8) -> Answer
     ensures value { result ≡ place_answer (value ∷ []) out.old }
     ensures out_after { out.new ≡ place_bytes (value ∷ []) out.old }
