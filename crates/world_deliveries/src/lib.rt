@@ -1,17 +1,19 @@
 // The step deliver: what a message of each kind does to its receiver.
 #![tactic(auto)]
 
-ghost use Rattle.std.specs.Prelude.{◌&&◌, not, ◌≡◌, ◌<◌};
+ghost use Rattle.std.specs.Prelude.{cond, ◌&&◌, not, ◌≡◌, ◌<◌};
 ghost use Rattle.log_entry.specs.Limits.{transactions};
 ghost use Rattle.model_steps.specs.declared.Step.TheVariants.{Deliver};
-ghost use Rattle.model_protocol.specs.Kind as kind;
-ghost use Rattle.model_protocol.specs.Coordinator.{is_heard};
-ghost use Rattle.model_protocol.specs.Message.{accept_to, accepted_from, follow_to, prepare_to, promise_from, request_to, restore_to, said_kind, said_outcome, said_to, said_update, tell_to};
-ghost use Rattle.model_protocol.specs.Process.{following};
-ghost use Rattle.model_protocol.specs.Queue.{is_full, is_in, queued};
+ghost use Rattle.model_paxos.specs.Majority.{majority};
+ghost use Rattle.model_protocol.specs.Acceptor.{accepting, accepts, promises, promising};
+ghost use Rattle.model_protocol.specs.Change.{coordinator_now, done, keeps_follow, learns, process_now, sending, slot_now, takes_replay};
+ghost use Rattle.model_protocol.specs.Coordinator.{counting, is_heard, learning, promise_heard, proposal_of, with_queue, with_round};
 ghost use Rattle.model_protocol.specs.Deliver.{delivery_change, no_place_for};
-ghost use Rattle.world_parts.specs.Plan.{plan_of};
+ghost use Rattle.model_protocol.specs.Message.{accepted_from, promise_from, said_kind};
+ghost use Rattle.model_protocol.specs.Process.{following, hearing_outcome, takes_follow, takes_restore, taking};
+ghost use Rattle.model_protocol.specs.Queue.{is_full, is_in, joining, queued};
 ghost use Rattle.model_protocol.specs.Send.{lacks_numbers};
+ghost use Rattle.world_parts.specs.Plan.{plan_of};
 
 use log_entry::Entry;
 use log_votes::Outcome;
@@ -52,19 +54,15 @@ fn no_room(p: Parts) -> bool
     }
 }
 
-#[tactic(auto, unfolding(model_protocol::specs::Deliver::delivery_change))]
 fn request(mut p: Parts, entry: Entry) -> Change
-    requires { p.message ≡ request_to (said_to p.message) entry }
-    ensures { result ≡ delivery_change p kind.Request }
+    ensures { result ≡ done (coordinator_now p (with_queue p.coordinator (joining p.coordinator.queue entry))) }
 {
     p.coordinator.queue = queue::join(p.coordinator.queue, entry);
     changes::without_messages(p, Ok(()))
 }
 
-#[tactic(auto, unfolding(model_protocol::specs::Deliver::delivery_change))]
 fn prepare(mut p: Parts, inst: u8, ballot: u8, acceptor: u8) -> Change
-    requires { p.message ≡ prepare_to inst ballot acceptor }
-    ensures { result ≡ delivery_change p kind.Prepare }
+    ensures { result ≡ cond (promises p.slot ballot) (sending (slot_now p (promising p.slot ballot)) 1 (promise_from inst ballot acceptor p.slot.ballot p.slot.batch)) (done p) }
 {
     let before = p.slot;
     if !world_acceptor::promises(before, ballot) {
@@ -81,10 +79,8 @@ fn prepare(mut p: Parts, inst: u8, ballot: u8, acceptor: u8) -> Change
     changes::sending(p, 1, promise)
 }
 
-#[tactic(auto, unfolding(model_protocol::specs::Deliver::delivery_change))]
 fn accept(mut p: Parts, inst: u8, ballot: u8, acceptor: u8, batch: Batch) -> Change
-    requires { p.message ≡ accept_to inst ballot batch acceptor }
-    ensures { result ≡ delivery_change p kind.Accept }
+    ensures { result ≡ cond (accepts p.slot ballot) (sending (slot_now p (accepting ballot batch)) 1 (accepted_from inst ballot acceptor)) (done p) }
 {
     if !world_acceptor::accepts(p.slot, ballot) {
         return changes::without_messages(p, Ok(()));
@@ -105,10 +101,8 @@ fn is_heard(c: Coordinator, inst: u8, ballot: u8, acceptor: u8) -> bool
     round::is_current(c, inst, ballot) && acceptor < MOST_ACCEPTORS
 }
 
-#[tactic(auto, unfolding(model_protocol::specs::Deliver::delivery_change))]
 fn promise(mut p: Parts, inst: u8, ballot: u8, acceptor: u8, accepted: u8, batch: Batch) -> Change
-    requires { p.message ≡ promise_from inst ballot acceptor accepted batch }
-    ensures { result ≡ delivery_change p kind.Promise }
+    ensures { result ≡ cond (is_heard p.coordinator inst ballot acceptor) (done (coordinator_now p (with_round p.coordinator (promise_heard p.coordinator.round acceptor accepted batch)))) (done p) }
 {
     let c = p.coordinator;
     if !is_heard(c, inst, ballot, acceptor) {
@@ -118,10 +112,8 @@ fn promise(mut p: Parts, inst: u8, ballot: u8, acceptor: u8, accepted: u8, batch
     changes::without_messages(p, Ok(()))
 }
 
-#[tactic(auto, unfolding(model_protocol::specs::Deliver::delivery_change))]
 fn accepted(mut p: Parts, inst: u8, ballot: u8, acceptor: u8) -> Change
-    requires { p.message ≡ accepted_from inst ballot acceptor }
-    ensures { result ≡ delivery_change p kind.Accepted }
+    ensures { result ≡ cond (is_heard p.coordinator inst ballot acceptor) (cond (majority p.acceptors (counting p.coordinator.round acceptor).acceptances) (learns (coordinator_now p (learning p.coordinator)) (proposal_of p.coordinator.round)) (done (coordinator_now p (with_round p.coordinator (counting p.coordinator.round acceptor))))) (done p) }
 {
     let c = p.coordinator;
     if !is_heard(c, inst, ballot, acceptor) {
@@ -136,19 +128,15 @@ fn accepted(mut p: Parts, inst: u8, ballot: u8, acceptor: u8) -> Change
     changes::learns(p, c.round.proposal.unwrap_or(no_batch()))
 }
 
-#[tactic(auto, unfolding(model_protocol::specs::Deliver::delivery_change))]
 fn tell(mut p: Parts, tx: u8, outcome: Outcome) -> Change
-    requires { p.message ≡ tell_to (said_to p.message) tx outcome }
-    ensures { result ≡ delivery_change p kind.Tell }
+    ensures { result ≡ done (process_now p (hearing_outcome p.process tx outcome)) }
 {
     p.process = world_process::hearing(p.process, tx, outcome);
     changes::without_messages(p, Ok(()))
 }
 
-#[tactic(auto, unfolding(model_protocol::specs::Deliver::delivery_change))]
 fn restore(mut p: Parts, turn: u8, store: u8, position: u8, running: u32) -> Change
-    requires { p.message ≡ restore_to (said_to p.message) turn store position running }
-    ensures { result ≡ delivery_change p kind.Restore }
+    ensures { result ≡ cond (takes_restore p.process turn position) (takes_replay (process_now p (taking p.process store position running))) (done p) }
 {
     if !world_process::takes_restore(p.process, turn, position) {
         return changes::without_messages(p, Ok(()));
@@ -166,10 +154,8 @@ fn following(mut h: Process, tx: u8) -> Process
     h
 }
 
-#[tactic(auto, unfolding(model_protocol::specs::Deliver::delivery_change))]
 fn follow(mut p: Parts, store: u8, tx: u8) -> Change
-    requires { p.message ≡ follow_to (said_to p.message) store tx (said_outcome p.message) (said_update p.message) }
-    ensures { result ≡ delivery_change p kind.Follow }
+    ensures { result ≡ cond (takes_follow p.process store tx) (keeps_follow (process_now p (following p.process tx))) (done p) }
 {
     if !world_process::takes_follow(p.process, store, tx) {
         return changes::without_messages(p, Ok(()));
@@ -179,6 +165,7 @@ fn follow(mut p: Parts, store: u8, tx: u8) -> Change
 }
 
 // The message is handed to its receiver.
+#[tactic(auto, unfolding(model_protocol::specs::Deliver::delivery_change))]
 fn hand(p: Parts) -> Change
     ensures { result ≡ delivery_change p (said_kind p.message) }
 {

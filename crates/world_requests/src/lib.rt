@@ -8,7 +8,7 @@ ghost use Rattle.log_votes.specs.Outcome.{is_open};
 ghost use Rattle.log_core.specs.Follow.{awaited_of};
 ghost use Rattle.log_core.specs.Log.{outcome_of, turn_of};
 ghost use Rattle.model_steps.specs.declared.Role.TheVariants.{Coord, Proc};
-ghost use Rattle.model_steps.specs.declared.Step.TheVariants as step;
+ghost use Rattle.model_steps.specs.declared.Step.TheVariants.{Back, Crash, Follow, Request, Restore, Setup, Tell};
 ghost use Rattle.model_protocol.specs.Change.{sending};
 ghost use Rattle.model_protocol.specs.Message.{follow_to, restore_to, said_outcome, said_store};
 ghost use Rattle.model_protocol.specs.Step.{held_from, held_store, message_for, other_turn, update_of, voter_not_holder, voting_store};
@@ -19,9 +19,9 @@ ghost use Rattle.world_parts.specs.Plan.{decided, plan_of};
 ghost use Rattle.world_requests.specs.Held.{store_number};
 
 use log_core::Log;
+use log_entry::Entry;
 use log_entry::limits::{STORE_PLACES, STORES, Update};
 use log_entry::refusal::{Answer, Refusal};
-use log_entry::{Entry, Request};
 use log_votes::Vote;
 use model_protocol::{Change, Down, Message, Parts, Process};
 use model_steps::{Role, Step};
@@ -32,7 +32,7 @@ use world_parts::{changes, refusal};
 
 #[tactic(auto, unfolding(world_parts::specs::Plan::plan_of, model_protocol::specs::Step::step_checks, model_protocol::specs::Step::change_of, log_entry::specs::Refusal::first_refusal))]
 pub fn setup(mut p: Parts, n: u8) -> Change
-    ensures { result ≡ plan_of p (step.Setup n) }
+    ensures { result ≡ plan_of p (Setup n) }
 {
     if p.acceptors != 0 {
         return changes::without_messages(p, Err(Refusal::NotMet));
@@ -46,8 +46,8 @@ fn voter_not_holder(e: Entry, p: Process) -> bool
     ensures { result ≡ voter_not_holder e p }
 {
     match e.request {
-        Request::Take => false,
-        Request::Vote { by, .. } => !world_process::believes(p, by),
+        log_entry::Request::Take => false,
+        log_entry::Request::Vote { by, .. } => !world_process::believes(p, by),
     }
 }
 
@@ -86,7 +86,7 @@ fn request_refusal(p: &Parts, e: Entry, to: u8) -> Answer
 
 #[tactic(auto, unfolding(world_parts::specs::Plan::plan_of, model_protocol::specs::Step::step_checks, model_protocol::specs::Step::change_of, log_entry::specs::Refusal::first_refusal))]
 pub fn request(p: Parts, e: Entry, to: u8) -> Change
-    ensures { result ≡ plan_of p (step.Request e to) }
+    ensures { result ≡ plan_of p (Request e to) }
 {
     let answer = request_refusal(&p, e, to);
     if answer.is_err() {
@@ -142,14 +142,14 @@ fn sends(p: Parts, coord: u8, process: u8, barred: bool) -> Change
 
 #[tactic(auto, unfolding(world_parts::specs::Plan::plan_of, model_protocol::specs::Step::step_checks, model_protocol::specs::Step::change_of, log_entry::specs::Refusal::first_refusal))]
 pub fn tell(p: Parts, coord: u8, process: u8, tx: u8) -> Change
-    ensures { result ≡ plan_of p (step.Tell coord process tx) }
+    ensures { result ≡ plan_of p (Tell coord process tx) }
 {
     sends(p, coord, process, undecided(p.message))
 }
 
 #[tactic(auto, unfolding(world_parts::specs::Plan::plan_of, model_protocol::specs::Step::step_checks, model_protocol::specs::Step::change_of, log_entry::specs::Refusal::first_refusal))]
 pub fn restore(p: Parts, coord: u8, process: u8) -> Change
-    ensures { result ≡ plan_of p (step.Restore coord process) }
+    ensures { result ≡ plan_of p (Restore coord process) }
 {
     let answer = refusal_to(&p, coord, process, of_no_store(p.message));
     if answer.is_err() {
@@ -160,7 +160,7 @@ pub fn restore(p: Parts, coord: u8, process: u8) -> Change
 
 #[tactic(auto, unfolding(world_parts::specs::Plan::plan_of, model_protocol::specs::Step::step_checks, model_protocol::specs::Step::change_of, log_entry::specs::Refusal::first_refusal))]
 pub fn follow(p: Parts, coord: u8, process: u8, tx: u8) -> Change
-    ensures { result ≡ plan_of p (step.Follow coord process tx) }
+    ensures { result ≡ plan_of p (Follow coord process tx) }
 {
     sends(
         p,
@@ -254,7 +254,7 @@ pub fn said(s: Step, delivered: Message, log: Log, applied: u8) -> Message
 
 #[tactic(auto, unfolding(world_parts::specs::Plan::plan_of, model_protocol::specs::Step::step_checks, model_protocol::specs::Step::change_of, log_entry::specs::Refusal::first_refusal))]
 pub fn crash(mut p: Parts, role: Role, id: u8) -> Change
-    ensures { result ≡ plan_of p (step.Crash role id) }
+    ensures { result ≡ plan_of p (Crash role id) }
 {
     let answer = refusal::first_of(Tests {
         unsent: false,
@@ -273,7 +273,7 @@ pub fn crash(mut p: Parts, role: Role, id: u8) -> Change
 // Neither 3 nor 6 stops a process from coming back.
 #[tactic(auto, unfolding(world_parts::specs::Plan::plan_of, model_protocol::specs::Step::step_checks, model_protocol::specs::Step::change_of, log_entry::specs::Refusal::first_refusal))]
 pub fn back(mut p: Parts, process: u8, turn: u8) -> Change
-    ensures { result ≡ plan_of p (step.Back process turn) }
+    ensures { result ≡ plan_of p (Back process turn) }
 {
     if p.acceptors == 0 || turn <= p.process.turn {
         return changes::without_messages(p, Err(Refusal::NotMet));
