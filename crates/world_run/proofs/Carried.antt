@@ -5,7 +5,7 @@ use mathlib.Core.List.{List, [], ◌∷◌}
 use mathlib.Core.Path.{◌≡◌, refl, sym, ◌∙◌, ap}
 use lib.ListN.{drop, length, length-take, replicate, take}
 use lib.Seq.{take-append_seam, sets, sets-eq}
-use Rattle.model_steps.specs.declared.Command.{Command}
+use Rattle.model_steps.specs.Commands.{Command}
 use Rattle.model_steps.specs.declared.Commands.{Commands}
 use Rattle.model_steps.specs.Commands.{commands_in, most_commands}
 use Rattle.model_protocol.specs.declared.World.{World}

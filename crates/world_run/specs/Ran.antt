@@ -2,7 +2,7 @@
 use Rattle.std.specs.Prelude.{ℕ, ◌+◌, List, [], ◌≡◌}
 use Rattle.model_agreement.specs.Claim.{Claim}
 use Rattle.model_agreement.specs.History.{history}
-use Rattle.model_steps.specs.declared.Command.{Command}
+use Rattle.model_steps.specs.Commands.{Command}
 use Rattle.world_engine.specs.Commands.{answers_to, world_after}
 use Rattle.text_lines.specs.Answers.{answers_of}
 use Rattle.text_lines.specs.declared.Input.{Input}
