@@ -15,7 +15,7 @@ use log_entry::{Entry, Request};
 pub fn row_place(e: Entry) -> usize
     ensures { result ≡ cond (is_take e) 0 (tx_of e) }
 {
-    e.tx() as usize
+    usize::from(e.tx())
 }
 
 impl Log {

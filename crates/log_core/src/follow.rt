@@ -31,7 +31,7 @@ impl Log {
         if TRANSACTIONS <= tx {
             return Vote::Absent;
         }
-        let row = self.rows[tx as usize];
+        let row = self.rows[usize::from(tx)];
         row.vote_of(store)
     }
 }

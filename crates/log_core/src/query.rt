@@ -13,7 +13,7 @@ impl Log {
         if TRANSACTIONS <= tx {
             return Outcome::Open;
         }
-        let row = self.rows[tx as usize];
+        let row = self.rows[usize::from(tx)];
         row.outcome()
     }
 
@@ -24,7 +24,7 @@ impl Log {
         if TRANSACTIONS <= tx {
             return 0;
         }
-        let row = self.rows[tx as usize];
+        let row = self.rows[usize::from(tx)];
         row.group
     }
 
@@ -35,7 +35,7 @@ impl Log {
         if STORES <= store {
             return 0;
         }
-        self.holders[store as usize]
+        self.holders[usize::from(store)]
     }
 
     // The turn of the store's holder, 0 if there is none.
@@ -45,7 +45,7 @@ impl Log {
         if STORES <= store {
             return 0;
         }
-        self.turns[store as usize]
+        self.turns[usize::from(store)]
     }
 
     pub fn involvement(self, tx: u8, store: u8) -> Involvement
@@ -54,7 +54,7 @@ impl Log {
         if TRANSACTIONS <= tx {
             return Involvement::Unknown;
         }
-        let row = self.rows[tx as usize];
+        let row = self.rows[usize::from(tx)];
         row.involvement(store)
     }
 }
