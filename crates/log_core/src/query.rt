@@ -13,8 +13,7 @@ impl Log {
         if TRANSACTIONS <= tx {
             return Outcome::Open;
         }
-        let row = self.rows[usize::from(tx)];
-        row.outcome()
+        self.rows[usize::from(tx)].outcome()
     }
 
     // The transaction's group, 0 if none.
@@ -24,8 +23,7 @@ impl Log {
         if TRANSACTIONS <= tx {
             return 0;
         }
-        let row = self.rows[usize::from(tx)];
-        row.group
+        self.rows[usize::from(tx)].group
     }
 
     // The store's holder, 0 if none.
@@ -54,7 +52,6 @@ impl Log {
         if TRANSACTIONS <= tx {
             return Involvement::Unknown;
         }
-        let row = self.rows[usize::from(tx)];
-        row.involvement(store)
+        self.rows[usize::from(tx)].involvement(store)
     }
 }
