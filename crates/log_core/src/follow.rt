@@ -31,7 +31,6 @@ impl Log {
         if TRANSACTIONS <= tx {
             return Vote::Absent;
         }
-        let row = self.rows[tx as usize];
-        row.vote_of(store)
+        self.rows[usize::from(tx)].vote_of(store)
     }
 }

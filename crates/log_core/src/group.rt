@@ -17,7 +17,7 @@ pub fn remembered_in(all: [u32; TRANSACTION_PLACES], g: u8) -> u32
         return 0;
     }
     let i = g - 1;
-    all[i as usize]
+    all[usize::from(i)]
 }
 
 // The group of a transaction that commits after `groups` groups: the last one, if it joins that,
