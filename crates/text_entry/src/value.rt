@@ -17,6 +17,7 @@ pub type Number = Update;
 pub const BYTE_NUMBERS: Number = 256;
 
 // What is left behind these bytes.
+#[tactic(auto, using(crate::proofs::Words::stripped))]
 pub fn after<'a>(rest: &'a [u8], word: &[u8]) -> Option<&'a [u8]>
     ensures { left result ≡ after_reading word.now (part 0 rest.now) }
 {
