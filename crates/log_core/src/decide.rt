@@ -22,7 +22,7 @@ impl Parts {
         match e.request {
             Request::Take => take_refusal(self.holders, self.takers, self.latest, e),
             Request::Vote { by, .. } => {
-                let by = by as usize;
+                let by = usize::from(by);
                 self.row.vote_refusal(self.holders[by], self.turns[by], e)
             }
         }
@@ -50,7 +50,7 @@ impl Parts {
                 runs: false,
             },
             Request::Vote { by, .. } => {
-                let by = by as usize;
+                let by = usize::from(by);
                 let p = VoteParts {
                     tally: row.tally(),
                     clash: row.any_clash(e),

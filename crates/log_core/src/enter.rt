@@ -15,7 +15,7 @@ use log_entry::{Entry, Request};
 pub fn row_place(e: Entry) -> usize
     ensures { result ≡ cond (is_take e) 0 (tx_of e) }
 {
-    e.tx() as usize
+    usize::from(e.tx())
 }
 
 impl Log {
@@ -54,15 +54,16 @@ impl Log {
     {
         match e.request {
             Request::Take => {
-                let store = e.store as usize;
+                let store = usize::from(e.store);
+                let process = usize::from(e.process);
                 self.holders[store] = e.process;
                 self.turns[store] = e.turn;
-                self.latest[e.process as usize] = e.turn;
+                self.latest[process] = e.turn;
                 self.takers[store] |= 1u16 << e.process;
                 self
             }
             Request::Vote { tx, .. } => {
-                let tx = tx as usize;
+                let tx = usize::from(tx);
                 let mut row = self.rows[tx].keeping(e);
                 row.group = f.group;
                 if !f.begins {
@@ -73,7 +74,7 @@ impl Log {
                 self.rows[tx] = row;
                 self.groups = f.group;
                 let i = f.group - 1;
-                self.remembered[i as usize] = running;
+                self.remembered[usize::from(i)] = running;
                 self
             }
         }
@@ -89,8 +90,8 @@ impl Log {
                 answer: Err(Refusal::OutsideLimits),
             };
         }
-        let store = e.store as usize;
-        let process = e.process as usize;
+        let store = usize::from(e.store);
+        let process = usize::from(e.process);
         let tx = row_place(e);
         let remembered = self.remembered;
         let p = Parts {
@@ -123,8 +124,8 @@ impl Log {
         if e.outside(self.stores) {
             return Err(Refusal::OutsideLimits);
         }
-        let store = e.store as usize;
-        let process = e.process as usize;
+        let store = usize::from(e.store);
+        let process = usize::from(e.process);
         let tx = row_place(e);
         let p = Parts {
             row: self.rows[tx],

@@ -4,8 +4,9 @@ ghost use Rattle.log_core.specs.Follow.{awaited_of, awaits};
 ghost use Rattle.log_core.specs.Log.{vote_at};
 
 use crate::Log;
-use log_entry::limits::{TRANSACTION_PLACES, TRANSACTIONS};
-use log_votes::{Row, Vote, digit};
+use log_entry::limits::TRANSACTIONS;
+use log_votes::sets::set_of;
+use log_votes::{Row, Vote};
 
 // Whether the transaction runs with a kept commit vote of the store.
 fn awaits(row: Row, store: u8) -> bool
@@ -16,17 +17,11 @@ fn awaits(row: Row, store: u8) -> bool
 
 impl Log {
     // The running transactions with a kept commit vote of the store, bit t for transaction t.
+    #[tactic(auto, unfolding(crate::specs::Follow::awaited_of))]
     pub fn awaited(self, store: u8) -> u32
         ensures { result ≡ awaited_of self store }
     {
-        let mut set: u32 = 0;
-        let mut t: usize = TRANSACTION_PLACES;
-        while 0 < t {
-            let row = self.rows[t - 1];
-            set = digit(awaits(row, store)) as u32 + 2 * set;
-            t -= 1;
-        }
-        set
+        set_of(&self.rows, |row| awaits(*row, store))
     }
 
     // The store's vote on the transaction.
@@ -36,7 +31,6 @@ impl Log {
         if TRANSACTIONS <= tx {
             return Vote::Absent;
         }
-        let row = self.rows[tx as usize];
-        row.vote_of(store)
+        self.rows[usize::from(tx)].vote_of(store)
     }
 }

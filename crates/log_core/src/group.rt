@@ -4,7 +4,7 @@ ghost use Rattle.log_core.specs.Group.{next_group, running_set};
 
 use crate::Log;
 use log_entry::limits::{TRANSACTION_PLACES, TRANSACTIONS};
-use log_votes::digit;
+use log_votes::sets::set_of;
 
 // What the group remembers, of what all groups remember.
 pub fn remembered_in(all: [u32; TRANSACTION_PLACES], g: u8) -> u32
@@ -17,7 +17,7 @@ pub fn remembered_in(all: [u32; TRANSACTION_PLACES], g: u8) -> u32
         return 0;
     }
     let i = g - 1;
-    all[i as usize]
+    all[usize::from(i)]
 }
 
 // The group of a transaction that commits after `groups` groups: the last one, if it joins that,
@@ -39,13 +39,6 @@ impl Log {
     pub fn running_set(self) -> u32
         ensures { result ≡ running_set self.rows }
     {
-        let mut set: u32 = 0;
-        let mut t: usize = TRANSACTION_PLACES;
-        while 0 < t {
-            let row = self.rows[t - 1];
-            set = digit(row.running()) as u32 + 2 * set;
-            t -= 1;
-        }
-        set
+        set_of(&self.rows, |row| row.running())
     }
 }

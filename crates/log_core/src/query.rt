@@ -13,8 +13,7 @@ impl Log {
         if TRANSACTIONS <= tx {
             return Outcome::Open;
         }
-        let row = self.rows[tx as usize];
-        row.outcome()
+        self.rows[usize::from(tx)].outcome()
     }
 
     // The transaction's group, 0 if none.
@@ -24,8 +23,7 @@ impl Log {
         if TRANSACTIONS <= tx {
             return 0;
         }
-        let row = self.rows[tx as usize];
-        row.group
+        self.rows[usize::from(tx)].group
     }
 
     // The store's holder, 0 if none.
@@ -35,7 +33,7 @@ impl Log {
         if STORES <= store {
             return 0;
         }
-        self.holders[store as usize]
+        self.holders[usize::from(store)]
     }
 
     // The turn of the store's holder, 0 if there is none.
@@ -45,7 +43,7 @@ impl Log {
         if STORES <= store {
             return 0;
         }
-        self.turns[store as usize]
+        self.turns[usize::from(store)]
     }
 
     pub fn involvement(self, tx: u8, store: u8) -> Involvement
@@ -54,7 +52,6 @@ impl Log {
         if TRANSACTIONS <= tx {
             return Involvement::Unknown;
         }
-        let row = self.rows[tx as usize];
-        row.involvement(store)
+        self.rows[usize::from(tx)].involvement(store)
     }
 }

@@ -6,19 +6,15 @@ use crate::{Log, Replay};
 use log_entry::limits::TRANSACTIONS;
 
 impl Log {
-    // The replay, put into an empty one.
+    // The replay, put into an empty one. Its indices are casts: the proof of what is filled speaks of
+    // the numbers themselves.
     fn replay_into(self, store: u8, mut out: Replay) -> Replay
         requires { out ≡ no_replay }
         ensures { result ≡ replay_of self store }
     {
-        let groups = self.groups;
-        let mut g: u8 = 0;
-        while g < groups {
-            g += 1;
-            let mut t: u8 = 0;
-            while t < TRANSACTIONS {
-                let tx = t;
-                t += 1;
+        for before in 0..self.groups {
+            let g = before + 1;
+            for tx in 0..TRANSACTIONS {
                 if self.rows[tx as usize].group != g {
                     continue;
                 }

@@ -1,5 +1,4 @@
 -- What a vote says that is kept of an entry.
-use Prim.Native.Nat.{ℕ}
 use mathlib.Core.Bool.{Bool, false, true}
 use mathlib.Core.Path.{◌≡◌, refl}
 use Rattle.log_entry.specs.declared.Entry.{Entry}

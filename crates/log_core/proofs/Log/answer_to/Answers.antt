@@ -9,13 +9,13 @@ pub returns-then-outside : goal.returns-then-outside
 returns-then-outside c = ap (λ (t : Entered). t.answer) (enter_outside c.args.self c.args.e (sym c.outside.ensures ∙ c.if-outside.true))
 
 pub bounds-self-store : goal.bounds-self-store
-bounds-self-store c = inside_store c.args.self.stores c.args.e (sym c.outside.ensures ∙ c.if-outside.false)
+bounds-self-store c = omega (arith, c.from-store.ensures, inside_store c.args.self.stores c.args.e (sym c.outside.ensures ∙ c.if-outside.false))
 
 pub bounds-self-process : goal.bounds-self-process
-bounds-self-process c = omega (arith, inside_process c.args.self.stores c.args.e (sym c.outside.ensures ∙ c.if-outside.false))
+bounds-self-process c = omega (arith, c.from-process.ensures, inside_process c.args.self.stores c.args.e (sym c.outside.ensures ∙ c.if-outside.false))
 
 pub returns : goal.returns
-returns c = c.refusal.ensures ∙ answer_at c.args.self c.args.e c.row_place-tx.ensures
+returns c = rw (c.from-store.ensures, c.from-process.ensures) at c.refusal.ensures ∙ answer_at c.args.self c.args.e c.row_place-tx.ensures
 
 pub bounds-self-tx : goal.bounds-self-tx
 bounds-self-tx c = place_inside c.args.self.stores c.args.e (sym c.outside.ensures ∙ c.if-outside.false) c.row_place-tx.ensures

@@ -13,19 +13,19 @@ pub bounds-self-tx : goal.bounds-self-tx
 bounds-self-tx c = place_inside c.args.self.stores c.args.e (sym c.outside.ensures ∙ c.if-outside.false) c.row_place-tx.ensures
 
 pub bounds-self-store : goal.bounds-self-store
-bounds-self-store c = inside_store c.args.self.stores c.args.e (sym c.outside.ensures ∙ c.if-outside.false)
+bounds-self-store c = omega (arith, c.from-store.ensures, inside_store c.args.self.stores c.args.e (sym c.outside.ensures ∙ c.if-outside.false))
 
 pub bounds-self-process : goal.bounds-self-process
-bounds-self-process c = omega (arith, inside_process c.args.self.stores c.args.e (sym c.outside.ensures ∙ c.if-outside.false))
+bounds-self-process c = omega (arith, c.from-process.ensures, inside_process c.args.self.stores c.args.e (sym c.outside.ensures ∙ c.if-outside.false))
 
 pub returns-then-is_err : goal.returns-then-is_err
 returns-then-is_err c =
-    enter_refused c.args.self c.args.e c.row_place-tx.result c.remembered_in.result c.row_place-tx.ensures (remembered_last c.args.self c.remembered_in.ensures) c.decide-f.result c.decide-f.ensures (err_refused c.decide-f.result.answer (sym c.is_err.ensures.value ∙ c.if-is_err.true))
+    enter_refused c.args.self c.args.e c.row_place-tx.result c.remembered_in.result c.row_place-tx.ensures (remembered_last c.args.self c.remembered_in.ensures) c.decide-f.result (rw (c.from-store.ensures, c.from-process.ensures) at c.decide-f.ensures) (err_refused c.decide-f.result.answer (sym c.is_err.ensures.value ∙ c.if-is_err.true))
 
 pub returns : goal.returns
 returns c =
-    enter_stored c.args.self c.args.e c.row_place-tx.result c.remembered_in.result c.row_place-tx.ensures (remembered_last c.args.self c.remembered_in.ensures) c.decide-f.result c.decide-f.ensures (err_accepted c.decide-f.result.answer (sym c.is_err.ensures.value ∙ c.if-is_err.false)) c.stored.ensures
+    enter_stored c.args.self c.args.e c.row_place-tx.result c.remembered_in.result c.row_place-tx.ensures (remembered_last c.args.self c.remembered_in.ensures) c.decide-f.result (rw (c.from-store.ensures, c.from-process.ensures) at c.decide-f.ensures) (err_accepted c.decide-f.result.answer (sym c.is_err.ensures.value ∙ c.if-is_err.false)) c.stored.ensures
 
 pub stored-requires-clause-group_nonzero : goal.stored-requires-clause-group_nonzero
 stored-requires-clause-group_nonzero c =
-    begins_group (parts_at c.args.self c.args.e c.row_place-tx.result c.remembered_in.result) c.args.e c.decide-f.result c.decide-f.ensures
+    begins_group (parts_at c.args.self c.args.e c.row_place-tx.result c.remembered_in.result) c.args.e c.decide-f.result (rw (c.from-store.ensures, c.from-process.ensures) at c.decide-f.ensures)

@@ -20,9 +20,9 @@ returns-in-Take c =
 pub bounds-self-by-in-Vote : goal.bounds-self-by-in-Vote
 bounds-self-by-in-Vote c =
     let inside = inside_vote c.args.self.stores c.args.e (sym c.outside.ensures ∙ c.if-outside.false) (ap in_is_take c.in-Vote.is) in
-    omega (arith, ap in_by_of c.in-Vote.is, inside.by)
+    omega (arith, ap in_by_of c.in-Vote.is, c.from-by.ensures, inside.by)
 
 pub bounds-self-by : goal.bounds-self-by
 bounds-self-by c =
     let inside = inside_vote c.args.self.stores c.args.e (sym c.outside.ensures ∙ c.if-outside.false) (ap in_is_take c.in-Vote.is) in
-    omega (arith, ap in_by_of c.in-Vote.is, inside.by)
+    omega (arith, ap in_by_of c.in-Vote.is, c.from-by.ensures, inside.by)

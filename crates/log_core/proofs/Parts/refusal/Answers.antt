@@ -15,14 +15,14 @@ returns-in-Take c =
 pub bounds-self-by-in-Vote : goal.bounds-self-by-in-Vote
 bounds-self-by-in-Vote c =
     let inside = inside_vote c.args.self.stores c.args.e (sym c.outside.ensures ∙ c.if-outside.false) (ap in_is_take c.in-Vote.is) in
-    omega (arith, ap in_by_of c.in-Vote.is, inside.by)
+    omega (arith, ap in_by_of c.in-Vote.is, c.from-by.ensures, inside.by)
 
 pub bounds-self-by : goal.bounds-self-by
 bounds-self-by c =
     let inside = inside_vote c.args.self.stores c.args.e (sym c.outside.ensures ∙ c.if-outside.false) (ap in_is_take c.in-Vote.is) in
-    omega (arith, ap in_by_of c.in-Vote.is, inside.by)
+    omega (arith, ap in_by_of c.in-Vote.is, c.from-by.ensures, inside.by)
 
 pub returns-in-Vote : goal.returns-in-Vote
 returns-in-Vote c =
     c.vote_refusal.ensures
-    ∙ answer_vote c.args.self c.args.e (sym c.outside.ensures ∙ c.if-outside.false) (ap in_is_take c.in-Vote.is) (ap in_by_of c.in-Vote.is)
+    ∙ answer_vote c.args.self c.args.e (sym c.outside.ensures ∙ c.if-outside.false) (ap in_is_take c.in-Vote.is) (ap in_by_of c.in-Vote.is ∙ sym c.from-by.ensures)

@@ -1,0 +1,23 @@
+use mathlib.Core.Path.{◌≡◌, ap, refl, ◌∙◌}
+use Prim.Native.Nat.{ℕ, ◌%◌, ◌*◌, ◌^◌}
+use native.Mathlib.Omega.{arith}
+use mathlib.Core.Bool.{Bool, cond, false, true}
+use mir.Val.{bool_byte}
+use Rattle.std.proofs.Common.{bit_or}
+use Rattle.std.proofs.lemmas.Fn.{says_at}
+use Rattle.log_votes.specs.Scan.{set_of}
+use Rattle.log_votes.proofs.SetLaws.{set_put}
+use Rattle.log_votes.proofs.sets.set_of.Goals as goal
+
+byte_is : (b : Bool) → bool_byte b ≡ cond b 1 0
+byte_is true = refl
+byte_is false = refl
+
+pub loop-i-init : goal.loop-i-init
+unfolding set_of
+loop-i-init g c test agrees = refl
+
+pub loop-i-preserved : goal.loop-i-preserved
+loop-i-preserved g c test agrees =
+    ap (λ (b : ℕ). bit_or c.loop-i.set (b * 2 ^ c.loop-i.i % 2 ^ 32)) (c.from.ensures ∙ byte_is c.passes.result)
+    ∙ set_put test c.args.items.now c.index-items-i.result c.loop-i.i (omega arith) (omega arith) (agrees _ c.passes.result (says_at g.F.Fn c.passes.ensures refl) ∙ ap test c.index-items-i.is) (c.loop-i.invariant test agrees)
