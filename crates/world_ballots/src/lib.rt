@@ -12,7 +12,7 @@ ghost use Rattle.world_parts.specs.Plan.{plan_of};
 
 use log_entry::refusal::Answer;
 use model_owners::owner;
-use model_protocol::{Change, Coordinator, Down, Message, Parts};
+use model_protocol::{Change, Message, Parts};
 use model_steps::Role;
 use world_coordinator::round;
 use world_fresh::new_round;
@@ -20,22 +20,24 @@ use world_messages::{parties, send};
 use world_parts::refusal::Tests;
 use world_parts::{changes, refusal};
 
-// Whether coordinator k, of number coord, may not open the ballot.
-fn ballot_barred(n: u8, k: Coordinator, coord: u8, inst: u8, ballot: u8) -> bool
-    ensures { result ≡ (eqb n 0 || cannot_open k coord inst ballot) }
+// Whether the coordinator, of number coord, may not open the ballot.
+fn ballot_barred(p: &Parts, coord: u8, inst: u8, ballot: u8) -> bool
+    ensures { result ≡ (eqb p.now.acceptors 0 || cannot_open p.now.coordinator coord inst ballot) }
 {
-    n == 0 || inst != k.applied || owner(ballot) != coord || ballot <= k.round.ballot
+    let c = p.coordinator;
+    p.acceptors == 0 || inst != c.applied || owner(ballot) != coord || ballot <= c.round.ballot
 }
 
-// The answer to coordinator coord where it is to send to each of n acceptors. `barred`: 5 applies.
-fn refusal_to(n: u8, sent: u8, d: Down, coord: u8, barred: bool) -> Answer
-    ensures { result ≡ first_of (tests false (is_down d Coord coord) barred (lacks_numbers sent n) false) }
+// The answer to coordinator coord where it is to send to each acceptor. `barred`: 5 applies.
+// It has a namesake in world_requests: the conditions of those steps are others.
+fn refusal_to(p: &Parts, coord: u8, barred: bool) -> Answer
+    ensures { result ≡ first_of (tests false (is_down p.now.down Coord coord) barred (lacks_numbers p.now.sent p.now.acceptors) false) }
 {
     refusal::first_of(Tests {
         unsent: false,
-        down: parties::is_down(d, Role::Coord, coord),
+        down: parties::is_down(p.down, Role::Coord, coord),
         unmet: barred,
-        full: send::lacks_numbers(sent, n),
+        full: send::lacks_numbers(p.sent, p.acceptors),
         ill: false,
     })
 }
@@ -44,8 +46,8 @@ fn refusal_to(n: u8, sent: u8, d: Down, coord: u8, barred: bool) -> Answer
 pub fn open(mut p: Parts, coord: u8, inst: u8, ballot: u8) -> Change
     ensures { result ≡ plan_of p (Open coord inst ballot) }
 {
-    let barred = ballot_barred(p.acceptors, p.coordinator, coord, inst, ballot);
-    let answer = refusal_to(p.acceptors, p.sent, p.down, coord, barred);
+    let barred = ballot_barred(&p, coord, inst, ballot);
+    let answer = refusal_to(&p, coord, barred);
     if answer.is_err() {
         return changes::without_messages(p, answer);
     }
@@ -61,24 +63,25 @@ pub fn open(mut p: Parts, coord: u8, inst: u8, ballot: u8) -> Change
     )
 }
 
-// Whether coordinator k may not propose.
-fn proposal_barred(n: u8, k: Coordinator, inst: u8, ballot: u8) -> bool
-    ensures { result ≡ (eqb n 0 || cannot_propose n k inst ballot) }
+// Whether the coordinator may not propose.
+fn proposal_barred(p: &Parts, inst: u8, ballot: u8) -> bool
+    ensures { result ≡ (eqb p.now.acceptors 0 || cannot_propose p.now.acceptors p.now.coordinator inst ballot) }
 {
-    n == 0
-        || inst != k.applied
-        || ballot != k.round.ballot
-        || !round::is_majority(n, k.round.promises)
-        || k.round.proposal.is_some()
-        || (k.round.accepted == 0 && k.queue.count == 0)
+    let c = p.coordinator;
+    p.acceptors == 0
+        || inst != c.applied
+        || ballot != c.round.ballot
+        || !round::is_majority(p.acceptors, c.round.promises)
+        || c.round.proposal.is_some()
+        || (c.round.accepted == 0 && c.queue.count == 0)
 }
 
 #[tactic(auto, unfolding(world_parts::specs::Plan::plan_of, model_protocol::specs::Step::step_checks, model_protocol::specs::Step::change_of, log_entry::specs::Refusal::first_refusal))]
 pub fn propose(mut p: Parts, coord: u8, inst: u8, ballot: u8) -> Change
     ensures { result ≡ plan_of p (Propose coord inst ballot) }
 {
-    let barred = proposal_barred(p.acceptors, p.coordinator, inst, ballot);
-    let answer = refusal_to(p.acceptors, p.sent, p.down, coord, barred);
+    let barred = proposal_barred(&p, inst, ballot);
+    let answer = refusal_to(&p, coord, barred);
     if answer.is_err() {
         return changes::without_messages(p, answer);
     }

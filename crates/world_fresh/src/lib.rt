@@ -19,6 +19,7 @@ use model_protocol::{
     Round, World,
 };
 
+// These are no `Default`: a row of N entries has none, and an entry has no zero that is meant.
 pub fn no_entry() -> Entry
     ensures { result ≡ no_entry }
 {

@@ -72,6 +72,7 @@ fn either_down(d: Down, coord: u8, process: u8) -> bool
     parties::is_down(d, Role::Coord, coord) || parties::is_down(d, Role::Proc, process)
 }
 
+// A function of its own: with the tests in `request` its proof does not close.
 fn request_refusal(p: &Parts, e: Entry, to: u8) -> Answer
     ensures { result ≡ first_of (tests false (is_down p.now.down Proc e.process || is_down p.now.down Coord to) (eqb p.now.acceptors 0 || other_turn e p.now.process || voter_not_holder e p.now.process) (lacks_numbers p.now.sent 1) (not (is_take e) && ill_formed e)) }
 {
