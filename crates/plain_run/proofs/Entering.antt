@@ -9,10 +9,8 @@ use Rattle.log_entry.specs.Refusal.{no_place, unreadable}
 use Rattle.log_core.specs.declared.Log.{Log}
 use Rattle.log_core.specs.Enter.{answered}
 use Rattle.text_entry.specs.declared.Unread.{Unread}
-use Rattle.std.specs.Prelude.{Result, Err}
-use Rattle.text_entry.specs.declared.Unread.TheVariants.{Outside, Unreadable}
-use Rattle.log_entry.specs.declared.refusal.Refusal.{Refusal}
-use Rattle.text_entry.specs.Entry.{reading, refusal_of}
+use Rattle.std.specs.Prelude.{Result}
+use Rattle.text_entry.specs.Entry.{reading}
 use Rattle.text_lines.specs.declared.Line.{Line}
 use Rattle.text_lines.specs.Line.{bytes_of, too_long}
 use Rattle.text_lines.specs.Lines.{max_lines}
@@ -34,8 +32,3 @@ module _ (l : Log) (line : Line) where
 
     pub usual_line : count < max_lines → enter_held l line ≡ line_entered l count line
     usual_line h = rw (lt-leb max_lines count h)
-
--- a line that is not read is answered with its refusal
-pub unread_line : (l : Log) (u : Unread) {r : Refusal} → r ≡ refusal_of u → answered l (Err r) ≡ entering l (Err u)
-unread_line l Unreadable h = rw h
-unread_line l Outside h = rw h

@@ -33,10 +33,14 @@ fn command_at(count: u16, line: &Line) -> Result<Entry, Refusal>
     let Some(bytes) = line.as_slice() else {
         return Err(Refusal::Unreadable);
     };
-    match text_entry::read_entry(bytes) {
-        Ok(entry) => Ok(entry),
-        Err(unread) => Err(Refusal::from(unread)),
+    let reading = text_entry::read_entry(bytes);
+    if text_entry::is_outside(&reading) {
+        return Err(Refusal::OutsideLimits);
     }
+    let Ok(entry) = reading else {
+        return Err(Refusal::Unreadable);
+    };
+    Ok(entry)
 }
 
 impl text_lines::Session for Session {

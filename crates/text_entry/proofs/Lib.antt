@@ -13,5 +13,6 @@ pub mod Table
 pub mod Takes
 pub mod TextReads
 pub mod Turns
+pub mod NotRead
 pub mod Votes
 pub mod Words

@@ -7,8 +7,6 @@ use Rattle.log_entry.specs.Limits.{first_turn, lists}
 use Rattle.text_ascii.specs.Hex.{earlier_digits, update_digits}
 use Rattle.text_entry.specs.declared.Unread.{Unread}
 use Rattle.text_entry.specs.declared.Unread.TheVariants.{Unreadable, Outside}
-use Rattle.log_entry.specs.declared.refusal.Refusal.{Refusal}
-use Rattle.log_entry.specs.declared.refusal.Refusal.TheVariants as refused
 use Rattle.text_entry.specs.Fields.{Presence, absent, always, in_hex, line_text}
 use Rattle.text_entry.specs.Kinds.{take_kind, take_with, vote_kind, vote_with}
 use Rattle.text_entry.specs.Table.{Reader, any_beyond, answer_of, at, read_first, reader}
@@ -97,7 +95,8 @@ reading_of = answer_of beyond Ok (Err Outside) (Err Unreadable)
 abbrev pub reading : List ℕ → Result Entry Unread
 reading s = reading_of (read_entry s)
 
--- the refusal of a line that is not read: 1, or 2 if a number is beyond a byte
-abbrev pub refusal_of : Unread → Refusal
-refusal_of Unreadable = refused.Unreadable
-refusal_of Outside = refused.OutsideLimits
+-- a reading that has no value for a number beyond a byte
+abbrev pub is_outside : {A : Type 0} → Result A Unread → Bool
+is_outside (Ok a) = false
+is_outside (Err Outside) = true
+is_outside (Err Unreadable) = false

@@ -11,11 +11,10 @@ ghost use Rattle.text_entry.specs.Kinds.{list, say, take_kind, turn, turn_presen
 ghost use Rattle.text_entry.specs.Parts.{either_parts, entry_of, kind_parts, take_parts, vote_parts};
 ghost use Rattle.text_entry.specs.Read.{part, read_field};
 ghost use Rattle.text_entry.specs.Seen.{capped, found, said, seen};
-ghost use Rattle.text_entry.specs.Entry.{reading_of, reading, refusal_of};
+ghost use Rattle.text_entry.specs.Entry.{is_outside, reading_of, reading};
 
 use decimals::byte;
 use log_entry::limits::FIRST_TURN;
-use log_entry::refusal::Refusal;
 use log_entry::{Entry, Request, Say};
 use value::Number;
 
@@ -27,16 +26,11 @@ pub enum Unread {
     Outside,
 }
 
-// The refusal of a line that is not read.
-impl From<Unread> for Refusal {
-    ghost from_gives = { λ unread refusal. refusal ≡ refusal_of unread };
-
-    fn from(unread: Unread) -> Refusal {
-        match unread {
-            Unread::Unreadable => Refusal::Unreadable,
-            Unread::Outside => Refusal::OutsideLimits,
-        }
-    }
+// Whether a line is not read for a number beyond a byte.
+pub fn is_outside<T>(reading: &Result<T, Unread>) -> bool
+    ensures { result ≡ is_outside reading.now }
+{
+    matches!(reading, Err(Unread::Outside))
 }
 
 // The values of an entry's fields, its numbers of any size.

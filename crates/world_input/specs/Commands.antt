@@ -5,7 +5,7 @@ use Rattle.log_entry.specs.declared.refusal.Refusal.TheVariants as refused
 use Rattle.model_steps.specs.declared.Step.{Step}
 use Rattle.text_lines.specs.Lines.{lines, max_line_bytes, max_lines}
 use Rattle.text_entry.specs.declared.Unread.{Unread}
-use Rattle.text_entry.specs.Entry.{refusal_of}
+use Rattle.text_entry.specs.declared.Unread.TheVariants.{Outside, Unreadable}
 use Rattle.text_step.specs.Step.{reading}
 use Rattle.model_steps.specs.Commands.{Command}
 
@@ -15,7 +15,8 @@ refusing r = Err r
 
 abbrev pub command_to : Result Step Unread → Command
 command_to (Ok s) = Ok s
-command_to (Err u) = refusing (refusal_of u)
+command_to (Err Outside) = refusing refused.OutsideLimits
+command_to (Err Unreadable) = refusing refused.Unreadable
 
 -- "a line that does not read as a step of this program, or is over 100 bytes without its LF" is
 -- answered 1, one with a number that no byte holds 2; every other asks for its step

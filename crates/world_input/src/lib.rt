@@ -25,10 +25,14 @@ fn command_of(line: &Line) -> Command
     let Some(bytes) = line.as_slice() else {
         return Err(Refusal::Unreadable);
     };
-    match text_step::read_step(bytes) {
-        Ok(step) => Ok(step),
-        Err(unread) => Err(Refusal::from(unread)),
+    let reading = text_step::read_step(bytes);
+    if text_entry::is_outside(&reading) {
+        return Err(Refusal::OutsideLimits);
     }
+    let Ok(step) = reading else {
+        return Err(Refusal::Unreadable);
+    };
+    Ok(step)
 }
 
 // What the line asks for, after `count` others.
