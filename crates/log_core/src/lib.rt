@@ -116,6 +116,7 @@ pub struct Replay {
 
 impl Replay {
     // The replay without rows.
+    #[tactic(auto, unfolding(crate::specs::Replay::no_replay))]
     pub fn none() -> Replay
         ensures { result ≡ no_replay }
     {
