@@ -23,7 +23,8 @@ pub mod replays;
 pub struct Log {
     // By transaction.
     pub rows: [Row; TRANSACTION_PLACES],
-    // By store, 0 if none.
+    // By store, 0 if none. An array each for holders, turns and takers, since a take is tested
+    // against the holders alone, and an entry is decided on its own store's takers.
     pub holders: [u8; STORE_PLACES],
     // By store: its holder's turn, 0 if none.
     pub turns: [u8; STORE_PLACES],
@@ -116,6 +117,7 @@ pub struct Replay {
 
 impl Replay {
     // The replay without rows.
+    #[tactic(auto, unfolding(crate::specs::Replay::no_replay))]
     pub fn none() -> Replay
         ensures { result ≡ no_replay }
     {

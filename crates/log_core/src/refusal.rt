@@ -30,6 +30,7 @@ fn wrong_turn(takers: u16, latest: u8, e: Entry) -> bool
 }
 
 // The answer to a take within its limits.
+#[tactic(auto, unfolding(log_entry::specs::Refusal::first_refusal))]
 pub fn take_refusal(holders: [u8; STORE_PLACES], takers: u16, latest: u8, e: Entry) -> Answer
     ensures { result ≡ first_refusal (take_checks holders takers latest e) }
 {
