@@ -90,8 +90,8 @@ beyond e = any_beyond (numbers e)
 abbrev pub reading_of : Option Entry → Result Entry Unread
 reading_of = answer_of beyond Ok (Err Outside) (Err Unreadable)
 
--- what the reader answers: `Err Outside` if a number is beyond a byte; what else is outside its limits,
--- the log refuses
+-- what the reader answers: `Err Outside` if a number is beyond a byte; what else is outside its
+-- limits, the log refuses
 abbrev pub reading : List ℕ → Result Entry Unread
 reading s = reading_of (read_entry s)
 

@@ -133,7 +133,7 @@ beyond s = any_beyond (numbers s)
 abbrev pub reading_of : Option Step → Result Step Unread
 reading_of = answer_of beyond Ok (Err Outside) (Err Unreadable)
 
--- what the reader answers: `Err Outside` if a number is beyond a byte; what else is outside its limits,
--- the world refuses
+-- what the reader answers: `Err Outside` if a number is beyond a byte; what else is outside its
+-- limits, the world refuses
 abbrev pub reading : List ℕ → Result Step Unread
 reading s = reading_of (read_step s)
