@@ -102,7 +102,7 @@ group_same store g tx [] = refl
 group_same store g tx (r ∷ rs) =
     let v = get_or r.votes store no_vote in
     let line : Vote → List Replayed → List Replayed =
-        λ v rest. cond (eqb r.group g && is_commit store v) (record { group = g; tx = tx; update = vote_update v } ∷ rest) rest in
+    λ v rest. cond (eqb r.group g && is_commit store v) (record { group = g; tx = tx; update = vote_update v } ∷ rest) rest in
     ap₂ line (get_or-map vote_without_turn r.votes store no_vote) (group_same store g (suc tx) rs)
     ∙ ap₂
     (λ (commit : Bool) (update : ℕ). cond (eqb r.group g && commit) (record { group = g; tx = tx; update = update } ∷ group_replay store g (suc tx) rs) (group_replay store g (suc tx) rs))
