@@ -1,15 +1,14 @@
 -- What a command does to a log, and a line to a session.
 use Prim.Native.Nat.{ℕ}
-use mathlib.Core.Bool.{Bool, cond, false, true}
-use mathlib.Core.Path.{◌≡◌, refl, sym, ◌∙◌, ap}
+use mathlib.Core.Bool.{false}
+use mathlib.Core.Path.{◌≡◌, sym, ◌∙◌, ap}
 use Rattle.std.specs.Prelude.{Result, Ok, Err, is_ok}
 use Rattle.log_entry.specs.declared.Entry.{Entry}
 use Rattle.log_entry.specs.declared.refusal.Refusal.{Refusal}
 use Rattle.log_entry.specs.Number.{Answer, answer_number, number_of}
 use Rattle.log_core.specs.declared.Effect.{Effect}
-use Rattle.log_core.specs.declared.Entered.{Entered}
 use Rattle.log_core.specs.declared.Log.{Log}
-use Rattle.log_core.specs.Enter.{enter, entered, stored}
+use Rattle.log_core.specs.Enter.{enter, entered}
 use Rattle.log_core.specs.Decide.{effect_of, parts_of}
 use Rattle.text_lines.specs.declared.Line.{Line}
 use Rattle.text_lines.specs.Answers.{noted as answers_noted}

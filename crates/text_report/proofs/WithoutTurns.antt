@@ -11,7 +11,7 @@ use Rattle.log_votes.specs.declared.Outcome.TheVariants as outcome
 use Rattle.log_votes.specs.declared.Row.{Row}
 use Rattle.log_votes.specs.declared.Vote.{Vote}
 use Rattle.log_votes.specs.declared.Vote.TheVariants.{Absent, Abort, Commit}
-use Rattle.log_votes.specs.Vote.{vote_kept, vote_list, vote_update}
+use Rattle.log_votes.specs.Vote.{vote_list, vote_update}
 use Rattle.log_votes.specs.Outcome.{is_abort, is_commit, is_covered, is_kept, meets, outcome_of_votes}
 use Rattle.log_votes.specs.Row.{no_row, no_vote}
 use Rattle.log_votes.specs.Scan.{all_from, any_from}

@@ -1,4 +1,4 @@
-use mathlib.Core.Path.{◌∙◌, ap, sym}
+use mathlib.Core.Path.{◌∙◌, sym}
 use Rattle.plain_run.proofs.Sessions.{entry_accepted, entry_refused, line_refused}
 use Rattle.plain_run.proofs.SessionSession.take.Goals as goal
 
