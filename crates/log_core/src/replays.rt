@@ -6,8 +6,8 @@ use crate::{Log, Replay};
 use log_entry::limits::TRANSACTIONS;
 
 impl Log {
-    // The replay, put into an empty one. Its indices are casts: the proof of what is filled speaks of
-    // the numbers themselves.
+    // The replay, put into an empty one. Its indices are casts: the proof of what is filled speaks
+    // of the numbers themselves.
     fn replay_into(self, store: u8, mut out: Replay) -> Replay
         requires { out ≡ no_replay }
         ensures { result ≡ replay_of self store }
