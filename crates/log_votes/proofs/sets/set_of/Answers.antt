@@ -15,9 +15,12 @@ byte_is false = refl
 
 pub loop-i-init : goal.loop-i-init
 unfolding set_of
-loop-i-init g c test agrees = refl
+loop-i-init g c few test agrees = refl
 
 pub loop-i-preserved : goal.loop-i-preserved
-loop-i-preserved g c test agrees =
-    ap (λ (b : ℕ). bit_or c.loop-i.set (b * 2 ^ c.loop-i.i % 2 ^ 32)) (c.from.ensures ∙ byte_is c.passes.result)
-    ∙ set_put test c.args.items.now c.index-items-i.result c.loop-i.i (omega arith) (omega arith) (agrees _ c.passes.result (says_at g.F.Fn c.passes.ensures refl) ∙ ap test c.index-items-i.is) (c.loop-i.invariant test agrees)
+loop-i-preserved g c few test agrees =
+    let i = c.loop-i.i in
+    let place : i % 32 ≡ i = omega arith in
+    ap (λ (k : ℕ). bit_or c.loop-i.set (c.from.result * 2 ^ k % 2 ^ 32)) place
+    ∙ ap (λ (b : ℕ). bit_or c.loop-i.set (b * 2 ^ i % 2 ^ 32)) (c.from.ensures ∙ byte_is c.passes.result)
+    ∙ set_put test c.args.items.now c.index-items-i.result i (omega arith) (omega arith) (agrees _ c.passes.result (says_at g.F.Fn c.passes.ensures refl) ∙ ap test c.index-items-i.is) (c.loop-i.invariant few test agrees)
