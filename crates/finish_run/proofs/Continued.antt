@@ -19,7 +19,7 @@ use Rattle.model_finish.specs.Closing.{accept_number, accepted_number, answering
 use Rattle.model_finish.specs.Such.{OwnBallot, Such, current_of}
 use Rattle.model_finish.proofs.ChoiceLaws.{choice_exactly, nothing_exactly}
 use Rattle.model_finish.proofs.Theorem.{closes_in_sequence, run_append, such_closes}
-use Rattle.model_protocol.specs.declared.Batch.{Batch}
+use Rattle.model_protocol.specs.Batch.{Batch}
 use Rattle.model_protocol.specs.declared.World.{World}
 use Rattle.model_protocol.specs.Step.{run, step_of}
 use Rattle.model_protocol.specs.World.{fresh_world}
@@ -259,7 +259,7 @@ module _ (input : List ℕ) (left : LinesLeft input) where
       ∙ steps_append own (map text list)
       ∙ (λ i. steps_in (sym (take_all max_lines own (omega arith)) i) ++ steps_read list reads i)
 
-  all_answers : answers_for (joined input) ≡ answers_for input ++ replicate (length list) accepted
+  all_answers : answers_for (joined input) ≡ answers_for input ++ replicate (length list) (answer_number accepted)
   all_answers =
       ap (answers_to fresh_world) all_commands
       ∙ answers_append (map command_of own) (map command_of (map text list)) fresh_world

@@ -8,6 +8,7 @@ use mathlib.Core.Path.{◌≡◌, refl, sym, ◌∙◌}
 use borrow.Author.Tests.{leb-false, ltb-false, ne_eqb}
 use lib.Dec.{eqb, leb, ltb}
 use lib.ListN.{length, length-append}
+use Rattle.log_entry.proofs.AnswerLaws.{err_ok}
 use Rattle.log_entry.specs.Refusal.{accepted, first_refusal}
 use Rattle.log_entry.proofs.Tests.{and_left, and_right, both, neither_left, neither_right}
 use Rattle.model_protocol.specs.declared.World.{World}
@@ -133,7 +134,7 @@ unfolding step_refusal first_refusal
 inside w s h = go (outside_step (acceptors_counted w.acceptors) s) refl (sym (answer_is_refusal w s) ∙ h)
   where
     go : (t : Bool) → outside_step (acceptors_counted w.acceptors) s ≡ t → step_refusal (parts_of w s) s ≡ accepted → t ≡ false
-    go true e k = absurd (let z : ⊥ = omega (arith, rw e at k) in z)
+    go true e k = absurd (err_ok (rw e at k))
     go false e k = refl
 
 pub reads_as_step : (w : World) (s : Step) → FewCount w → OfList s → (step_of w s).answer ≡ accepted → ReadsAsStep s

@@ -7,7 +7,7 @@ use Rattle.model_agreement.specs.History.{history}
 use Rattle.model_finish.specs.Choice.{choice_of}
 use Rattle.model_finish.specs.Claims.{Closes, Finished}
 use Rattle.model_finish.specs.Such.{Such, current_of}
-use Rattle.model_protocol.specs.declared.Batch.{Batch}
+use Rattle.model_protocol.specs.Batch.{Batch}
 use Rattle.model_protocol.specs.Step.{run}
 use Rattle.text_lines.specs.Lines.{lf, lines, max_lines}
 use Rattle.world_run.specs.Program.{answers_for, world_for}
