@@ -1,10 +1,10 @@
 // A step of the world as a value, whatever its numbers.
 #![tactic(auto)]
 
-ghost use Rattle.std.specs.Prelude.{◌≡◌};
-ghost use Rattle.model_steps.specs.Commands.{commands_in};
+ghost use Rattle.std.specs.Prelude.{[], length, ◌++◌, ◌<◌, ◌≡◌, ◌∷◌};
+ghost use Rattle.model_steps.specs.Commands.{commands_in, most_commands, pushed};
 
-use limits::COMMAND_PLACES;
+use limits::{COMMAND_PLACES, COMMANDS};
 use log_entry::Entry;
 use log_entry::refusal::Refusal;
 
@@ -44,6 +44,18 @@ pub struct Commands {
 }
 
 impl Commands {
+    // Adds a command. Behind the last place there is room for none.
+    #[tactic(auto, unfolding(crate::specs::Commands::pushed))]
+    pub fn push(&mut self, command: Command)
+        ensures pushed { self.new ≡ pushed self.old command }
+        ensures listed { length (commands_in self.old) < most_commands → commands_in self.new ≡ commands_in self.old ++ command ∷ [] }
+    {
+        if self.count < COMMANDS {
+            self.commands[usize::from(self.count)] = command;
+            self.count += 1;
+        }
+    }
+
     // All of the places where the count is above them.
     pub fn as_slice(&self) -> &[Command]
         ensures { result.now ≡ commands_in self.now }

@@ -8,8 +8,8 @@ use mathlib.Core.List.{List, [], ◌∷◌, ◌++◌, append_assoc}
 use mathlib.Core.Option as maybe
 use mathlib.Core.Option.{none, some}
 use mathlib.Core.Path.{◌≡◌, refl, sym, ◌∙◌, ap}
-use borrow.Author.Tests.{leb-false, lt-leb}
-use Rattle.std.proofs.Common.{Bor, Err, None, Ok, Option, Result, Some}
+use borrow.Author.Tests.{eq-eqb, leb-false, lt-leb}
+use Rattle.std.proofs.Common.{Bor, Err, None, Ok, Option, Result, Some, eqb}
 use lib.ListN.{drop, get_or, length, set, take}
 use lib.Seq.{drop-cons}
 use Rattle.std.proofs.lemmas.List.{append-nil, drop_all, take_all, take_more, take_more_set}
@@ -211,3 +211,7 @@ module _ {A : Type 0} (beyond : A → Bool) (r : Reader A) (same : (vs : List �
   pub decimals_read : (s : List ℕ) {d : Result (List ℕ) Unread} {vs : List ℕ} → d ≡ bytes_of (read_kind r.kind s) → d ≡ Ok vs
       → Ok (r.build vs) ≡ answer_of beyond Ok (Err Outside) (Err Unreadable) (read_as r s)
   decimals_read s e h = ap answers (sym h ∙ e) ∙ read_decimals s
+
+-- as many keys as decimals
+pub as_many : {R : Type 0} (m n : ℕ) {x a : R} (b : R) → m ≡ n → x ≡ a → x ≡ cond (eqb m n) a b
+as_many m n b h e = rw (eq-eqb m n h) e

@@ -1,6 +1,7 @@
 // Lines whose fields are decimals.
 ghost use Rattle.std.proofs.Math.Option.{some};
-ghost use Rattle.std.specs.Prelude.{◌≡◌};
+ghost use Rattle.std.specs.Prelude.{Err, cond, eqb, length, ◌≡◌};
+ghost use Rattle.text_entry.specs.declared.Unread.TheVariants.{Unreadable};
 ghost use Rattle.text_entry.specs.Decimals.{byte_of, bytes_of, decimal_fields};
 ghost use Rattle.text_entry.specs.Fields.{kind};
 ghost use Rattle.text_entry.specs.Parts.{front, whole};
@@ -17,7 +18,8 @@ pub fn byte(n: Number) -> Result<u8, Unread>
 }
 
 // The numbers of fields with decimals, of these keys, that the rest of a line consists of.
-fn numbers<const N: usize>(line: &[u8], keys: &[&[u8]; N]) -> Option<[Number; N]>
+fn numbers<const N: usize>(line: &[u8], keys: &[&[u8]]) -> Option<[Number; N]>
+    requires { length keys.now ≡ N }
     ensures { result ≡ whole (front (decimal_fields keys.now) (part 0 line.now)) }
 {
     let mut numbers = [0; N];
@@ -41,14 +43,14 @@ fn bytes<const N: usize>(numbers: [Number; N]) -> Result<[u8; N], Unread>
     Ok(bytes)
 }
 
-// The decimals of a line of this name with fields of these keys.
-pub fn decimals<const N: usize>(
-    line: &[u8],
-    name: &[u8],
-    keys: &[&[u8]; N],
-) -> Result<[u8; N], Unread>
-    ensures { result ≡ bytes_of (read_kind (kind name.now (decimal_fields keys.now)) line.now) }
+// The decimals of a line of this name with fields of these keys. With another number of keys than of
+// decimals no line reads.
+pub fn decimals<const N: usize>(line: &[u8], name: &[u8], keys: &[&[u8]]) -> Result<[u8; N], Unread>
+    ensures { result ≡ cond (eqb (length keys.now) N) (bytes_of (read_kind (kind name.now (decimal_fields keys.now)) line.now)) (Err Unreadable) }
 {
+    if keys.len() != N {
+        return Err(Unread::Unreadable);
+    }
     let Some(rest) = fields::named(line, name) else {
         return Err(Unread::Unreadable);
     };

@@ -128,12 +128,11 @@ pub fn answer<P: Program<N>, W: Write, E: Write, const N: usize>(
     out: &mut [u8; N],
     failed: &[u8],
 ) -> Exchange<P::Session>
-    requires { WasRead P.Session.state P.Session.over P.Session.step P.Session.first reading }
     ensures reading { result.reading ≡ reading }
     ensures prints { PrintsRead P.Session.state P.Session.over P.Session.step P.Session.first P.prints result out.new }
     ensures written { WasWritten (W.contents output.old) (W.contents output.new) out.new result.printed result.is_written }
 {
-    let printed = P::output_of(&reading.input, out);
+    let printed = P::output_of(&reading.input, out).min(N);
     let is_written = print(output, errors, out, printed, failed);
     Exchange {
         reading,

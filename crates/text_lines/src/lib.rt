@@ -125,9 +125,9 @@ pub trait Session {
     fn is_over(&self) -> bool
         ensures { result ≡ over (state self.now) };
 
+    // What is left of a session that is over is not said.
     fn take(&mut self, line: &Line)
-        requires { over (state self.old) ≡ false }
-        ensures { state self.new ≡ step (state self.old) line.now };
+        ensures { over (state self.old) ≡ false → state self.new ≡ step (state self.old) line.now };
 }
 
 // A session, and the line that is gathered for it.

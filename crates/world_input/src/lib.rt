@@ -36,10 +36,10 @@ fn command_of(line: &Line) -> Command
 }
 
 // What the line asks for, after `count` others.
-fn command_at(count: u16, line: &Line) -> Command
+fn command_at(count: usize, line: &Line) -> Command
     ensures { result ≡ command_at count line.now }
 {
-    if MAX_LINES <= count {
+    if usize::from(MAX_LINES) <= count {
         return Err(Refusal::NoPlace);
     }
     command_of(line)
@@ -72,8 +72,7 @@ impl Session for Asked {
     }
 
     fn take(&mut self, line: &Line) {
-        let count = self.commands.count;
-        self.commands.commands[usize::from(count)] = command_at(count, line);
-        self.commands.count = count + 1;
+        let command = command_at(self.commands.as_slice().len(), line);
+        self.commands.push(command);
     }
 }
