@@ -5,7 +5,8 @@
 use finish_io::OUTPUT_BYTES;
 use std::process::ExitCode;
 
-// An output that could not be written ends it with status 1.
+// An output that could not be written ends it with status 1. Each program has its own buffer, so
+// each has a `main`; the rest is the library's.
 fn main(rt: HostRuntime) -> ExitCode {
     let mut out = [0; OUTPUT_BYTES];
     let exchange = finish_io::run(

@@ -62,6 +62,7 @@ fn put_exchange(page: &mut Page, first: u8, n: u8, asked: &[u8])
     ensures { Within (2 * longest_run) page.old page.new (steps_text (deliveries (λ k. first + get_or asked.now k 0) (length asked.now) ++ deliveries (λ k. first + n + k) (length asked.now))) }
 {
     put_asked(page, first, asked);
+    // No more than three acceptors are asked.
     put_in_row(page, first + n, asked.len() as u8);
 }
 

@@ -73,6 +73,7 @@ fn entered(none: Row, stores: u8, records: &[[u8; RECORD_SIZE]]) -> Entered
             answer = read.map(|_| ());
             break;
         };
+        // Indices are widened by `as`: with `From` the proof that they are inside does not close.
         let store = e.store as usize;
         let Request::Vote { by, tx, .. } = e.request else {
             let process = e.process as usize;

@@ -66,7 +66,7 @@ pub struct Parts {
 pub struct VoteParts {
     // Of its transaction's row.
     pub tally: Tally,
-    // Whether it clashes with the list of a kept commit vote.
+    // Whether it clashes with the list of a kept commit vote: no value stands beside it.
     pub clash: bool,
     // Its transaction's.
     pub group: u8,
@@ -77,7 +77,7 @@ pub struct VoteParts {
     pub remembered: u32,
 }
 
-// What an entry is answered, and what it changes.
+// What an entry is answered, and what it changes. No value stands beside a flag here.
 #[derive(Clone, Copy)]
 pub struct Effect {
     pub answer: Answer,
@@ -116,7 +116,7 @@ pub struct Replay {
 }
 
 impl Replay {
-    // The replay without rows.
+    // The replay without rows. It is no `Default`, whose clause would not name it.
     #[tactic(auto, unfolding(crate::specs::Replay::no_replay))]
     pub fn none() -> Replay
         ensures { result ≡ no_replay }

@@ -84,7 +84,7 @@ impl text_lines::Session for Session {
 }
 
 // No output is longer: 1,001 answers, then a line for each transaction and each store, and for each
-// store a line for each transaction.
+// store a line for each transaction. `From` is not for constants, so they widen by `as`.
 pub const OUTPUT_BYTES: usize = ANSWERED_LINES as usize * ANSWER_BYTES + LOG_LINES * LINE_BYTES;
 
 // What is printed for the bytes that were fed: the first bytes of the buffer, as many as the answer

@@ -44,7 +44,7 @@ pub(crate) fn answer_rows(out: &mut [u8], replay: Replay) -> Answer
     ensures out_after { out.new ≡ place_bytes (replay_value (take replay.count (rows_in replay))) out.old }
 {
     let count = replay.count;
-    let rows = count as usize;
+    let rows = usize::from(count);
     if out.len() < 1 + rows * ROW_SIZE {
         return Err(Refusal::NoPlace);
     }

@@ -11,6 +11,7 @@ use log_entry::limits::{UPDATE_BYTES, Update};
 // A list is two hexadecimal digits, an update two for each of its bytes.
 pub const LIST_DIGITS: u32 = 2;
 
+// `From` is not for constants, so this widens by `as`.
 pub const UPDATE_DIGITS: u32 = 2 * UPDATE_BYTES as u32;
 // An update had as many earlier.
 pub const EARLIER_DIGITS: u32 = 8;
@@ -40,6 +41,7 @@ impl Page<'_> {
         }
     }
 
+    // A digit is narrowed by `as`: it is below 10.
     pub fn decimal(&mut self, n: u32)
         ensures { Puts self.old self.new (decimal_bytes n) }
     {
@@ -63,6 +65,7 @@ impl Page<'_> {
     }
 }
 
+// The digit is narrowed by `as`: it is below 16.
 fn hex_digit(d: Update) -> u8
     requires { d < 16 }
     ensures { result ≡ hex_digit d }

@@ -26,7 +26,8 @@ pub struct Reading<S> {
     pub last: usize,
 }
 
-// What was read, how many bytes of the buffer were printed, and whether the writer took them all.
+// What was read, how many bytes of the buffer were printed, and whether the writer took them all:
+// no value stands beside that.
 #[derive(Clone, Copy)]
 pub struct Exchange<S> {
     pub reading: Reading<S>,

@@ -13,7 +13,7 @@ pub const MAX_LINE_BYTES: u8 = 100;
 // A program reads at most this many lines.
 pub const MAX_LINES: u16 = 1000;
 
-// Line 1,001 is answered too.
+// Line 1,001 is answered too. `From` is not for the length of an array, so lengths widen by `as`.
 pub const ANSWERED_LINES: u16 = MAX_LINES + 1;
 
 const LF: u8 = 10;

@@ -25,7 +25,7 @@ const RESTORE_BYTES: usize = (1 + TRANSACTION_PLACES * 2) * LINE_BYTES
     + TRANSACTION_PLACES * RUNNING_BYTES;
 
 // No world prints as more: a coordinator's line and its log; for each process a line for each
-// transaction that it heard of, and a restore.
+// transaction that it heard of, and a restore. `From` is not for constants, so they widen by `as`.
 pub const WORLD_BYTES: usize = COORDINATORS as usize * (1 + LOG_LINES) * LINE_BYTES
     + PROCESSES as usize * TRANSACTION_PLACES * HEARD_BYTES
     + PROCESSES as usize * RESTORE_BYTES;
