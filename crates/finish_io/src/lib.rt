@@ -34,8 +34,8 @@ impl Program<OUTPUT_BYTES> for Finish {
     ghost within = { λ bytes buffer used p. (p.prints.count, p.prints.counted) };
 }
 
-// The input is read as `world` reads it, in pieces of its own. The output stands in the buffer, which
-// is lent.
+// The input is read as `world` reads it, in pieces of its own. The output stands in the buffer,
+// which is lent.
 pub fn run<R: Read, W: Write, E: Write>(
     reader: &mut R,
     output: &mut W,

@@ -159,8 +159,8 @@ pub fn read(stores: u8, bytes: &[u8]) -> Result<Entry, Refusal>
     n.read(stores)
 }
 
-// An update's bytes, low byte first, stored from a place on; what has no room is left out. The place
-// is fixed in a record and nothing is put behind, so a page would be no plainer.
+// An update's bytes, low byte first, stored from a place on; what has no room is left out. The
+// place is fixed in a record and nothing is put behind, so a page would be no plainer.
 pub fn put_low_first(out: &mut [u8], at: usize, u: Update)
     ensures { out.new ≡ sets out.old at (low_first update_bytes u) }
 {

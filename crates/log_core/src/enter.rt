@@ -27,8 +27,8 @@ impl Log {
         self.enter(e)
     }
 
-    // The process, which holds `by`, votes for the store on the transaction. It is for a caller with
-    // the numbers of a vote; the programs have entries.
+    // The process, which holds `by`, votes for the store on the transaction. It is for a caller
+    // with the numbers of a vote; the programs have entries.
     pub fn vote(
         mut self,
         process: u8,

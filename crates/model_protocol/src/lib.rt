@@ -179,14 +179,14 @@ pub struct Down {
     pub processes: [bool; PROCESS_PLACES],
 }
 
-// The world. What stands beside its party and not in it (logs, replays, follows) is so for speed: no
-// step copies it that does not look at it (docs/PERFORMANCE.md has what each of these brought).
+// The world. What stands beside its party and not in it (logs, replays, follows) is so for speed:
+// no step copies it that does not look at it (docs/PERFORMANCE.md has what each of these brought).
 #[derive(Clone, Copy)]
 pub struct World {
     // How many acceptors there are; before setup there are 0.
     pub acceptors: u8,
-    // Acceptor a's slot of instance i stands at a * 16 + i: a step names its slot by this one place,
-    // as `slot_of` does.
+    // Acceptor a's slot of instance i stands at a * 16 + i: a step names its slot by this one
+    // place, as `slot_of` does.
     pub slots: [AcceptorSlot; SLOT_PLACES],
     pub coordinators: [Coordinator; COORDINATOR_PLACES],
     // By coordinator.

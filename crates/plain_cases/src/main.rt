@@ -1,5 +1,5 @@
-// Runs `plain` on each file that an argument names, and prints its name before what it prints. After
-// that it prints which stores are involved in each transaction, which `plain` does not.
+// Runs `plain` on each file that an argument names, and prints its name before what it prints.
+// After that it prints which stores are involved in each transaction, which `plain` does not.
 #![tactic(auto)]
 
 use log_core::Log;

@@ -34,8 +34,8 @@ fn add_entry(records: &mut [u8], count: usize, log: Log, e: Entry) -> Answer
     Ok(())
 }
 
-// In these calls numbers are narrowed by `as` behind the test of their limit, and an index of 32 bits
-// is widened by it, since `usize` has no `From` of one.
+// In these calls numbers are narrowed by `as` behind the test of their limit, and an index of 32
+// bits is widened by it, since `usize` has no `From` of one.
 
 // The entry that the numbers stand for, after the lent records.
 fn add(stores: u32, records: &mut [u8], count: usize, numbers: Numbers) -> Answer

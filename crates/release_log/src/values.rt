@@ -43,8 +43,10 @@ pub(crate) fn answer_rows(out: &mut [u8], replay: Replay) -> Answer
     ensures value { result ≡ place_answer (replay_value (take replay.count (rows_in replay))) out.old }
     ensures out_after { out.new ≡ place_bytes (replay_value (take replay.count (rows_in replay))) out.old }
 {
+    // The same number at two widths, for the byte that is stored and for places: `as` says it as
+    // well.
     let count = replay.count;
-    let rows = usize::from(count);
+    let rows = count as usize;
     if out.len() < 1 + rows * ROW_SIZE {
         return Err(Refusal::NoPlace);
     }

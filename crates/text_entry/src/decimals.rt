@@ -43,8 +43,8 @@ fn bytes<const N: usize>(numbers: [Number; N]) -> Result<[u8; N], Unread>
     Ok(bytes)
 }
 
-// The decimals of a line of this name with fields of these keys. With another number of keys than of
-// decimals no line reads.
+// The decimals of a line of this name with fields of these keys. With another number of keys than
+// of decimals no line reads.
 pub fn decimals<const N: usize>(line: &[u8], name: &[u8], keys: &[&[u8]]) -> Result<[u8; N], Unread>
     ensures { result ≡ cond (eqb (length keys.now) N) (bytes_of (read_kind (kind name.now (decimal_fields keys.now)) line.now)) (Err Unreadable) }
 {

@@ -16,8 +16,8 @@ use log_votes::{Outcome, Row};
 use text_ascii::{Page, UPDATE_DIGITS};
 use text_lines::{ANSWERED_LINES, Answers};
 
-// No printed line is longer than a replay's: three fields of a byte, an update and the LF. `From` is
-// not for constants, so they widen by `as`.
+// No printed line is longer than a replay's: three fields of a byte, an update and the LF. `From`
+// is not for constants, so they widen by `as`.
 pub const LINE_BYTES: usize = 32 + UPDATE_DIGITS as usize;
 
 // No answer's line is longer: its number has at most five digits, and its answer is a byte.

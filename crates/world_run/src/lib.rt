@@ -47,8 +47,8 @@ pub fn run_fed(input: Input) -> Session
     run(asked.commands)
 }
 
-// No output is longer: 1,001 answers, and the lines of a world. `From` is not for constants, so they
-// widen by `as`.
+// No output is longer: 1,001 answers, and the lines of a world. `From` is not for constants, so
+// they widen by `as`.
 pub const OUTPUT_BYTES: usize = ANSWERED_LINES as usize * ANSWER_BYTES + WORLD_BYTES;
 
 // What is printed for the bytes that were fed: the first bytes of the buffer, as many as the answer
