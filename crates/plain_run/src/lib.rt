@@ -4,6 +4,7 @@
 ghost use Rattle.std.specs.Prelude.{◌≡◌};
 ghost use Rattle.plain_run.specs.Printed.{PrintsFed};
 ghost use Rattle.log_core.specs.declared.Log.{Log};
+ghost use Rattle.log_core.specs.Enter.{enter};
 ghost use Rattle.plain_run.specs.Session.{answer_line, carried_out, fresh_session, is_over, line_entered};
 
 use log_core::Log;
@@ -43,6 +44,14 @@ fn command_at(count: u16, line: &Line) -> Result<Entry, Refusal>
     Ok(entry)
 }
 
+// The entry is entered. By itself, since what makes room for a second log is done where this begins:
+// a line that is refused does without.
+fn enter(log: &mut Log, entry: Entry)
+    ensures { log.new ≡ (enter log.old entry).log }
+{
+    *log = log.enter(entry).log;
+}
+
 impl text_lines::Session for Session {
     ghost use Rattle.plain_run.specs.declared.Session.{Session};
 
@@ -76,7 +85,7 @@ impl text_lines::Session for Session {
                 let answer = self.log.answer_to(entry);
                 self.answers.push(refusal::number(answer));
                 if answer.is_ok() {
-                    self.log = self.log.enter(entry).log;
+                    enter(&mut self.log, entry);
                 }
             }
         }

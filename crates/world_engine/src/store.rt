@@ -4,11 +4,15 @@ ghost use Rattle.model_steps.specs.Limits.{messages};
 ghost use Rattle.model_protocol.specs.Change.{is_given};
 ghost use Rattle.model_protocol.specs.Message.{said_store};
 ghost use Rattle.model_protocol.specs.Step.{message_for, parts_at, put_back};
-ghost use Rattle.model_protocol.specs.World.{coordinator_of, log_of, replay_with};
+ghost use Rattle.log_core.specs.Enter.{feed};
+ghost use Rattle.log_core.specs.Replay.{no_replay, replay_of};
+ghost use Rattle.model_protocol.specs.Batch.{entries_of};
+ghost use Rattle.model_protocol.specs.Process.{with_follow};
+ghost use Rattle.model_protocol.specs.World.{coordinator_of, log_of, no_follows, replay_with};
 ghost use Rattle.world_engine.specs.There.{There};
 
-use log_core::Replay;
-use model_protocol::{Beside, Change, Message, Parts, Places, World};
+use log_core::{Log, Replay};
+use model_protocol::{Batch, Beside, Change, Follows, Message, Parts, Places, World};
 use model_steps::Step;
 use world_coordinator::learn;
 use world_fresh::no_follows;
@@ -54,6 +58,34 @@ fn store_of(m: Message) -> u8
     }
 }
 
+// What a step does beside the parts is in functions of its own. Room for a log, a replay or follows is
+// cleared where a function begins, and most steps need none.
+fn learn_batch(log: &mut Log, batch: Batch)
+    ensures { log.new ≡ feed log.old (entries_of batch) }
+{
+    *log = learn::fed(*log, batch);
+}
+
+fn give_replay(replay: &mut Replay, log: &Log, store: u8)
+    ensures { replay.new ≡ replay_of log.now store }
+{
+    *replay = log.replay(store);
+}
+
+fn keep_follow(follows: &mut Follows, m: Message)
+    ensures { follows.new ≡ with_follow follows.old m }
+{
+    *follows = world_process::with_follow(*follows, m);
+}
+
+fn start_anew(restored: &mut Replay, follows: &mut Follows)
+    ensures restored { restored.new ≡ no_replay }
+    ensures follows { follows.new ≡ no_follows }
+{
+    *restored = Replay::none();
+    *follows = no_follows();
+}
+
 // The parts go to their places, and what the step does beside them is done. `from` is the number of
 // the message delivered.
 pub(crate) fn put_back(w: &mut World, at: Places, from: usize, change: Change)
@@ -71,17 +103,13 @@ pub(crate) fn put_back(w: &mut World, at: Places, from: usize, change: Change)
     w.processes[p] = change.parts.process;
     match change.beside {
         Beside::Nothing => {}
-        Beside::Learns(batch) => w.logs[c] = learn::fed(w.logs[c], batch),
+        Beside::Learns(batch) => learn_batch(&mut w.logs[c], batch),
         Beside::GivesReplay => {
-            w.replays[usize::from(w.sent)] = w.logs[c].replay(store_of(change.message));
+            let store = store_of(change.message);
+            give_replay(&mut w.replays[usize::from(w.sent)], &w.logs[c], store);
         }
         Beside::TakesReplay => w.restored[p] = w.replays[from],
-        Beside::KeepsFollow => {
-            w.follows[p] = world_process::with_follow(w.follows[p], change.parts.message);
-        }
-        Beside::StartsAnew => {
-            w.restored[p] = Replay::none();
-            w.follows[p] = no_follows();
-        }
+        Beside::KeepsFollow => keep_follow(&mut w.follows[p], change.parts.message),
+        Beside::StartsAnew => start_anew(&mut w.restored[p], &mut w.follows[p]),
     }
 }

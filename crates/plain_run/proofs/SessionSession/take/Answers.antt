@@ -9,7 +9,7 @@ returns-in-Err c running =
 
 pub returns-then-is_ok : goal.returns-then-is_ok
 returns-then-is_ok c running =
-    (λ i. record { log = (c.enter.ensures i).log; answers = c.push-in-Ok.ensures i })
+    (λ i. record { log = c.enter.ensures i; answers = c.push-in-Ok.ensures i })
     ∙ entry_accepted c.args.self.now c.args.line.now c.command_at.result c.command_at.ensures c.in-Ok.is c.answer_to-answer.ensures c.number-in-Ok.ensures
 
 pub returns-else-is_ok : goal.returns-else-is_ok
