@@ -44,8 +44,8 @@ fn command_at(count: u16, line: &Line) -> Result<Entry, Refusal>
     Ok(entry)
 }
 
-// The entry is entered. By itself, since what makes room for a second log is done where this begins:
-// a line that is refused does without.
+// The entry is entered. It has a function of its own, since the compiler clears the room of one
+// whenever it is called: a line that is refused needs no second log.
 fn enter(log: &mut Log, entry: Entry)
     ensures { log.new ≡ (enter log.old entry).log }
 {

@@ -5,7 +5,7 @@ ghost use Rattle.model_protocol.specs.Change.{is_given};
 ghost use Rattle.model_protocol.specs.Message.{said_store};
 ghost use Rattle.model_protocol.specs.Step.{message_for, parts_at, put_back};
 ghost use Rattle.log_core.specs.Enter.{feed};
-ghost use Rattle.log_core.specs.Replay.{no_replay, replay_of};
+ghost use Rattle.log_core.specs.Replay.{no_replay};
 ghost use Rattle.model_protocol.specs.Batch.{entries_of};
 ghost use Rattle.model_protocol.specs.Process.{with_follow};
 ghost use Rattle.model_protocol.specs.World.{coordinator_of, log_of, no_follows, replay_with};
@@ -58,18 +58,12 @@ fn store_of(m: Message) -> u8
     }
 }
 
-// What a step does beside the parts is in functions of its own. Room for a log, a replay or follows is
-// cleared where a function begins, and most steps need none.
+// What few steps do beside the parts is in functions of its own: the compiler clears the room of a
+// function whenever it is called, and most steps need no second log, replay or follows.
 fn learn_batch(log: &mut Log, batch: Batch)
     ensures { log.new ≡ feed log.old (entries_of batch) }
 {
     *log = learn::fed(*log, batch);
-}
-
-fn give_replay(replay: &mut Replay, log: &Log, store: u8)
-    ensures { replay.new ≡ replay_of log.now store }
-{
-    *replay = log.replay(store);
 }
 
 fn keep_follow(follows: &mut Follows, m: Message)
@@ -105,8 +99,7 @@ pub(crate) fn put_back(w: &mut World, at: Places, from: usize, change: Change)
         Beside::Nothing => {}
         Beside::Learns(batch) => learn_batch(&mut w.logs[c], batch),
         Beside::GivesReplay => {
-            let store = store_of(change.message);
-            give_replay(&mut w.replays[usize::from(w.sent)], &w.logs[c], store);
+            w.replays[usize::from(w.sent)] = w.logs[c].replay(store_of(change.message));
         }
         Beside::TakesReplay => w.restored[p] = w.replays[from],
         Beside::KeepsFollow => keep_follow(&mut w.follows[p], change.parts.message),

@@ -15,7 +15,7 @@ returns-in-Learns c =
 pub returns-in-GivesReplay : goal.returns-in-GivesReplay
 returns-in-GivesReplay c =
     all_put c.args.w.now c.args.at c.args.from c.args.change _ _ _ _ _ _ c.from-c.ensures c.from-p.ensures
-    (given_put c.args.w.now c.args.at c.args.from c.args.change _ _ c.from-c.ensures c.from-p.ensures _ _ _ _ (omega arith) c.in-GivesReplay.is c.from.ensures c.store_of.ensures c.give_replay.ensures)
+    (given_put c.args.w.now c.args.at c.args.from c.args.change _ _ c.from-c.ensures c.from-p.ensures _ _ _ _ (omega arith) c.in-GivesReplay.is c.from.ensures c.store_of.ensures c.replay.ensures)
 
 pub returns-in-TakesReplay : goal.returns-in-TakesReplay
 returns-in-TakesReplay c =
