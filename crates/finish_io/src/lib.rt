@@ -35,7 +35,8 @@ impl Program<OUTPUT_BYTES> for Finish {
 }
 
 // The input is read as `world` reads it, in pieces of its own. The output stands in the buffer,
-// which is lent.
+// which is lent. README speaks of the function that runs each program, so each has one; what they
+// share is in text_io.
 pub fn run<R: Read, W: Write, E: Write>(
     reader: &mut R,
     output: &mut W,

@@ -38,6 +38,7 @@ fn command_at(count: u16, line: &Line) -> Result<Entry, Refusal>
     if text_entry::is_outside(&reading) {
         return Err(Refusal::OutsideLimits);
     }
+    // docs/DECISIONS.md names this form for the place, so it is no function that `world` shares.
     let Ok(entry) = reading else {
         return Err(Refusal::Unreadable);
     };

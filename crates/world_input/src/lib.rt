@@ -19,6 +19,7 @@ pub struct Asked {
 // What the lines so far ask for, and the line that is gathered.
 pub type Input = text_lines::Input<Asked>;
 
+// What the line asks for.
 fn command_of(line: &Line) -> Command
     ensures { result ≡ held_command line.now }
 {
@@ -29,6 +30,7 @@ fn command_of(line: &Line) -> Command
     if text_entry::is_outside(&reading) {
         return Err(Refusal::OutsideLimits);
     }
+    // docs/DECISIONS.md names this form for the place, so it is no function that `plain` shares.
     let Ok(step) = reading else {
         return Err(Refusal::Unreadable);
     };

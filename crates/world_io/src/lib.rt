@@ -32,7 +32,8 @@ impl Program<OUTPUT_BYTES> for World {
 }
 
 // The pieces are read into the buffer one after the other, and then the output stands there. It is
-// lent: nothing of its size is copied.
+// lent: nothing of its size is copied. README speaks of the function that runs each program, so
+// each has one; what they share is in text_io.
 pub fn run<R: Read, W: Write, E: Write>(
     reader: &mut R,
     output: &mut W,
