@@ -1,8 +1,7 @@
-use Rattle.std.proofs.Common.{Bool, length, take, ◌≡◌, ◌≤◌}
-use Rattle.std.specs.Fn.{FnReturnsAt}
+use Rattle.std.proofs.Common.{length, take, ◌≡◌, ◌≤◌}
 use Rattle.log_votes.specs.Scan.{set_of}
 use Rattle.log_votes.proofs.sets.set_of.Given as goal
 
 abbrev pub invariant-loop-i : goal.invariant-loop-i
 invariant-loop-i g l =
-    length l.items ≤ 32 → (test : _ → Bool) → ((x : _) (b : Bool) → FnReturnsAt g.F.Fn l.passes x b → b ≡ test x) → l.set ≡ set_of test (take l.i l.items)
+    length l.items ≤ 32 → l.set ≡ set_of (g.S.Test.passing l.test) (take l.i l.items)
