@@ -8,6 +8,7 @@ use plain_io::OUTPUT_BYTES;
 use std::fs::File;
 use std::io;
 use std::io::Write;
+use text_io::files::OnFile;
 
 // The transaction, and for each store the number of its involvement.
 fn involvement(rt: &HostRuntime, log: Log, tx: u8) -> io::Result<()> {
@@ -31,13 +32,17 @@ fn involvements(rt: &HostRuntime, log: Log) -> io::Result<()> {
     involvement(rt, log, TRANSACTIONS)
 }
 
-fn run(rt: &HostRuntime, file: &mut File) -> io::Result<()> {
-    let mut out = [0; OUTPUT_BYTES];
-    let ran = plain_io::run(file, &mut rt.stdout(), &mut rt.stderr(), &mut out);
-    let session = ran.reading.input.finish();
-    involvements(rt, session.log)
+struct Plain;
+
+impl OnFile for Plain {
+    fn run(rt: &HostRuntime, file: &mut File) -> io::Result<()> {
+        let mut out = [0; OUTPUT_BYTES];
+        let ran = plain_io::run(file, &mut rt.stdout(), &mut rt.stderr(), &mut out);
+        let session = ran.reading.input.finish();
+        involvements(rt, session.log)
+    }
 }
 
 fn main(rt: HostRuntime) -> io::Result<()> {
-    text_io::files::each(&rt, run)
+    text_io::files::each::<Plain>(&rt)
 }

@@ -18,18 +18,17 @@ fn open(rt: &HostRuntime, name: &[u8]) -> io::Result<File> {
     }
 }
 
+// What is run on a file.
+pub trait OnFile {
+    fn run(rt: &HostRuntime, file: &mut File) -> io::Result<()>;
+}
+
 // Prints the name, and runs what is to be run on the file.
-fn one<F: Fn(&HostRuntime, &mut File) -> io::Result<()>>(
-    rt: &HostRuntime,
-    name: &[u8],
-    run: &F,
-) -> io::Result<()>
-    requires { F.IsAlwaysCallable run.now }
-{
+fn one<F: OnFile>(rt: &HostRuntime, name: &[u8]) -> io::Result<()> {
     rt.stdout().write_all(name)?;
     rt.stdout().write_all(b"\n")?;
     match open(rt, name) {
-        Ok(mut file) => run(rt, &mut file),
+        Ok(mut file) => F::run(rt, &mut file),
         Err(e) => {
             rt.stderr().write_all(name)?;
             eprintln!(rt; ": {e}")
@@ -39,17 +38,12 @@ fn one<F: Fn(&HostRuntime, &mut File) -> io::Result<()>>(
 
 // Runs it on each file that an argument names, in order, and prints the file's name before. A file
 // that cannot be opened is said to the errors.
-pub fn each<F: Fn(&HostRuntime, &mut File) -> io::Result<()>>(
-    rt: &HostRuntime,
-    run: F,
-) -> io::Result<()>
-    requires { F.IsAlwaysCallable run }
-{
+pub fn each<F: OnFile>(rt: &HostRuntime) -> io::Result<()> {
     let mut name = [0; NAME_BYTES];
     for i in 1..=MAX_FILES {
         match rt.arg(i, &mut name) {
-            Ok(n) => one(rt, &name[..n], &run)?,
-            Err(FillError::TooLong) => one(rt, b"", &run)?,
+            Ok(n) => one::<F>(rt, &name[..n])?,
+            Err(FillError::TooLong) => one::<F>(rt, b"")?,
             Err(FillError::NotPresent) => break,
         }
     }
