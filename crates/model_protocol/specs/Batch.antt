@@ -1,17 +1,17 @@
 -- Batches: "A batch has 1 to 4 entries".
-use Rattle.std.specs.Prelude.{List, length, replicate, take}
+use Rattle.std.specs.Prelude.{false, List, length, replicate, take}
 use Rattle.std.proofs.lemmas.List.Edits.{sets}
 use Rattle.log_entry.specs.declared.Entry.{Entry}
-use Rattle.log_entry.specs.Entry.{take_entry}
+use Rattle.log_entry.specs.Entry.{vote_entry}
 use Rattle.model_protocol.specs.declared.Entries.{Entries}
 use Rattle.model_protocol.specs.Limits.{batch_entries}
 
 abbrev pub Batch : Type 0
 Batch = Entries batch_entries
 
--- the place of no entry
+-- the place of no entry: a vote of zeros
 abbrev pub no_entry : Entry
-no_entry = take_entry 0 0 0
+no_entry = vote_entry 0 0 0 0 0 0 false 0
 
 -- the place of no batch
 unfoldable pub no_batch : Batch

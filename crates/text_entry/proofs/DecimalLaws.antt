@@ -186,31 +186,45 @@ pub kind_elements : (k : Kind) (s vs : List ℕ) → read_kind k s ≡ some vs �
 kind_elements k s vs h = by_fields k vs s (line_text_lem k s vs h)
 
 -- a kind of decimals: the answer by the decimals of a line is that by what the line stands for
-module _ {A : Type 0} (beyond : A → Bool) (r : Reader A) (same : (vs : List ℕ) → any_beyond (elements (length r.kind.fields) 0 vs) ≡ beyond (r.build vs)) where
-  abbrev answers : Result (List ℕ) Unread → Result A Unread
-  answers (Ok vs) = Ok (r.build vs)
-  answers (Err unread) = Err unread
+module _ {A R : Type 0} (read : A → R) (outside unreadable : R) (beyond : A → Bool) (r : Reader A) (same : (vs : List ℕ) → any_beyond (elements (length r.kind.fields) 0 vs) ≡ beyond (r.build vs)) where
+  abbrev pub answers : Result (List ℕ) Unread → R
+  answers (Ok vs) = read (r.build vs)
+  answers (Err Outside) = outside
+  answers (Err Unreadable) = unreadable
 
-  read_decimals : (s : List ℕ) → answers (bytes_of (read_kind r.kind s)) ≡ answer_of beyond Ok (Err Outside) (Err Unreadable) (read_as r s)
-  read_decimals s = go (read_kind r.kind s) refl
+  answer_by_lem : (s : List ℕ) → answers (bytes_of (read_kind r.kind s)) ≡ answer_of beyond read outside unreadable (read_as r s)
+  answer_by_lem s = go (read_kind r.kind s) refl
     where
-      fits : (b : Bool) (vs : List ℕ) → answers (cond b (Err Outside) (Ok vs)) ≡ cond b (Err Outside) (Ok (r.build vs))
+      fits : (b : Bool) (vs : List ℕ) → answers (cond b (Err Outside) (Ok vs)) ≡ cond b outside (read (r.build vs))
       fits true vs = refl
       fits false vs = refl
 
-      go : (o : maybe.Option (List ℕ)) → read_kind r.kind s ≡ o → answers (bytes_of o) ≡ answer_of beyond Ok (Err Outside) (Err Unreadable) (made r.build o)
+      go : (o : maybe.Option (List ℕ)) → read_kind r.kind s ≡ o → answers (bytes_of o) ≡ answer_of beyond read outside unreadable (made r.build o)
       go none h = refl
       go (some vs) h =
           fits (any_beyond vs) vs
-          ∙ ap (λ (b : Bool). cond b (Err Outside) (Ok (r.build vs))) (ap any_beyond (kind_elements r.kind s vs h) ∙ same vs)
+          ∙ ap (λ (b : Bool). cond b outside (read (r.build vs))) (ap any_beyond (kind_elements r.kind s vs h) ∙ same vs)
+
+  pub by_decimals : (s : List ℕ) {d : Result (List ℕ) Unread} {a : R} → d ≡ bytes_of (read_kind r.kind s) → a ≡ answers d
+      → a ≡ answer_of beyond read outside unreadable (read_as r s)
+  by_decimals s e h = h ∙ ap answers e ∙ answer_by_lem s
+
+-- and where that answer is a result: if the line does not read, and if it does
+module _ {A : Type 0} (beyond : A → Bool) (r : Reader A) (same : (vs : List ℕ) → any_beyond (elements (length r.kind.fields) 0 vs) ≡ beyond (r.build vs)) where
+  abbrev results : Result (List ℕ) Unread → Result A Unread
+  results = answers Ok (Err Outside) (Err Unreadable) beyond r same
+
+  unread_as_is : (unread : Unread) → Err unread ≡ results (Err unread)
+  unread_as_is Outside = refl
+  unread_as_is Unreadable = refl
 
   pub decimals_unread : (s : List ℕ) {d : Result (List ℕ) Unread} {unread : Unread} → d ≡ bytes_of (read_kind r.kind s) → d ≡ Err unread
       → Err unread ≡ answer_of beyond Ok (Err Outside) (Err Unreadable) (read_as r s)
-  decimals_unread s e h = ap answers (sym h ∙ e) ∙ read_decimals s
+  decimals_unread s {d} {unread} e h = by_decimals Ok (Err Outside) (Err Unreadable) beyond r same s e (unread_as_is unread ∙ ap results (sym h))
 
   pub decimals_read : (s : List ℕ) {d : Result (List ℕ) Unread} {vs : List ℕ} → d ≡ bytes_of (read_kind r.kind s) → d ≡ Ok vs
       → Ok (r.build vs) ≡ answer_of beyond Ok (Err Outside) (Err Unreadable) (read_as r s)
-  decimals_read s e h = ap answers (sym h ∙ e) ∙ read_decimals s
+  decimals_read s e h = by_decimals Ok (Err Outside) (Err Unreadable) beyond r same s e (ap results (sym h))
 
 -- as many keys as decimals
 pub as_many : {R : Type 0} (m n : ℕ) {x a : R} (b : R) → m ≡ n → x ≡ a → x ≡ cond (eqb m n) a b

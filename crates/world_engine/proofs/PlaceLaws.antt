@@ -1,23 +1,27 @@
 -- Where the parts of a step stand: the world has every place of it.
 use Prim.Native.Nat.{ℕ, ◌<◌, ◌+◌, ◌*◌, ◌%◌}
 use mathlib.Core.Bool.{false, true≢false}
-use mathlib.Core.Path.{◌≡◌, refl}
+use mathlib.Core.Path.{◌≡◌, ap, refl, ◌∙◌}
 use native.Mathlib.Nat.{mod-lt}
 use native.Mathlib.Omega.{arith}
+use lib.ListN.{get_or, length}
 use Rattle.log_entry.specs.Limits.{process_places}
+use Rattle.log_votes.proofs.InList.{in_list}
 use Rattle.log_core.specs.declared.Log.{Log}
 use Rattle.model_steps.specs.declared.Step.{Step}
 use Rattle.model_steps.specs.declared.Step.TheVariants.{Setup, Request, Open, Propose, Deliver, Tell, Restore, Follow, Crash, Back}
 use Rattle.model_steps.specs.Limits.{coordinators, instances, messages}
 use Rattle.model_protocol.specs.declared.Message.{Message}
 use Rattle.model_protocol.specs.declared.Places.{Places}
+use Rattle.model_protocol.specs.declared.World.{World}
 use Rattle.model_owners.proofs.Owners.{owner_is_coordinator}
 use Rattle.model_protocol.specs.Kind.{Kind}
 use Rattle.model_protocol.specs.Kind as kind
 use Rattle.model_protocol.specs.Limits.{slot_places}
-use Rattle.model_protocol.specs.Message.{said_acceptor, said_ballot, said_inst, said_kind, said_to}
+use Rattle.model_protocol.specs.Message.{no_message, said_acceptor, said_ballot, said_inst, said_kind, said_to}
 use Rattle.model_protocol.specs.Places.{delivery_places, message_at, only_owner, places_of}
 use Rattle.model_protocol.specs.Step.{message_for}
+use Rattle.model_protocol.specs.World.{message_of}
 use Rattle.world_parts.specs.Asks.{asks_log}
 use Rattle.world_engine.specs.There.{There}
 
@@ -81,3 +85,14 @@ not_asked (Back p t) d l n h = refl
 
 pub message_small : (n : ℕ) (s : Step) → n ≡ message_at s → n < messages
 message_small n s e = let h = message_inside s in omega (arith, e, h)
+
+-- the message delivered is there, so it is the same whatever d stands behind the last
+module _ (w : World) (s : Step) (from : ℕ) (d : Message) (here : from < length w.messages) where
+  pub message_there : get_or w.messages from d ≡ message_of w from
+  message_there = in_list w.messages from d no_message here
+
+  pub places_of_it : {at : Places} → at ≡ places_of s (get_or w.messages from d) → at ≡ places_of s (message_of w from)
+  places_of_it is = is ∙ ap (places_of s) message_there
+
+  pub message_for_it : (l : Log) (n : ℕ) {m : Message} → m ≡ message_for s (get_or w.messages from d) l n → m ≡ message_for s (message_of w from) l n
+  message_for_it l n is = is ∙ ap (λ (x : Message). message_for s x l n) message_there

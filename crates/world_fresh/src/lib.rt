@@ -19,11 +19,13 @@ use model_protocol::{
     Round, World,
 };
 
-// These are no `Default`: a row of N entries has none, and an entry has no zero that is meant.
+// The place of no entry: a vote of zeros, which says abort. It and the blanks below are no
+// `Default`: a row of N entries has none, and their clauses name the blank, which that of `Default`
+// does not.
 pub fn no_entry() -> Entry
     ensures { result ≡ no_entry }
 {
-    Entry::take_of(0, 0, 0)
+    Entry::vote_of(0, 0, 0, 0, 0, 0, false, 0)
 }
 
 #[tactic(auto, unfolding(model_protocol::specs::Batch::no_batch))]

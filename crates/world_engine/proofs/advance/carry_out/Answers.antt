@@ -5,7 +5,7 @@ use Rattle.model_protocol.specs.declared.World.{World}
 use Rattle.model_protocol.specs.Step.{answered, step_of}
 use Rattle.world_engine.specs.Commands.{carried_out}
 use Rattle.world_engine.proofs.CommandLaws.{step_taken, count_fits, number_left}
-use Rattle.world_engine.proofs.PlaceLaws.{places_there}
+use Rattle.world_engine.proofs.PlaceLaws.{message_for_it, message_small, places_of_it, places_there}
 use Rattle.world_engine.proofs.advance.carry_out.Goals as goal
 
 -- the world has the places of the step
@@ -37,7 +37,10 @@ send-requires c =
 pub returns : goal.returns
 returns c =
     let from = c.from-from.ensures ∙ c.message_at.ensures in
+    let small = message_small c.from-from.result c.in_ok-s.s from in
+    let at = places_of_it c.args.w.now c.in_ok-s.s c.from-from.result _ (omega (arith, small)) c.places-at.ensures in
+    let message = message_for_it c.args.w.now c.in_ok-s.s c.from-from.result _ (omega (arith, small)) _ _ c.message_of-message.ensures in
     let taken : answered c.send.new.w c.change-change.result.answer ≡ step_of c.args.w.now c.in_ok-s.s =
-    step_taken c.args.w.now c.in_ok-s.s _ _ _ _ _ _ _ from c.places-at.ensures c.message_of-message.ensures c.parts_at-parts.ensures c.change-change.ensures c.put_back.ensures c.send.ensures in
+    step_taken c.args.w.now c.in_ok-s.s _ _ _ _ _ _ _ from at message c.parts_at-parts.ensures c.change-change.ensures c.put_back.ensures c.send.ensures in
     let carried = taken ∙ sym (ap (carried_out c.args.w.now) c.in_ok-s.was) in
     record { world = ap (λ (s : Stepped). s.world) carried; answer = ap (λ (s : Stepped). s.answer) carried }
