@@ -10,22 +10,28 @@ use model_steps::limits::MOST_ACCEPTORS;
 use std::marker::Model;
 use world_messages::parties;
 
-// The acceptors that are up, the lowest first: the first `count`.
-#[derive(Drop)]
+// The acceptors that are up, the lowest first: the first `count`. The places behind them are 0, so
+// that the list says all of the row. Without that it could not be `Copy`.
+#[derive(Clone, Copy)]
 pub struct Up {
-    ids: [u8; ACCEPTOR_PLACES],
-    count: usize,
+    pub ids: [u8; ACCEPTOR_PLACES],
+    pub count: usize,
 }
 
 impl Model for Up {
-    ghost use Rattle.std.specs.Prelude.{List, ℕ, take, ◌≤◌};
+    ghost use Rattle.std.specs.Prelude.{List, ℕ, ◌≡◌, ◌≤◌, ◌++◌, drop, length, refl, replicate, take};
+    ghost use Rattle.std.proofs.Common.{arith, length-take-le, take-append-drop};
     ghost use Rattle.model_steps.specs.Limits.{most_acceptors};
 
     ghost Value = { List ℕ };
 
     ghost view = { λ u. take u.count u.ids };
 
-    ghost invariant = { λ u. u.count ≤ most_acceptors };
+    ghost invariant = { λ u. (u.count ≤ most_acceptors) × (length u.ids ≡ most_acceptors) × (drop u.count u.ids ≡ drop u.count (replicate most_acceptors 0)) };
+
+    ghost inverse = { λ list. record { ids = list ++ drop (length list) (replicate most_acceptors 0); count = length list } };
+
+    ghost inverse_ok = { λ u h. rw (length-take-le u.count u.ids (omega (arith, h.0, h.1)), ← h.2, take-append-drop u.count u.ids) refl };
 }
 
 impl Up {
