@@ -1,7 +1,7 @@
 // The step deliver: what a message of each kind does to its receiver.
 #![tactic(auto)]
 
-ghost use Rattle.std.specs.Prelude.{cond, ◌&&◌, not, ◌≡◌, ◌<◌};
+ghost use Rattle.std.specs.Prelude.{cond, ◌&&◌, not, true, ◌≡◌, ◌<◌};
 ghost use Rattle.log_entry.specs.Limits.{transactions};
 ghost use Rattle.model_steps.specs.declared.Step.TheVariants.{Deliver};
 ghost use Rattle.model_paxos.specs.Majority.{majority};
@@ -39,8 +39,8 @@ fn lacks_answer(answers: bool, sent: u8) -> bool
     answers && send::lacks_numbers(sent, 1)
 }
 
-fn no_room(p: Parts) -> bool
-    ensures { result ≡ no_place_for p (said_kind p.message) }
+fn no_room(p: &Parts) -> bool
+    ensures { result ≡ no_place_for p.now (said_kind p.now.message) }
 {
     match p.message {
         Message::Request { entry, .. } => is_full_for(p.coordinator.queue, entry),
@@ -54,95 +54,102 @@ fn no_room(p: Parts) -> bool
     }
 }
 
-fn request(mut p: Parts, entry: Entry) -> Change
-    ensures { result ≡ done (coordinator_now p (with_queue p.coordinator (joining p.coordinator.queue entry))) }
+fn request(p: &Parts, entry: Entry) -> Change
+    ensures { result ≡ done (coordinator_now p.now (with_queue p.now.coordinator (joining p.now.coordinator.queue entry))) }
 {
-    p.coordinator.queue = queue::join(p.coordinator.queue, entry);
-    changes::without_messages(p, Ok(()))
+    let mut change = changes::without_messages(p, Ok(()));
+    change.parts.coordinator.queue = queue::join(p.coordinator.queue, entry);
+    change
 }
 
-fn prepare(mut p: Parts, inst: u8, ballot: u8, acceptor: u8) -> Change
-    ensures { result ≡ cond (promises p.slot ballot) (sending (slot_now p (promising p.slot ballot)) 1 (promise_from inst ballot acceptor p.slot.ballot p.slot.batch)) (done p) }
+fn prepare(p: &Parts, inst: u8, ballot: u8, acceptor: u8) -> Change
+    ensures { result ≡ cond (promises p.now.slot ballot) (sending (slot_now p.now (promising p.now.slot ballot)) 1 (promise_from inst ballot acceptor p.now.slot.ballot p.now.slot.batch)) (done p.now) }
 {
-    let before = p.slot;
-    if !world_acceptor::promises(before, ballot) {
+    if !world_acceptor::promises(p.slot, ballot) {
         return changes::without_messages(p, Ok(()));
     }
-    p.slot = world_acceptor::promising(before, ballot);
     let promise = Message::Promise {
         inst,
         ballot,
         acceptor,
-        accepted: before.ballot,
-        batch: before.batch,
+        accepted: p.slot.ballot,
+        batch: p.slot.batch,
     };
-    changes::sending(p, 1, promise)
+    let mut change = changes::sending(p, 1, promise);
+    change.parts.slot = world_acceptor::promising(p.slot, ballot);
+    change
 }
 
-fn accept(mut p: Parts, inst: u8, ballot: u8, acceptor: u8, batch: Batch) -> Change
-    ensures { result ≡ cond (accepts p.slot ballot) (sending (slot_now p (accepting ballot batch)) 1 (accepted_from inst ballot acceptor)) (done p) }
+fn accept(p: &Parts, inst: u8, ballot: u8, acceptor: u8, batch: Batch) -> Change
+    ensures { result ≡ cond (accepts p.now.slot ballot) (sending (slot_now p.now (accepting ballot batch)) 1 (accepted_from inst ballot acceptor)) (done p.now) }
 {
     if !world_acceptor::accepts(p.slot, ballot) {
         return changes::without_messages(p, Ok(()));
     }
-    p.slot = world_acceptor::accepting(ballot, batch);
     let accepted = Message::Accepted {
         inst,
         ballot,
         acceptor,
     };
-    changes::sending(p, 1, accepted)
+    let mut change = changes::sending(p, 1, accepted);
+    change.parts.slot = world_acceptor::accepting(ballot, batch);
+    change
 }
 
 // Whether a promise or an acceptance is one that the coordinator counts.
-fn is_heard(c: Coordinator, inst: u8, ballot: u8, acceptor: u8) -> bool
-    ensures { result ≡ is_heard c inst ballot acceptor }
+fn is_heard(c: &Coordinator, inst: u8, ballot: u8, acceptor: u8) -> bool
+    ensures { result ≡ is_heard c.now inst ballot acceptor }
 {
-    round::is_current(c, inst, ballot) && acceptor < MOST_ACCEPTORS
+    round::is_current(*c, inst, ballot) && acceptor < MOST_ACCEPTORS
 }
 
-fn promise(mut p: Parts, inst: u8, ballot: u8, acceptor: u8, accepted: u8, batch: Batch) -> Change
-    ensures { result ≡ cond (is_heard p.coordinator inst ballot acceptor) (done (coordinator_now p (with_round p.coordinator (promise_heard p.coordinator.round acceptor accepted batch)))) (done p) }
+fn promise(p: &Parts, inst: u8, ballot: u8, acceptor: u8, accepted: u8, batch: Batch) -> Change
+    ensures { result ≡ cond (is_heard p.now.coordinator inst ballot acceptor) (done (coordinator_now p.now (with_round p.now.coordinator (promise_heard p.now.coordinator.round acceptor accepted batch)))) (done p.now) }
 {
-    let c = p.coordinator;
-    if !is_heard(c, inst, ballot, acceptor) {
+    if !is_heard(&p.coordinator, inst, ballot, acceptor) {
         return changes::without_messages(p, Ok(()));
     }
-    p.coordinator.round = round::promise_heard(c.round, acceptor, accepted, batch);
-    changes::without_messages(p, Ok(()))
+    let mut change = changes::without_messages(p, Ok(()));
+    change.parts.coordinator.round =
+        round::promise_heard(p.coordinator.round, acceptor, accepted, batch);
+    change
 }
 
-fn accepted(mut p: Parts, inst: u8, ballot: u8, acceptor: u8) -> Change
-    ensures { result ≡ cond (is_heard p.coordinator inst ballot acceptor) (cond (majority p.acceptors (counting p.coordinator.round acceptor).acceptances) (learns (coordinator_now p (learning p.coordinator)) (proposal_of p.coordinator.round)) (done (coordinator_now p (with_round p.coordinator (counting p.coordinator.round acceptor))))) (done p) }
+fn accepted(p: &Parts, inst: u8, ballot: u8, acceptor: u8) -> Change
+    ensures { result ≡ cond (is_heard p.now.coordinator inst ballot acceptor) (cond (majority p.now.acceptors (counting p.now.coordinator.round acceptor).acceptances) (learns (coordinator_now p.now (learning p.now.coordinator)) (proposal_of p.now.coordinator.round)) (done (coordinator_now p.now (with_round p.now.coordinator (counting p.now.coordinator.round acceptor))))) (done p.now) }
 {
-    let c = p.coordinator;
-    if !is_heard(c, inst, ballot, acceptor) {
+    if !is_heard(&p.coordinator, inst, ballot, acceptor) {
         return changes::without_messages(p, Ok(()));
     }
-    let counted = round::counting(c.round, acceptor);
+    let counted = round::counting(p.coordinator.round, acceptor);
     if !round::is_majority(p.acceptors, counted.acceptances) {
-        p.coordinator.round = counted;
-        return changes::without_messages(p, Ok(()));
+        let mut change = changes::without_messages(p, Ok(()));
+        change.parts.coordinator.round = counted;
+        return change;
     }
-    p.coordinator = learn::learning(c);
-    changes::learns(p, c.round.proposal.unwrap_or(no_batch()))
+    let learned = p.coordinator.round.proposal.unwrap_or(no_batch());
+    let mut change = changes::learns(p, learned);
+    change.parts.coordinator = learn::learning(p.coordinator);
+    change
 }
 
-fn tell(mut p: Parts, tx: u8, outcome: Outcome) -> Change
-    ensures { result ≡ done (process_now p (hearing_outcome p.process tx outcome)) }
+fn tell(p: &Parts, tx: u8, outcome: Outcome) -> Change
+    ensures { result ≡ done (process_now p.now (hearing_outcome p.now.process tx outcome)) }
 {
-    p.process = world_process::hearing(p.process, tx, outcome);
-    changes::without_messages(p, Ok(()))
+    let mut change = changes::without_messages(p, Ok(()));
+    change.parts.process = world_process::hearing(p.process, tx, outcome);
+    change
 }
 
-fn restore(mut p: Parts, turn: u8, store: u8, position: u8, running: u32) -> Change
-    ensures { result ≡ cond (takes_restore p.process turn position) (takes_replay (process_now p (taking p.process store position running))) (done p) }
+fn restore(p: &Parts, turn: u8, store: u8, position: u8, running: u32) -> Change
+    ensures { result ≡ cond (takes_restore p.now.process turn position) (takes_replay (process_now p.now (taking p.now.process store position running))) (done p.now) }
 {
     if !world_process::takes_restore(p.process, turn, position) {
         return changes::without_messages(p, Ok(()));
     }
-    p.process = world_process::taking(p.process, store, position, running);
-    changes::takes_replay(p)
+    let mut change = changes::takes_replay(p);
+    change.parts.process = world_process::taking(p.process, store, position, running);
+    change
 }
 
 // The process took a follow of the transaction.
@@ -154,20 +161,32 @@ fn following(mut h: Process, tx: u8) -> Process
     h
 }
 
-fn follow(mut p: Parts, store: u8, tx: u8) -> Change
-    ensures { result ≡ cond (takes_follow p.process store tx) (keeps_follow (process_now p (following p.process tx))) (done p) }
+// The same, if it takes the follow. Of a process that is handed over by value, and not lent, it is
+// known that its sets have a bit for each transaction and no more.
+fn followed(h: Process, store: u8, tx: u8) -> Process
+    ensures { takes_follow h store tx ≡ true → result ≡ following h tx }
+{
+    if world_process::takes_follow(h, store, tx) {
+        return following(h, tx);
+    }
+    h
+}
+
+fn follow(p: &Parts, store: u8, tx: u8) -> Change
+    ensures { result ≡ cond (takes_follow p.now.process store tx) (keeps_follow (process_now p.now (following p.now.process tx))) (done p.now) }
 {
     if !world_process::takes_follow(p.process, store, tx) {
         return changes::without_messages(p, Ok(()));
     }
-    p.process = following(p.process, tx);
-    changes::keeps_follow(p)
+    let mut change = changes::keeps_follow(p);
+    change.parts.process = followed(p.process, store, tx);
+    change
 }
 
 // The message is handed to its receiver.
 #[tactic(auto, unfolding(model_protocol::specs::Deliver::delivery_change))]
-fn hand(p: Parts) -> Change
-    ensures { result ≡ delivery_change p (said_kind p.message) }
+fn hand(p: &Parts) -> Change
+    ensures { result ≡ delivery_change p.now (said_kind p.now.message) }
 {
     match p.message {
         Message::Request { entry, .. } => request(p, entry),
@@ -207,8 +226,8 @@ fn hand(p: Parts) -> Change
 }
 
 #[tactic(auto, unfolding(world_parts::specs::Plan::plan_of, model_protocol::specs::Step::step_checks, model_protocol::specs::Step::change_of, log_entry::specs::Refusal::first_refusal))]
-pub fn deliver(p: Parts, msg: u8) -> Change
-    ensures { result ≡ plan_of p (Deliver msg) }
+pub fn deliver(p: &Parts, msg: u8) -> Change
+    ensures { result ≡ plan_of p.now (Deliver msg) }
 {
     let down = parties::receiver_down(p.down, p.message);
     let answer = refusal::first_of(Tests {

@@ -22,9 +22,9 @@ fn carry_out(w: &mut World, o: Command) -> Answer
     let at = place::places(s, delivered);
     let message = store::message_of(w, s, delivered, at);
     let parts = store::parts_at(w, at, message);
-    let change = plan::change(s, parts);
-    store::put_back(w, at, from, change);
-    send::send(w, change.count, change.message);
+    let change = plan::change(s, &parts);
+    store::put_back(w, at, from, &change);
+    send::send(w, change.count, &change.message);
     change.answer
 }
 

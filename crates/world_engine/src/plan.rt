@@ -10,8 +10,8 @@ use model_steps::{Step, limits};
 use world_parts::changes;
 
 // What a step does, its numbers being within their limits.
-fn plan(p: Parts, s: Step) -> Change
-    ensures { result ≡ plan_of p s }
+fn plan(p: &Parts, s: Step) -> Change
+    ensures { result ≡ plan_of p.now s }
 {
     match s {
         Step::Setup { acceptors } => world_requests::setup(p, acceptors),
@@ -47,8 +47,8 @@ fn counted(acceptors: u8) -> u8
 
 // The same, whatever its numbers.
 #[tactic(auto, unfolding(crate::specs::Changed::change_in, model_protocol::specs::Step::step_refusal, log_entry::specs::Refusal::first_refusal, world_parts::specs::Plan::plan_of))]
-pub fn change(s: Step, p: Parts) -> Change
-    ensures { result ≡ change_in s p }
+pub fn change(s: Step, p: &Parts) -> Change
+    ensures { result ≡ change_in s p.now }
 {
     if limits::outside(counted(p.acceptors), s) {
         return changes::without_messages(p, Err(Refusal::OutsideLimits));

@@ -31,14 +31,15 @@ use world_parts::refusal::Tests;
 use world_parts::{changes, refusal};
 
 #[tactic(auto, unfolding(world_parts::specs::Plan::plan_of, model_protocol::specs::Step::step_checks, model_protocol::specs::Step::change_of, log_entry::specs::Refusal::first_refusal))]
-pub fn setup(mut p: Parts, n: u8) -> Change
-    ensures { result ≡ plan_of p (Setup n) }
+pub fn setup(p: &Parts, n: u8) -> Change
+    ensures { result ≡ plan_of p.now (Setup n) }
 {
     if p.acceptors != 0 {
         return changes::without_messages(p, Err(Refusal::NotMet));
     }
-    p.acceptors = n;
-    changes::without_messages(p, Ok(()))
+    let mut change = changes::without_messages(p, Ok(()));
+    change.parts.acceptors = n;
+    change
 }
 
 // Whether the entry is a vote by a process that does not believe that it holds `by`.
@@ -86,10 +87,10 @@ fn request_refusal(p: &Parts, e: Entry, to: u8) -> Answer
 }
 
 #[tactic(auto, unfolding(world_parts::specs::Plan::plan_of, model_protocol::specs::Step::step_checks, model_protocol::specs::Step::change_of, log_entry::specs::Refusal::first_refusal))]
-pub fn request(p: Parts, e: Entry, to: u8) -> Change
-    ensures { result ≡ plan_of p (Request e to) }
+pub fn request(p: &Parts, e: Entry, to: u8) -> Change
+    ensures { result ≡ plan_of p.now (Request e to) }
 {
-    let answer = request_refusal(&p, e, to);
+    let answer = request_refusal(p, e, to);
     if answer.is_err() {
         return changes::without_messages(p, answer);
     }
@@ -131,10 +132,10 @@ fn of_no_store(m: Message) -> bool
 }
 
 // The message goes to the process, unless the step is refused.
-fn sends(p: Parts, coord: u8, process: u8, barred: bool) -> Change
-    ensures { result ≡ decided p (first_of (tests false (is_down p.down Coord coord || is_down p.down Proc process) (eqb p.acceptors 0 || barred) (lacks_numbers p.sent 1) false)) (sending p 1 p.message) }
+fn sends(p: &Parts, coord: u8, process: u8, barred: bool) -> Change
+    ensures { result ≡ decided p.now (first_of (tests false (is_down p.now.down Coord coord || is_down p.now.down Proc process) (eqb p.now.acceptors 0 || barred) (lacks_numbers p.now.sent 1) false)) (sending p.now 1 p.now.message) }
 {
-    let answer = refusal_to(&p, coord, process, barred);
+    let answer = refusal_to(p, coord, process, barred);
     if answer.is_err() {
         return changes::without_messages(p, answer);
     }
@@ -142,17 +143,17 @@ fn sends(p: Parts, coord: u8, process: u8, barred: bool) -> Change
 }
 
 #[tactic(auto, unfolding(world_parts::specs::Plan::plan_of, model_protocol::specs::Step::step_checks, model_protocol::specs::Step::change_of, log_entry::specs::Refusal::first_refusal))]
-pub fn tell(p: Parts, coord: u8, process: u8, tx: u8) -> Change
-    ensures { result ≡ plan_of p (Tell coord process tx) }
+pub fn tell(p: &Parts, coord: u8, process: u8, tx: u8) -> Change
+    ensures { result ≡ plan_of p.now (Tell coord process tx) }
 {
     sends(p, coord, process, undecided(p.message))
 }
 
 #[tactic(auto, unfolding(world_parts::specs::Plan::plan_of, model_protocol::specs::Step::step_checks, model_protocol::specs::Step::change_of, log_entry::specs::Refusal::first_refusal))]
-pub fn restore(p: Parts, coord: u8, process: u8) -> Change
-    ensures { result ≡ plan_of p (Restore coord process) }
+pub fn restore(p: &Parts, coord: u8, process: u8) -> Change
+    ensures { result ≡ plan_of p.now (Restore coord process) }
 {
-    let answer = refusal_to(&p, coord, process, of_no_store(p.message));
+    let answer = refusal_to(p, coord, process, of_no_store(p.message));
     if answer.is_err() {
         return changes::without_messages(p, answer);
     }
@@ -160,8 +161,8 @@ pub fn restore(p: Parts, coord: u8, process: u8) -> Change
 }
 
 #[tactic(auto, unfolding(world_parts::specs::Plan::plan_of, model_protocol::specs::Step::step_checks, model_protocol::specs::Step::change_of, log_entry::specs::Refusal::first_refusal))]
-pub fn follow(p: Parts, coord: u8, process: u8, tx: u8) -> Change
-    ensures { result ≡ plan_of p (Follow coord process tx) }
+pub fn follow(p: &Parts, coord: u8, process: u8, tx: u8) -> Change
+    ensures { result ≡ plan_of p.now (Follow coord process tx) }
 {
     sends(
         p,
@@ -254,8 +255,8 @@ pub fn said(s: Step, delivered: Message, log: Log, applied: u8) -> Message
 }
 
 #[tactic(auto, unfolding(world_parts::specs::Plan::plan_of, model_protocol::specs::Step::step_checks, model_protocol::specs::Step::change_of, log_entry::specs::Refusal::first_refusal))]
-pub fn crash(mut p: Parts, role: Role, id: u8) -> Change
-    ensures { result ≡ plan_of p (Crash role id) }
+pub fn crash(p: &Parts, role: Role, id: u8) -> Change
+    ensures { result ≡ plan_of p.now (Crash role id) }
 {
     let answer = refusal::first_of(Tests {
         unsent: false,
@@ -267,19 +268,21 @@ pub fn crash(mut p: Parts, role: Role, id: u8) -> Change
     if answer.is_err() {
         return changes::without_messages(p, answer);
     }
-    p.down = parties::crashed(p.down, role, id);
-    changes::without_messages(p, Ok(()))
+    let mut change = changes::without_messages(p, Ok(()));
+    change.parts.down = parties::crashed(p.down, role, id);
+    change
 }
 
 // Neither 3 nor 6 stops a process from coming back.
 #[tactic(auto, unfolding(world_parts::specs::Plan::plan_of, model_protocol::specs::Step::step_checks, model_protocol::specs::Step::change_of, log_entry::specs::Refusal::first_refusal))]
-pub fn back(mut p: Parts, process: u8, turn: u8) -> Change
-    ensures { result ≡ plan_of p (Back process turn) }
+pub fn back(p: &Parts, process: u8, turn: u8) -> Change
+    ensures { result ≡ plan_of p.now (Back process turn) }
 {
     if p.acceptors == 0 || turn <= p.process.turn {
         return changes::without_messages(p, Err(Refusal::NotMet));
     }
-    p.process = started_in(turn);
-    p.down = parties::up_again(p.down, process);
-    changes::starts_anew(p)
+    let mut change = changes::starts_anew(p);
+    change.parts.process = started_in(turn);
+    change.parts.down = parties::up_again(p.down, process);
+    change
 }
