@@ -43,22 +43,23 @@ fn refusal_to(p: &Parts, coord: u8, barred: bool) -> Answer
 }
 
 #[tactic(auto, unfolding(world_parts::specs::Plan::plan_of, model_protocol::specs::Step::step_checks, model_protocol::specs::Step::change_of, log_entry::specs::Refusal::first_refusal))]
-pub fn open(p: &Parts, coord: u8, inst: u8, ballot: u8) -> Change
-    ensures { result ≡ plan_of p.now (Open coord inst ballot) }
+pub fn open(change: &mut Change, coord: u8, inst: u8, ballot: u8)
+    ensures { change.new ≡ plan_of change.old.parts (Open coord inst ballot) }
 {
-    let barred = ballot_barred(p, coord, inst, ballot);
-    let answer = refusal_to(p, coord, barred);
+    let barred = ballot_barred(&change.parts, coord, inst, ballot);
+    let answer = refusal_to(&change.parts, coord, barred);
     if answer.is_err() {
-        return changes::without_messages(p, answer);
+        changes::without_messages(change, answer);
+        return;
     }
     let prepare = Message::Prepare {
         inst,
         ballot,
         acceptor: 0,
     };
-    let mut change = changes::sending(p, p.acceptors, prepare);
+    let all = change.parts.acceptors;
+    changes::sending(change, all, prepare);
     change.parts.coordinator.round = new_round(ballot);
-    change
 }
 
 // Whether the coordinator may not propose.
@@ -75,22 +76,23 @@ fn proposal_barred(p: &Parts, inst: u8, ballot: u8) -> bool
 }
 
 #[tactic(auto, unfolding(world_parts::specs::Plan::plan_of, model_protocol::specs::Step::step_checks, model_protocol::specs::Step::change_of, log_entry::specs::Refusal::first_refusal))]
-pub fn propose(p: &Parts, coord: u8, inst: u8, ballot: u8) -> Change
-    ensures { result ≡ plan_of p.now (Propose coord inst ballot) }
+pub fn propose(change: &mut Change, coord: u8, inst: u8, ballot: u8)
+    ensures { change.new ≡ plan_of change.old.parts (Propose coord inst ballot) }
 {
-    let barred = proposal_barred(p, inst, ballot);
-    let answer = refusal_to(p, coord, barred);
+    let barred = proposal_barred(&change.parts, inst, ballot);
+    let answer = refusal_to(&change.parts, coord, barred);
     if answer.is_err() {
-        return changes::without_messages(p, answer);
+        changes::without_messages(change, answer);
+        return;
     }
-    let batch = round::batch_to_propose(p.coordinator);
+    let batch = round::batch_to_propose(change.parts.coordinator);
     let accept = Message::Accept {
         inst,
         ballot,
         acceptor: 0,
         batch,
     };
-    let mut change = changes::sending(p, p.acceptors, accept);
-    change.parts.coordinator.round = round::proposing(p.coordinator.round, batch);
-    change
+    let all = change.parts.acceptors;
+    changes::sending(change, all, accept);
+    change.parts.coordinator.round = round::proposing(change.parts.coordinator.round, batch);
 }

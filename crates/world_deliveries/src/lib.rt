@@ -54,46 +54,45 @@ fn no_room(p: &Parts) -> bool
     }
 }
 
-fn request(p: &Parts, entry: Entry) -> Change
-    ensures { result ≡ done (coordinator_now p.now (with_queue p.now.coordinator (joining p.now.coordinator.queue entry))) }
+fn request(change: &mut Change, entry: Entry)
+    ensures { change.new ≡ done (coordinator_now change.old.parts (with_queue change.old.parts.coordinator (joining change.old.parts.coordinator.queue entry))) }
 {
-    let mut change = changes::without_messages(p, Ok(()));
-    change.parts.coordinator.queue = queue::join(p.coordinator.queue, entry);
-    change
+    changes::without_messages(change, Ok(()));
+    change.parts.coordinator.queue = queue::join(change.parts.coordinator.queue, entry);
 }
 
-fn prepare(p: &Parts, inst: u8, ballot: u8, acceptor: u8) -> Change
-    ensures { result ≡ cond (promises p.now.slot ballot) (sending (slot_now p.now (promising p.now.slot ballot)) 1 (promise_from inst ballot acceptor p.now.slot.ballot p.now.slot.batch)) (done p.now) }
+fn prepare(change: &mut Change, inst: u8, ballot: u8, acceptor: u8)
+    ensures { change.new ≡ cond (promises change.old.parts.slot ballot) (sending (slot_now change.old.parts (promising change.old.parts.slot ballot)) 1 (promise_from inst ballot acceptor change.old.parts.slot.ballot change.old.parts.slot.batch)) (done change.old.parts) }
 {
-    if !world_acceptor::promises(p.slot, ballot) {
-        return changes::without_messages(p, Ok(()));
+    if !world_acceptor::promises(change.parts.slot, ballot) {
+        changes::without_messages(change, Ok(()));
+        return;
     }
     let promise = Message::Promise {
         inst,
         ballot,
         acceptor,
-        accepted: p.slot.ballot,
-        batch: p.slot.batch,
+        accepted: change.parts.slot.ballot,
+        batch: change.parts.slot.batch,
     };
-    let mut change = changes::sending(p, 1, promise);
-    change.parts.slot = world_acceptor::promising(p.slot, ballot);
-    change
+    changes::sending(change, 1, promise);
+    change.parts.slot = world_acceptor::promising(change.parts.slot, ballot);
 }
 
-fn accept(p: &Parts, inst: u8, ballot: u8, acceptor: u8, batch: Batch) -> Change
-    ensures { result ≡ cond (accepts p.now.slot ballot) (sending (slot_now p.now (accepting ballot batch)) 1 (accepted_from inst ballot acceptor)) (done p.now) }
+fn accept(change: &mut Change, inst: u8, ballot: u8, acceptor: u8, batch: Batch)
+    ensures { change.new ≡ cond (accepts change.old.parts.slot ballot) (sending (slot_now change.old.parts (accepting ballot batch)) 1 (accepted_from inst ballot acceptor)) (done change.old.parts) }
 {
-    if !world_acceptor::accepts(p.slot, ballot) {
-        return changes::without_messages(p, Ok(()));
+    if !world_acceptor::accepts(change.parts.slot, ballot) {
+        changes::without_messages(change, Ok(()));
+        return;
     }
     let accepted = Message::Accepted {
         inst,
         ballot,
         acceptor,
     };
-    let mut change = changes::sending(p, 1, accepted);
+    changes::sending(change, 1, accepted);
     change.parts.slot = world_acceptor::accepting(ballot, batch);
-    change
 }
 
 // Whether a promise or an acceptance is one that the coordinator counts.
@@ -103,53 +102,52 @@ fn is_heard(c: &Coordinator, inst: u8, ballot: u8, acceptor: u8) -> bool
     round::is_current(*c, inst, ballot) && acceptor < MOST_ACCEPTORS
 }
 
-fn promise(p: &Parts, inst: u8, ballot: u8, acceptor: u8, accepted: u8, batch: Batch) -> Change
-    ensures { result ≡ cond (is_heard p.now.coordinator inst ballot acceptor) (done (coordinator_now p.now (with_round p.now.coordinator (promise_heard p.now.coordinator.round acceptor accepted batch)))) (done p.now) }
+fn promise(change: &mut Change, inst: u8, ballot: u8, acceptor: u8, accepted: u8, batch: Batch)
+    ensures { change.new ≡ cond (is_heard change.old.parts.coordinator inst ballot acceptor) (done (coordinator_now change.old.parts (with_round change.old.parts.coordinator (promise_heard change.old.parts.coordinator.round acceptor accepted batch)))) (done change.old.parts) }
 {
-    if !is_heard(&p.coordinator, inst, ballot, acceptor) {
-        return changes::without_messages(p, Ok(()));
+    if !is_heard(&change.parts.coordinator, inst, ballot, acceptor) {
+        changes::without_messages(change, Ok(()));
+        return;
     }
-    let mut change = changes::without_messages(p, Ok(()));
+    changes::without_messages(change, Ok(()));
     change.parts.coordinator.round =
-        round::promise_heard(p.coordinator.round, acceptor, accepted, batch);
-    change
+        round::promise_heard(change.parts.coordinator.round, acceptor, accepted, batch);
 }
 
-fn accepted(p: &Parts, inst: u8, ballot: u8, acceptor: u8) -> Change
-    ensures { result ≡ cond (is_heard p.now.coordinator inst ballot acceptor) (cond (majority p.now.acceptors (counting p.now.coordinator.round acceptor).acceptances) (learns (coordinator_now p.now (learning p.now.coordinator)) (proposal_of p.now.coordinator.round)) (done (coordinator_now p.now (with_round p.now.coordinator (counting p.now.coordinator.round acceptor))))) (done p.now) }
+fn accepted(change: &mut Change, inst: u8, ballot: u8, acceptor: u8)
+    ensures { change.new ≡ cond (is_heard change.old.parts.coordinator inst ballot acceptor) (cond (majority change.old.parts.acceptors (counting change.old.parts.coordinator.round acceptor).acceptances) (learns (coordinator_now change.old.parts (learning change.old.parts.coordinator)) (proposal_of change.old.parts.coordinator.round)) (done (coordinator_now change.old.parts (with_round change.old.parts.coordinator (counting change.old.parts.coordinator.round acceptor))))) (done change.old.parts) }
 {
-    if !is_heard(&p.coordinator, inst, ballot, acceptor) {
-        return changes::without_messages(p, Ok(()));
+    if !is_heard(&change.parts.coordinator, inst, ballot, acceptor) {
+        changes::without_messages(change, Ok(()));
+        return;
     }
-    let counted = round::counting(p.coordinator.round, acceptor);
-    if !round::is_majority(p.acceptors, counted.acceptances) {
-        let mut change = changes::without_messages(p, Ok(()));
+    let counted = round::counting(change.parts.coordinator.round, acceptor);
+    if !round::is_majority(change.parts.acceptors, counted.acceptances) {
+        changes::without_messages(change, Ok(()));
         change.parts.coordinator.round = counted;
-        return change;
+        return;
     }
-    let learned = p.coordinator.round.proposal.unwrap_or(no_batch());
-    let mut change = changes::learns(p, learned);
-    change.parts.coordinator = learn::learning(p.coordinator);
-    change
+    let learned = change.parts.coordinator.round.proposal.unwrap_or(no_batch());
+    changes::learns(change, learned);
+    change.parts.coordinator = learn::learning(change.parts.coordinator);
 }
 
-fn tell(p: &Parts, tx: u8, outcome: Outcome) -> Change
-    ensures { result ≡ done (process_now p.now (hearing_outcome p.now.process tx outcome)) }
+fn tell(change: &mut Change, tx: u8, outcome: Outcome)
+    ensures { change.new ≡ done (process_now change.old.parts (hearing_outcome change.old.parts.process tx outcome)) }
 {
-    let mut change = changes::without_messages(p, Ok(()));
-    change.parts.process = world_process::hearing(p.process, tx, outcome);
-    change
+    changes::without_messages(change, Ok(()));
+    change.parts.process = world_process::hearing(change.parts.process, tx, outcome);
 }
 
-fn restore(p: &Parts, turn: u8, store: u8, position: u8, running: u32) -> Change
-    ensures { result ≡ cond (takes_restore p.now.process turn position) (takes_replay (process_now p.now (taking p.now.process store position running))) (done p.now) }
+fn restore(change: &mut Change, turn: u8, store: u8, position: u8, running: u32)
+    ensures { change.new ≡ cond (takes_restore change.old.parts.process turn position) (takes_replay (process_now change.old.parts (taking change.old.parts.process store position running))) (done change.old.parts) }
 {
-    if !world_process::takes_restore(p.process, turn, position) {
-        return changes::without_messages(p, Ok(()));
+    if !world_process::takes_restore(change.parts.process, turn, position) {
+        changes::without_messages(change, Ok(()));
+        return;
     }
-    let mut change = changes::takes_replay(p);
-    change.parts.process = world_process::taking(p.process, store, position, running);
-    change
+    changes::takes_replay(change);
+    change.parts.process = world_process::taking(change.parts.process, store, position, running);
 }
 
 // The process took a follow of the transaction.
@@ -172,73 +170,74 @@ fn followed(h: Process, store: u8, tx: u8) -> Process
     h
 }
 
-fn follow(p: &Parts, store: u8, tx: u8) -> Change
-    ensures { result ≡ cond (takes_follow p.now.process store tx) (keeps_follow (process_now p.now (following p.now.process tx))) (done p.now) }
+fn follow(change: &mut Change, store: u8, tx: u8)
+    ensures { change.new ≡ cond (takes_follow change.old.parts.process store tx) (keeps_follow (process_now change.old.parts (following change.old.parts.process tx))) (done change.old.parts) }
 {
-    if !world_process::takes_follow(p.process, store, tx) {
-        return changes::without_messages(p, Ok(()));
+    if !world_process::takes_follow(change.parts.process, store, tx) {
+        changes::without_messages(change, Ok(()));
+        return;
     }
-    let mut change = changes::keeps_follow(p);
-    change.parts.process = followed(p.process, store, tx);
-    change
+    changes::keeps_follow(change);
+    change.parts.process = followed(change.parts.process, store, tx);
 }
 
 // The message is handed to its receiver.
 #[tactic(auto, unfolding(model_protocol::specs::Deliver::delivery_change))]
-fn hand(p: &Parts) -> Change
-    ensures { result ≡ delivery_change p.now (said_kind p.now.message) }
+fn hand(change: &mut Change)
+    ensures { change.new ≡ delivery_change change.old.parts (said_kind change.old.parts.message) }
 {
-    match p.message {
-        Message::Request { entry, .. } => request(p, entry),
+    match change.parts.message {
+        Message::Request { entry, .. } => request(change, entry),
         Message::Prepare {
             inst,
             ballot,
             acceptor,
-        } => prepare(p, inst, ballot, acceptor),
+        } => prepare(change, inst, ballot, acceptor),
         Message::Accept {
             inst,
             ballot,
             acceptor,
             batch,
-        } => accept(p, inst, ballot, acceptor, batch),
+        } => accept(change, inst, ballot, acceptor, batch),
         Message::Promise {
             inst,
             ballot,
             acceptor,
             accepted,
             batch,
-        } => promise(p, inst, ballot, acceptor, accepted, batch),
+        } => promise(change, inst, ballot, acceptor, accepted, batch),
         Message::Accepted {
             inst,
             ballot,
             acceptor,
-        } => accepted(p, inst, ballot, acceptor),
-        Message::Tell { tx, outcome, .. } => tell(p, tx, outcome),
+        } => accepted(change, inst, ballot, acceptor),
+        Message::Tell { tx, outcome, .. } => tell(change, tx, outcome),
         Message::Restore {
             turn,
             store,
             position,
             running,
             ..
-        } => restore(p, turn, store, position, running),
-        Message::Follow { store, tx, .. } => follow(p, store, tx),
+        } => restore(change, turn, store, position, running),
+        Message::Follow { store, tx, .. } => follow(change, store, tx),
     }
 }
 
 #[tactic(auto, unfolding(world_parts::specs::Plan::plan_of, model_protocol::specs::Step::step_checks, model_protocol::specs::Step::change_of, log_entry::specs::Refusal::first_refusal))]
-pub fn deliver(p: &Parts, msg: u8) -> Change
-    ensures { result ≡ plan_of p.now (Deliver msg) }
+pub fn deliver(change: &mut Change, msg: u8)
+    ensures { change.new ≡ plan_of change.old.parts (Deliver msg) }
 {
-    let down = parties::receiver_down(p.down, p.message);
+    let down = parties::receiver_down(change.parts.down, change.parts.message);
     let answer = refusal::first_of(Tests {
-        unsent: p.sent <= msg,
+        unsent: change.parts.sent <= msg,
         down: down,
-        unmet: p.acceptors == 0,
-        full: no_room(p),
+        unmet: change.parts.acceptors == 0,
+        full: no_room(&change.parts),
         ill: false,
     });
     if answer.is_err() {
-        return changes::without_messages(p, answer);
+        changes::without_messages(change, answer);
+        return;
     }
-    hand(p)
+    hand(change);
 }

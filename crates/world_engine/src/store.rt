@@ -32,20 +32,19 @@ pub(crate) fn message_of(w: &World, s: Step, delivered: Message, at: Places) -> 
     }
 }
 
+// The parts are put into the room that is lent for them.
 #[tactic(auto, using(log_votes::proofs::InList::in_list))]
-pub(crate) fn parts_at(w: &World, at: Places, message: Message) -> Parts
+pub(crate) fn take_parts(w: &World, at: Places, message: Message, parts: &mut Parts)
     requires { There at }
-    ensures { result ≡ parts_at w.now at message }
+    ensures { parts.new ≡ parts_at w.now at message }
 {
-    Parts {
-        acceptors: w.acceptors,
-        sent: w.sent,
-        down: w.down,
-        coordinator: w.coordinators[usize::from(at.coordinator)],
-        slot: w.slots[at.slot],
-        process: w.processes[usize::from(at.process)],
-        message,
-    }
+    parts.acceptors = w.acceptors;
+    parts.sent = w.sent;
+    parts.down = w.down;
+    parts.coordinator = w.coordinators[usize::from(at.coordinator)];
+    parts.slot = w.slots[at.slot];
+    parts.process = w.processes[usize::from(at.process)];
+    parts.message = message;
 }
 
 // The store that the message names; 0 if it names none.
