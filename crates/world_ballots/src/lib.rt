@@ -24,7 +24,7 @@ use world_parts::{changes, refusal};
 fn ballot_barred(p: &Parts, coord: u8, inst: u8, ballot: u8) -> bool
     ensures { result ≡ (eqb p.now.acceptors 0 || cannot_open p.now.coordinator coord inst ballot) }
 {
-    let c = p.coordinator;
+    let c = &p.coordinator;
     p.acceptors == 0 || inst != c.applied || owner(ballot) != coord || ballot <= c.round.ballot
 }
 
@@ -43,31 +43,30 @@ fn refusal_to(p: &Parts, coord: u8, barred: bool) -> Answer
 }
 
 #[tactic(auto, unfolding(world_parts::specs::Plan::plan_of, model_protocol::specs::Step::step_checks, model_protocol::specs::Step::change_of, log_entry::specs::Refusal::first_refusal))]
-pub fn open(mut p: Parts, coord: u8, inst: u8, ballot: u8) -> Change
-    ensures { result ≡ plan_of p (Open coord inst ballot) }
+pub fn open(change: &mut Change, coord: u8, inst: u8, ballot: u8)
+    ensures { change.new ≡ plan_of change.old.parts (Open coord inst ballot) }
 {
-    let barred = ballot_barred(&p, coord, inst, ballot);
-    let answer = refusal_to(&p, coord, barred);
+    let barred = ballot_barred(&change.parts, coord, inst, ballot);
+    let answer = refusal_to(&change.parts, coord, barred);
     if answer.is_err() {
-        return changes::without_messages(p, answer);
+        changes::without_messages(change, answer);
+        return;
     }
-    p.coordinator.round = new_round(ballot);
-    changes::sending(
-        p,
-        p.acceptors,
-        Message::Prepare {
-            inst,
-            ballot,
-            acceptor: 0,
-        },
-    )
+    let prepare = Message::Prepare {
+        inst,
+        ballot,
+        acceptor: 0,
+    };
+    let all = change.parts.acceptors;
+    changes::sending(change, all, prepare);
+    change.parts.coordinator.round = new_round(ballot);
 }
 
 // Whether the coordinator may not propose.
 fn proposal_barred(p: &Parts, inst: u8, ballot: u8) -> bool
     ensures { result ≡ (eqb p.now.acceptors 0 || cannot_propose p.now.acceptors p.now.coordinator inst ballot) }
 {
-    let c = p.coordinator;
+    let c = &p.coordinator;
     p.acceptors == 0
         || inst != c.applied
         || ballot != c.round.ballot
@@ -77,21 +76,23 @@ fn proposal_barred(p: &Parts, inst: u8, ballot: u8) -> bool
 }
 
 #[tactic(auto, unfolding(world_parts::specs::Plan::plan_of, model_protocol::specs::Step::step_checks, model_protocol::specs::Step::change_of, log_entry::specs::Refusal::first_refusal))]
-pub fn propose(mut p: Parts, coord: u8, inst: u8, ballot: u8) -> Change
-    ensures { result ≡ plan_of p (Propose coord inst ballot) }
+pub fn propose(change: &mut Change, coord: u8, inst: u8, ballot: u8)
+    ensures { change.new ≡ plan_of change.old.parts (Propose coord inst ballot) }
 {
-    let barred = proposal_barred(&p, inst, ballot);
-    let answer = refusal_to(&p, coord, barred);
+    let barred = proposal_barred(&change.parts, inst, ballot);
+    let answer = refusal_to(&change.parts, coord, barred);
     if answer.is_err() {
-        return changes::without_messages(p, answer);
+        changes::without_messages(change, answer);
+        return;
     }
-    let batch = round::batch_to_propose(p.coordinator);
-    p.coordinator.round = round::proposing(p.coordinator.round, batch);
+    let batch = round::batch_to_propose(change.parts.coordinator);
     let accept = Message::Accept {
         inst,
         ballot,
         acceptor: 0,
         batch,
     };
-    changes::sending(p, p.acceptors, accept)
+    let all = change.parts.acceptors;
+    changes::sending(change, all, accept);
+    change.parts.coordinator.round = round::proposing(change.parts.coordinator.round, batch);
 }

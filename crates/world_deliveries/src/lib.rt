@@ -1,7 +1,7 @@
 // The step deliver: what a message of each kind does to its receiver.
 #![tactic(auto)]
 
-ghost use Rattle.std.specs.Prelude.{cond, ◌&&◌, not, ◌≡◌, ◌<◌};
+ghost use Rattle.std.specs.Prelude.{cond, ◌&&◌, not, true, ◌≡◌, ◌<◌};
 ghost use Rattle.log_entry.specs.Limits.{transactions};
 ghost use Rattle.model_steps.specs.declared.Step.TheVariants.{Deliver};
 ghost use Rattle.model_paxos.specs.Majority.{majority};
@@ -39,8 +39,8 @@ fn lacks_answer(answers: bool, sent: u8) -> bool
     answers && send::lacks_numbers(sent, 1)
 }
 
-fn no_room(p: Parts) -> bool
-    ensures { result ≡ no_place_for p (said_kind p.message) }
+fn no_room(p: &Parts) -> bool
+    ensures { result ≡ no_place_for p.now (said_kind p.now.message) }
 {
     match p.message {
         Message::Request { entry, .. } => is_full_for(p.coordinator.queue, entry),
@@ -54,95 +54,100 @@ fn no_room(p: Parts) -> bool
     }
 }
 
-fn request(mut p: Parts, entry: Entry) -> Change
-    ensures { result ≡ done (coordinator_now p (with_queue p.coordinator (joining p.coordinator.queue entry))) }
+fn request(change: &mut Change, entry: Entry)
+    ensures { change.new ≡ done (coordinator_now change.old.parts (with_queue change.old.parts.coordinator (joining change.old.parts.coordinator.queue entry))) }
 {
-    p.coordinator.queue = queue::join(p.coordinator.queue, entry);
-    changes::without_messages(p, Ok(()))
+    changes::without_messages(change, Ok(()));
+    change.parts.coordinator.queue = queue::join(change.parts.coordinator.queue, entry);
 }
 
-fn prepare(mut p: Parts, inst: u8, ballot: u8, acceptor: u8) -> Change
-    ensures { result ≡ cond (promises p.slot ballot) (sending (slot_now p (promising p.slot ballot)) 1 (promise_from inst ballot acceptor p.slot.ballot p.slot.batch)) (done p) }
+fn prepare(change: &mut Change, inst: u8, ballot: u8, acceptor: u8)
+    ensures { change.new ≡ cond (promises change.old.parts.slot ballot) (sending (slot_now change.old.parts (promising change.old.parts.slot ballot)) 1 (promise_from inst ballot acceptor change.old.parts.slot.ballot change.old.parts.slot.batch)) (done change.old.parts) }
 {
-    let before = p.slot;
-    if !world_acceptor::promises(before, ballot) {
-        return changes::without_messages(p, Ok(()));
+    if !world_acceptor::promises(change.parts.slot, ballot) {
+        changes::without_messages(change, Ok(()));
+        return;
     }
-    p.slot = world_acceptor::promising(before, ballot);
     let promise = Message::Promise {
         inst,
         ballot,
         acceptor,
-        accepted: before.ballot,
-        batch: before.batch,
+        accepted: change.parts.slot.ballot,
+        batch: change.parts.slot.batch,
     };
-    changes::sending(p, 1, promise)
+    changes::sending(change, 1, promise);
+    change.parts.slot = world_acceptor::promising(change.parts.slot, ballot);
 }
 
-fn accept(mut p: Parts, inst: u8, ballot: u8, acceptor: u8, batch: Batch) -> Change
-    ensures { result ≡ cond (accepts p.slot ballot) (sending (slot_now p (accepting ballot batch)) 1 (accepted_from inst ballot acceptor)) (done p) }
+fn accept(change: &mut Change, inst: u8, ballot: u8, acceptor: u8, batch: Batch)
+    ensures { change.new ≡ cond (accepts change.old.parts.slot ballot) (sending (slot_now change.old.parts (accepting ballot batch)) 1 (accepted_from inst ballot acceptor)) (done change.old.parts) }
 {
-    if !world_acceptor::accepts(p.slot, ballot) {
-        return changes::without_messages(p, Ok(()));
+    if !world_acceptor::accepts(change.parts.slot, ballot) {
+        changes::without_messages(change, Ok(()));
+        return;
     }
-    p.slot = world_acceptor::accepting(ballot, batch);
     let accepted = Message::Accepted {
         inst,
         ballot,
         acceptor,
     };
-    changes::sending(p, 1, accepted)
+    changes::sending(change, 1, accepted);
+    change.parts.slot = world_acceptor::accepting(ballot, batch);
 }
 
 // Whether a promise or an acceptance is one that the coordinator counts.
-fn is_heard(c: Coordinator, inst: u8, ballot: u8, acceptor: u8) -> bool
-    ensures { result ≡ is_heard c inst ballot acceptor }
+fn is_heard(c: &Coordinator, inst: u8, ballot: u8, acceptor: u8) -> bool
+    ensures { result ≡ is_heard c.now inst ballot acceptor }
 {
-    round::is_current(c, inst, ballot) && acceptor < MOST_ACCEPTORS
+    round::is_current(*c, inst, ballot) && acceptor < MOST_ACCEPTORS
 }
 
-fn promise(mut p: Parts, inst: u8, ballot: u8, acceptor: u8, accepted: u8, batch: Batch) -> Change
-    ensures { result ≡ cond (is_heard p.coordinator inst ballot acceptor) (done (coordinator_now p (with_round p.coordinator (promise_heard p.coordinator.round acceptor accepted batch)))) (done p) }
+fn promise(change: &mut Change, inst: u8, ballot: u8, acceptor: u8, accepted: u8, batch: Batch)
+    ensures { change.new ≡ cond (is_heard change.old.parts.coordinator inst ballot acceptor) (done (coordinator_now change.old.parts (with_round change.old.parts.coordinator (promise_heard change.old.parts.coordinator.round acceptor accepted batch)))) (done change.old.parts) }
 {
-    let c = p.coordinator;
-    if !is_heard(c, inst, ballot, acceptor) {
-        return changes::without_messages(p, Ok(()));
+    if !is_heard(&change.parts.coordinator, inst, ballot, acceptor) {
+        changes::without_messages(change, Ok(()));
+        return;
     }
-    p.coordinator.round = round::promise_heard(c.round, acceptor, accepted, batch);
-    changes::without_messages(p, Ok(()))
+    changes::without_messages(change, Ok(()));
+    change.parts.coordinator.round =
+        round::promise_heard(change.parts.coordinator.round, acceptor, accepted, batch);
 }
 
-fn accepted(mut p: Parts, inst: u8, ballot: u8, acceptor: u8) -> Change
-    ensures { result ≡ cond (is_heard p.coordinator inst ballot acceptor) (cond (majority p.acceptors (counting p.coordinator.round acceptor).acceptances) (learns (coordinator_now p (learning p.coordinator)) (proposal_of p.coordinator.round)) (done (coordinator_now p (with_round p.coordinator (counting p.coordinator.round acceptor))))) (done p) }
+fn accepted(change: &mut Change, inst: u8, ballot: u8, acceptor: u8)
+    ensures { change.new ≡ cond (is_heard change.old.parts.coordinator inst ballot acceptor) (cond (majority change.old.parts.acceptors (counting change.old.parts.coordinator.round acceptor).acceptances) (learns (coordinator_now change.old.parts (learning change.old.parts.coordinator)) (proposal_of change.old.parts.coordinator.round)) (done (coordinator_now change.old.parts (with_round change.old.parts.coordinator (counting change.old.parts.coordinator.round acceptor))))) (done change.old.parts) }
 {
-    let c = p.coordinator;
-    if !is_heard(c, inst, ballot, acceptor) {
-        return changes::without_messages(p, Ok(()));
+    if !is_heard(&change.parts.coordinator, inst, ballot, acceptor) {
+        changes::without_messages(change, Ok(()));
+        return;
     }
-    let counted = round::counting(c.round, acceptor);
-    if !round::is_majority(p.acceptors, counted.acceptances) {
-        p.coordinator.round = counted;
-        return changes::without_messages(p, Ok(()));
+    let counted = round::counting(change.parts.coordinator.round, acceptor);
+    if !round::is_majority(change.parts.acceptors, counted.acceptances) {
+        changes::without_messages(change, Ok(()));
+        change.parts.coordinator.round = counted;
+        return;
     }
-    p.coordinator = learn::learning(c);
-    changes::learns(p, c.round.proposal.unwrap_or(no_batch()))
+    let learned = change.parts.coordinator.round.proposal.unwrap_or(no_batch());
+    changes::learns(change, learned);
+    change.parts.coordinator = learn::learning(change.parts.coordinator);
 }
 
-fn tell(mut p: Parts, tx: u8, outcome: Outcome) -> Change
-    ensures { result ≡ done (process_now p (hearing_outcome p.process tx outcome)) }
+fn tell(change: &mut Change, tx: u8, outcome: Outcome)
+    ensures { change.new ≡ done (process_now change.old.parts (hearing_outcome change.old.parts.process tx outcome)) }
 {
-    p.process = world_process::hearing(p.process, tx, outcome);
-    changes::without_messages(p, Ok(()))
+    changes::without_messages(change, Ok(()));
+    change.parts.process = world_process::hearing(change.parts.process, tx, outcome);
 }
 
-fn restore(mut p: Parts, turn: u8, store: u8, position: u8, running: u32) -> Change
-    ensures { result ≡ cond (takes_restore p.process turn position) (takes_replay (process_now p (taking p.process store position running))) (done p) }
+fn restore(change: &mut Change, turn: u8, store: u8, position: u8, running: u32)
+    ensures { change.new ≡ cond (takes_restore change.old.parts.process turn position) (takes_replay (process_now change.old.parts (taking change.old.parts.process store position running))) (done change.old.parts) }
 {
-    if !world_process::takes_restore(p.process, turn, position) {
-        return changes::without_messages(p, Ok(()));
+    if !world_process::takes_restore(change.parts.process, turn, position) {
+        changes::without_messages(change, Ok(()));
+        return;
     }
-    p.process = world_process::taking(p.process, store, position, running);
-    changes::takes_replay(p)
+    changes::takes_replay(change);
+    change.parts.process = world_process::taking(change.parts.process, store, position, running);
 }
 
 // The process took a follow of the transaction.
@@ -154,72 +159,85 @@ fn following(mut h: Process, tx: u8) -> Process
     h
 }
 
-fn follow(mut p: Parts, store: u8, tx: u8) -> Change
-    ensures { result ≡ cond (takes_follow p.process store tx) (keeps_follow (process_now p (following p.process tx))) (done p) }
+// The same, if it takes the follow. Of a process that is handed over by value, and not lent, it is
+// known that its sets have a bit for each transaction and no more.
+fn followed(h: Process, store: u8, tx: u8) -> Process
+    ensures { takes_follow h store tx ≡ true → result ≡ following h tx }
 {
-    if !world_process::takes_follow(p.process, store, tx) {
-        return changes::without_messages(p, Ok(()));
+    if world_process::takes_follow(h, store, tx) {
+        return following(h, tx);
     }
-    p.process = following(p.process, tx);
-    changes::keeps_follow(p)
+    h
+}
+
+fn follow(change: &mut Change, store: u8, tx: u8)
+    ensures { change.new ≡ cond (takes_follow change.old.parts.process store tx) (keeps_follow (process_now change.old.parts (following change.old.parts.process tx))) (done change.old.parts) }
+{
+    if !world_process::takes_follow(change.parts.process, store, tx) {
+        changes::without_messages(change, Ok(()));
+        return;
+    }
+    changes::keeps_follow(change);
+    change.parts.process = followed(change.parts.process, store, tx);
 }
 
 // The message is handed to its receiver.
 #[tactic(auto, unfolding(model_protocol::specs::Deliver::delivery_change))]
-fn hand(p: Parts) -> Change
-    ensures { result ≡ delivery_change p (said_kind p.message) }
+fn hand(change: &mut Change)
+    ensures { change.new ≡ delivery_change change.old.parts (said_kind change.old.parts.message) }
 {
-    match p.message {
-        Message::Request { entry, .. } => request(p, entry),
+    match change.parts.message {
+        Message::Request { entry, .. } => request(change, entry),
         Message::Prepare {
             inst,
             ballot,
             acceptor,
-        } => prepare(p, inst, ballot, acceptor),
+        } => prepare(change, inst, ballot, acceptor),
         Message::Accept {
             inst,
             ballot,
             acceptor,
             batch,
-        } => accept(p, inst, ballot, acceptor, batch),
+        } => accept(change, inst, ballot, acceptor, batch),
         Message::Promise {
             inst,
             ballot,
             acceptor,
             accepted,
             batch,
-        } => promise(p, inst, ballot, acceptor, accepted, batch),
+        } => promise(change, inst, ballot, acceptor, accepted, batch),
         Message::Accepted {
             inst,
             ballot,
             acceptor,
-        } => accepted(p, inst, ballot, acceptor),
-        Message::Tell { tx, outcome, .. } => tell(p, tx, outcome),
+        } => accepted(change, inst, ballot, acceptor),
+        Message::Tell { tx, outcome, .. } => tell(change, tx, outcome),
         Message::Restore {
             turn,
             store,
             position,
             running,
             ..
-        } => restore(p, turn, store, position, running),
-        Message::Follow { store, tx, .. } => follow(p, store, tx),
+        } => restore(change, turn, store, position, running),
+        Message::Follow { store, tx, .. } => follow(change, store, tx),
     }
 }
 
 #[tactic(auto, unfolding(world_parts::specs::Plan::plan_of, model_protocol::specs::Step::step_checks, model_protocol::specs::Step::change_of, log_entry::specs::Refusal::first_refusal))]
-pub fn deliver(p: Parts, msg: u8) -> Change
-    ensures { result ≡ plan_of p (Deliver msg) }
+pub fn deliver(change: &mut Change, msg: u8)
+    ensures { change.new ≡ plan_of change.old.parts (Deliver msg) }
 {
-    let down = parties::receiver_down(p.down, p.message);
+    let down = parties::receiver_down(change.parts.down, change.parts.message);
     let answer = refusal::first_of(Tests {
-        unsent: p.sent <= msg,
+        unsent: change.parts.sent <= msg,
         down: down,
-        unmet: p.acceptors == 0,
-        full: no_room(p),
+        unmet: change.parts.acceptors == 0,
+        full: no_room(&change.parts),
         ill: false,
     });
     if answer.is_err() {
-        return changes::without_messages(p, answer);
+        changes::without_messages(change, answer);
+        return;
     }
-    hand(p)
+    hand(change);
 }

@@ -50,17 +50,17 @@ fn addressed(m: Message, to: u8) -> Message
 
 // The i-th of the messages that go to all: the message itself, and then the same to acceptors 1, 2
 // and so on.
-fn copy_of(m: Message, i: u8) -> Message
-    ensures { result ≡ copy_of m i }
+fn copy_of(m: &Message, i: u8) -> Message
+    ensures { result ≡ copy_of m.now i }
 {
-    if i == 0 { m } else { addressed(m, i) }
+    if i == 0 { *m } else { addressed(*m, i) }
 }
 
 // So many messages go out.
 #[tactic(auto, using(crate::proofs::SendLaws::one_sent))]
-pub(crate) fn send(w: &mut World, count: u8, m: Message)
+pub(crate) fn send(w: &mut World, count: u8, m: &Message)
     requires { count ≤ messages - w.old.sent }
-    ensures { w.new ≡ send_to_all w.old count (copy_of m) }
+    ensures { w.new ≡ send_to_all w.old count (copy_of m.now) }
 {
     for i in 0..count {
         let n = w.sent;

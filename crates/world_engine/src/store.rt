@@ -32,44 +32,43 @@ pub(crate) fn message_of(w: &World, s: Step, delivered: Message, at: Places) -> 
     }
 }
 
+// The parts are put into the room that is lent for them.
 #[tactic(auto, using(log_votes::proofs::InList::in_list))]
-pub(crate) fn parts_at(w: &World, at: Places, message: Message) -> Parts
+pub(crate) fn take_parts(w: &World, at: Places, message: Message, parts: &mut Parts)
     requires { There at }
-    ensures { result ≡ parts_at w.now at message }
+    ensures { parts.new ≡ parts_at w.now at message }
 {
-    Parts {
-        acceptors: w.acceptors,
-        sent: w.sent,
-        down: w.down,
-        coordinator: w.coordinators[usize::from(at.coordinator)],
-        slot: w.slots[at.slot],
-        process: w.processes[usize::from(at.process)],
-        message,
-    }
+    parts.acceptors = w.acceptors;
+    parts.sent = w.sent;
+    parts.down = w.down;
+    parts.coordinator = w.coordinators[usize::from(at.coordinator)];
+    parts.slot = w.slots[at.slot];
+    parts.process = w.processes[usize::from(at.process)];
+    parts.message = message;
 }
 
 // The store that the message names; 0 if it names none.
-fn store_of(m: Message) -> u8
-    ensures { result ≡ said_store m }
+fn store_of(m: &Message) -> u8
+    ensures { result ≡ said_store m.now }
 {
     match m {
-        Message::Restore { store, .. } | Message::Follow { store, .. } => store,
+        Message::Restore { store, .. } | Message::Follow { store, .. } => *store,
         _ => 0,
     }
 }
 
 // What few steps do beside the parts is in functions of its own: the compiler clears the room of a
 // function whenever it is called, and most steps need no second log, replay or follows.
-fn learn_batch(log: &mut Log, batch: Batch)
-    ensures { log.new ≡ feed log.old (entries_of batch) }
+fn learn_batch(log: &mut Log, batch: &Batch)
+    ensures { log.new ≡ feed log.old (entries_of batch.now) }
 {
-    *log = learn::fed(*log, batch);
+    *log = learn::fed(*log, *batch);
 }
 
-fn keep_follow(follows: &mut Follows, m: Message)
-    ensures { follows.new ≡ with_follow follows.old m }
+fn keep_follow(follows: &mut Follows, m: &Message)
+    ensures { follows.new ≡ with_follow follows.old m.now }
 {
-    *follows = world_process::with_follow(*follows, m);
+    *follows = world_process::with_follow(*follows, *m);
 }
 
 fn start_anew(restored: &mut Replay, follows: &mut Follows)
@@ -82,11 +81,11 @@ fn start_anew(restored: &mut Replay, follows: &mut Follows)
 
 // The parts go to their places, and what the step does beside them is done. `from` is the number of
 // the message delivered.
-pub(crate) fn put_back(w: &mut World, at: Places, from: usize, change: Change)
+pub(crate) fn put_back(w: &mut World, at: Places, from: usize, change: &Change)
     requires there { There at }
     requires from_there { from < messages }
-    requires room { is_given change.beside ≡ true → w.old.sent < messages }
-    ensures { w.new ≡ put_back w.old at (replay_with w.old from) change }
+    requires room { is_given change.now.beside ≡ true → w.old.sent < messages }
+    ensures { w.new ≡ put_back w.old at (replay_with w.old from) change.now }
 {
     let c = usize::from(at.coordinator);
     let p = usize::from(at.process);
@@ -95,14 +94,14 @@ pub(crate) fn put_back(w: &mut World, at: Places, from: usize, change: Change)
     w.coordinators[c] = change.parts.coordinator;
     w.slots[at.slot] = change.parts.slot;
     w.processes[p] = change.parts.process;
-    match change.beside {
+    match &change.beside {
         Beside::Nothing => {}
         Beside::Learns(batch) => learn_batch(&mut w.logs[c], batch),
         Beside::GivesReplay => {
-            w.replays[usize::from(w.sent)] = w.logs[c].replay(store_of(change.message));
+            w.replays[usize::from(w.sent)] = w.logs[c].replay(store_of(&change.message));
         }
         Beside::TakesReplay => w.restored[p] = w.replays[from],
-        Beside::KeepsFollow => keep_follow(&mut w.follows[p], change.parts.message),
+        Beside::KeepsFollow => keep_follow(&mut w.follows[p], &change.parts.message),
         Beside::StartsAnew => start_anew(&mut w.restored[p], &mut w.follows[p]),
     }
 }

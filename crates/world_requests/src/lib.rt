@@ -31,14 +31,15 @@ use world_parts::refusal::Tests;
 use world_parts::{changes, refusal};
 
 #[tactic(auto, unfolding(world_parts::specs::Plan::plan_of, model_protocol::specs::Step::step_checks, model_protocol::specs::Step::change_of, log_entry::specs::Refusal::first_refusal))]
-pub fn setup(mut p: Parts, n: u8) -> Change
-    ensures { result ≡ plan_of p (Setup n) }
+pub fn setup(change: &mut Change, n: u8)
+    ensures { change.new ≡ plan_of change.old.parts (Setup n) }
 {
-    if p.acceptors != 0 {
-        return changes::without_messages(p, Err(Refusal::NotMet));
+    if change.parts.acceptors != 0 {
+        changes::without_messages(change, Err(Refusal::NotMet));
+        return;
     }
-    p.acceptors = n;
-    changes::without_messages(p, Ok(()))
+    changes::without_messages(change, Ok(()));
+    change.parts.acceptors = n;
 }
 
 // Whether the entry is a vote by a process that does not believe that it holds `by`.
@@ -86,14 +87,15 @@ fn request_refusal(p: &Parts, e: Entry, to: u8) -> Answer
 }
 
 #[tactic(auto, unfolding(world_parts::specs::Plan::plan_of, model_protocol::specs::Step::step_checks, model_protocol::specs::Step::change_of, log_entry::specs::Refusal::first_refusal))]
-pub fn request(p: Parts, e: Entry, to: u8) -> Change
-    ensures { result ≡ plan_of p (Request e to) }
+pub fn request(change: &mut Change, e: Entry, to: u8)
+    ensures { change.new ≡ plan_of change.old.parts (Request e to) }
 {
-    let answer = request_refusal(&p, e, to);
+    let answer = request_refusal(&change.parts, e, to);
     if answer.is_err() {
-        return changes::without_messages(p, answer);
+        changes::without_messages(change, answer);
+        return;
     }
-    changes::sending(p, 1, Message::Request { to, entry: e })
+    changes::sending(change, 1, Message::Request { to, entry: e });
 }
 
 // The answer to a coordinator that is to send the process a message. `barred`: 5 applies, setup or
@@ -131,44 +133,45 @@ fn of_no_store(m: Message) -> bool
 }
 
 // The message goes to the process, unless the step is refused.
-fn sends(p: Parts, coord: u8, process: u8, barred: bool) -> Change
-    ensures { result ≡ decided p (first_of (tests false (is_down p.down Coord coord || is_down p.down Proc process) (eqb p.acceptors 0 || barred) (lacks_numbers p.sent 1) false)) (sending p 1 p.message) }
+fn sends(change: &mut Change, coord: u8, process: u8, barred: bool)
+    ensures { change.new ≡ decided change.old.parts (first_of (tests false (is_down change.old.parts.down Coord coord || is_down change.old.parts.down Proc process) (eqb change.old.parts.acceptors 0 || barred) (lacks_numbers change.old.parts.sent 1) false)) (sending change.old.parts 1 change.old.parts.message) }
 {
-    let answer = refusal_to(&p, coord, process, barred);
+    let answer = refusal_to(&change.parts, coord, process, barred);
     if answer.is_err() {
-        return changes::without_messages(p, answer);
+        changes::without_messages(change, answer);
+        return;
     }
-    changes::sending(p, 1, p.message)
+    let m = change.parts.message;
+    changes::sending(change, 1, m);
 }
 
 #[tactic(auto, unfolding(world_parts::specs::Plan::plan_of, model_protocol::specs::Step::step_checks, model_protocol::specs::Step::change_of, log_entry::specs::Refusal::first_refusal))]
-pub fn tell(p: Parts, coord: u8, process: u8, tx: u8) -> Change
-    ensures { result ≡ plan_of p (Tell coord process tx) }
+pub fn tell(change: &mut Change, coord: u8, process: u8, tx: u8)
+    ensures { change.new ≡ plan_of change.old.parts (Tell coord process tx) }
 {
-    sends(p, coord, process, undecided(p.message))
+    let barred = undecided(change.parts.message);
+    sends(change, coord, process, barred);
 }
 
 #[tactic(auto, unfolding(world_parts::specs::Plan::plan_of, model_protocol::specs::Step::step_checks, model_protocol::specs::Step::change_of, log_entry::specs::Refusal::first_refusal))]
-pub fn restore(p: Parts, coord: u8, process: u8) -> Change
-    ensures { result ≡ plan_of p (Restore coord process) }
+pub fn restore(change: &mut Change, coord: u8, process: u8)
+    ensures { change.new ≡ plan_of change.old.parts (Restore coord process) }
 {
-    let answer = refusal_to(&p, coord, process, of_no_store(p.message));
+    let answer = refusal_to(&change.parts, coord, process, of_no_store(change.parts.message));
     if answer.is_err() {
-        return changes::without_messages(p, answer);
+        changes::without_messages(change, answer);
+        return;
     }
-    changes::gives_replay(p, p.message)
+    let m = change.parts.message;
+    changes::gives_replay(change, m);
 }
 
 #[tactic(auto, unfolding(world_parts::specs::Plan::plan_of, model_protocol::specs::Step::step_checks, model_protocol::specs::Step::change_of, log_entry::specs::Refusal::first_refusal))]
-pub fn follow(p: Parts, coord: u8, process: u8, tx: u8) -> Change
-    ensures { result ≡ plan_of p (Follow coord process tx) }
+pub fn follow(change: &mut Change, coord: u8, process: u8, tx: u8)
+    ensures { change.new ≡ plan_of change.old.parts (Follow coord process tx) }
 {
-    sends(
-        p,
-        coord,
-        process,
-        undecided(p.message) | of_no_store(p.message),
-    )
+    let barred = undecided(change.parts.message) | of_no_store(change.parts.message);
+    sends(change, coord, process, barred);
 }
 
 // The store that the process holds.
@@ -254,32 +257,34 @@ pub fn said(s: Step, delivered: Message, log: Log, applied: u8) -> Message
 }
 
 #[tactic(auto, unfolding(world_parts::specs::Plan::plan_of, model_protocol::specs::Step::step_checks, model_protocol::specs::Step::change_of, log_entry::specs::Refusal::first_refusal))]
-pub fn crash(mut p: Parts, role: Role, id: u8) -> Change
-    ensures { result ≡ plan_of p (Crash role id) }
+pub fn crash(change: &mut Change, role: Role, id: u8)
+    ensures { change.new ≡ plan_of change.old.parts (Crash role id) }
 {
     let answer = refusal::first_of(Tests {
         unsent: false,
-        down: parties::is_down(p.down, role, id),
-        unmet: p.acceptors == 0,
+        down: parties::is_down(change.parts.down, role, id),
+        unmet: change.parts.acceptors == 0,
         full: false,
         ill: false,
     });
     if answer.is_err() {
-        return changes::without_messages(p, answer);
+        changes::without_messages(change, answer);
+        return;
     }
-    p.down = parties::crashed(p.down, role, id);
-    changes::without_messages(p, Ok(()))
+    changes::without_messages(change, Ok(()));
+    change.parts.down = parties::crashed(change.parts.down, role, id);
 }
 
 // Neither 3 nor 6 stops a process from coming back.
 #[tactic(auto, unfolding(world_parts::specs::Plan::plan_of, model_protocol::specs::Step::step_checks, model_protocol::specs::Step::change_of, log_entry::specs::Refusal::first_refusal))]
-pub fn back(mut p: Parts, process: u8, turn: u8) -> Change
-    ensures { result ≡ plan_of p (Back process turn) }
+pub fn back(change: &mut Change, process: u8, turn: u8)
+    ensures { change.new ≡ plan_of change.old.parts (Back process turn) }
 {
-    if p.acceptors == 0 || turn <= p.process.turn {
-        return changes::without_messages(p, Err(Refusal::NotMet));
+    if change.parts.acceptors == 0 || turn <= change.parts.process.turn {
+        changes::without_messages(change, Err(Refusal::NotMet));
+        return;
     }
-    p.process = started_in(turn);
-    p.down = parties::up_again(p.down, process);
-    changes::starts_anew(p)
+    changes::starts_anew(change);
+    change.parts.process = started_in(turn);
+    change.parts.down = parties::up_again(change.parts.down, process);
 }
