@@ -110,8 +110,12 @@ fn promise(change: &mut Change, inst: u8, ballot: u8, acceptor: u8, accepted: u8
         return;
     }
     changes::without_messages(change, Ok(()));
-    change.parts.coordinator.round =
-        round::promise_heard(change.parts.coordinator.round, acceptor, accepted, batch);
+    change.parts.coordinator.round = round::promise_heard(
+        change.parts.coordinator.round,
+        acceptor,
+        accepted,
+        batch,
+    );
 }
 
 fn accepted(change: &mut Change, inst: u8, ballot: u8, acceptor: u8)
@@ -127,8 +131,8 @@ fn accepted(change: &mut Change, inst: u8, ballot: u8, acceptor: u8)
         change.parts.coordinator.round = counted;
         return;
     }
-    let learned = change.parts.coordinator.round.proposal.unwrap_or(no_batch());
-    changes::learns(change, learned);
+    let proposal = change.parts.coordinator.round.proposal;
+    changes::learns(change, proposal.unwrap_or(no_batch()));
     change.parts.coordinator = learn::learning(change.parts.coordinator);
 }
 

@@ -157,7 +157,12 @@ pub fn tell(change: &mut Change, coord: u8, process: u8, tx: u8)
 pub fn restore(change: &mut Change, coord: u8, process: u8)
     ensures { change.new ≡ plan_of change.old.parts (Restore coord process) }
 {
-    let answer = refusal_to(&change.parts, coord, process, of_no_store(change.parts.message));
+    let answer = refusal_to(
+        &change.parts,
+        coord,
+        process,
+        of_no_store(change.parts.message),
+    );
     if answer.is_err() {
         changes::without_messages(change, answer);
         return;
