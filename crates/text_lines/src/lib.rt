@@ -10,6 +10,9 @@ ghost use Rattle.text_lines.specs.declared.Line.{Line};
 // A line holds at most this many bytes without its LF.
 pub const MAX_LINE_BYTES: u8 = 100;
 
+// The length of a line that is too long, whatever it has.
+const TOO_LONG: u8 = MAX_LINE_BYTES + 1;
+
 // A program reads at most this many lines.
 pub const MAX_LINES: u16 = 1000;
 
@@ -36,7 +39,8 @@ impl Line {
         }
     }
 
-    // Adds a byte. A line that is too long is only counted as such.
+    // Adds a byte. A line that is too long is only counted as such, and once: of a line that goes on
+    // and on no byte waits for the one before it.
     #[tactic(auto, unfolding(crate::specs::Line::with))]
     pub fn push(&mut self, byte: u8)
         ensures { self.new ≡ with self.old byte }
@@ -44,8 +48,8 @@ impl Line {
         if self.length < MAX_LINE_BYTES {
             self.bytes[usize::from(self.length)] = byte;
             self.length += 1;
-        } else {
-            self.length = MAX_LINE_BYTES + 1;
+        } else if self.length != TOO_LONG {
+            self.length = TOO_LONG;
         }
     }
 
