@@ -1,3 +1,4 @@
 pub mod Exchange
+pub mod Files
 pub mod Reading
 pub mod Writing

@@ -1,4 +1,7 @@
 // The files that the arguments of a program name.
+ghost use Rattle.std.specs.Prelude.{◌≡◌, ◌<◌, Ok};
+ghost use Rattle.text_io.specs.declared.files.Argument.TheVariants.{Nothing};
+ghost use Rattle.text_io.specs.Files.{max_files};
 
 use std::env::{Env, FillError};
 use std::fs::File;
@@ -9,7 +12,7 @@ use std::io::{ErrorKind, Write};
 const NAME_BYTES: usize = 4096;
 
 // Arguments behind these are not read.
-const MAX_FILES: usize = 999;
+pub const MAX_FILES: usize = 999;
 
 fn open(rt: &HostRuntime, name: &[u8]) -> io::Result<File> {
     match str::from_utf8(name) {
@@ -48,4 +51,45 @@ pub fn each<F: OnFile>(rt: &HostRuntime) -> io::Result<()> {
         }
     }
     Ok(())
+}
+
+// What an argument gives.
+#[derive(Drop)]
+pub enum Argument {
+    // There is no such argument, or it stands behind the last that is read.
+    Nothing,
+    // Its file could not be opened, and that was said to the errors.
+    Unopened,
+    Opened(File),
+}
+
+// Prints the name, and opens its file.
+fn opened(rt: &HostRuntime, name: &[u8]) -> io::Result<Argument> {
+    rt.stdout().write_all(name)?;
+    rt.stdout().write_all(b"\n")?;
+    match open(rt, name) {
+        Ok(file) => Ok(Argument::Opened(file)),
+        Err(e) => {
+            rt.stderr().write_all(name)?;
+            eprintln!(rt; ": {e}")?;
+            Ok(Argument::Unopened)
+        }
+    }
+}
+
+// The same for the name that argument i gives, the program's own being argument 0: a step of `each`,
+// for a caller that runs a closure on the file, or whatever else it likes. It fails where the name
+// cannot be printed, or the error.
+pub fn named(rt: &HostRuntime, i: usize) -> io::Result<Argument>
+    ensures { max_files < i → result ≡ Ok Nothing }
+{
+    if i > MAX_FILES {
+        return Ok(Argument::Nothing);
+    }
+    let mut name = [0; NAME_BYTES];
+    match rt.arg(i, &mut name) {
+        Ok(n) => opened(rt, &name[..n]),
+        Err(FillError::TooLong) => opened(rt, b""),
+        Err(FillError::NotPresent) => Ok(Argument::Nothing),
+    }
 }
