@@ -1,5 +1,5 @@
 // Runs a closure on each file that an argument names, in order: it prints how many bytes the file's
-// first piece has, and a value that the closure keeps, how many files are named.
+// first piece has, and a value that the closure keeps, how many arguments are read.
 #![tactic(auto)]
 
 use std::env::{Env, FillError};
@@ -10,7 +10,7 @@ use text_io::files::{self, Argument, MAX_FILES};
 const PIECE_BYTES: usize = 64;
 
 // How many arguments are read.
-fn count(rt: &HostRuntime) -> usize {
+fn arguments(rt: &HostRuntime) -> usize {
     let mut none = [0; 0];
     for i in 1..=MAX_FILES {
         if let Err(FillError::NotPresent) = rt.arg(i, &mut none) {
@@ -20,6 +20,7 @@ fn count(rt: &HostRuntime) -> usize {
     MAX_FILES
 }
 
+// A closure is run on each file, and its name is printed before.
 fn each<F: Fn(&HostRuntime, &mut File) -> io::Result<()>>(
     rt: &HostRuntime,
     run: F,
@@ -37,10 +38,10 @@ fn each<F: Fn(&HostRuntime, &mut File) -> io::Result<()>>(
 }
 
 fn main(rt: HostRuntime) -> io::Result<()> {
-    let named = count(&rt);
+    let count = arguments(&rt);
     each(&rt, |rt, file| {
         let mut piece = [0; PIECE_BYTES];
         let got = text_io::read_piece(file, &mut piece);
-        println!(rt; "{got} bytes, {named} files named")
+        println!(rt; "{got} bytes, {count} arguments")
     })
 }

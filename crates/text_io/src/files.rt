@@ -77,9 +77,9 @@ fn opened(rt: &HostRuntime, name: &[u8]) -> io::Result<Argument> {
     }
 }
 
-// The same for the name that argument i gives, the program's own being argument 0: a step of `each`,
-// for a caller that runs a closure on the file, or whatever else it likes. It fails where the name
-// cannot be printed, or the error.
+// The same for the name that argument i gives, the program's own being argument 0. `each` does so
+// with one argument after the other; here a caller does with the file what it likes, and may run a
+// closure on it. It fails where the name cannot be printed, or the error.
 pub fn named(rt: &HostRuntime, i: usize) -> io::Result<Argument>
     ensures { max_files < i → result ≡ Ok Nothing }
 {
