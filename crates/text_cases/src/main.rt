@@ -7,6 +7,7 @@ use std::fs::File;
 use std::io;
 use text_io::files::{self, Argument, MAX_FILES};
 
+// The first piece of a file has at most this many bytes.
 const PIECE_BYTES: usize = 64;
 
 // How many arguments are read.

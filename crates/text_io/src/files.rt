@@ -77,9 +77,10 @@ fn opened(rt: &HostRuntime, name: &[u8]) -> io::Result<Argument> {
     }
 }
 
-// The same for the name that argument i gives, the program's own being argument 0. `each` does so
-// with one argument after the other; here a caller does with the file what it likes, and may run a
-// closure on it. It fails where the name cannot be printed, or the error.
+// Prints the name that argument i gives, and opens its file: 1 is the first argument, and those
+// behind the last that is read give nothing. A file that cannot be opened is said to the errors.
+// `each` does so with one argument after the other. Here a caller does with the file what it likes,
+// and may run a closure on it. It fails where the name or the error cannot be printed.
 pub fn named(rt: &HostRuntime, i: usize) -> io::Result<Argument>
     ensures { max_files < i → result ≡ Ok Nothing }
 {
